@@ -16,7 +16,9 @@ use Rattle.wb_meta.specs.declared.read_steps.ReadSteps.TheVariants.{Begun, First
 use Rattle.wb_tasks.specs.declared.step.Got.TheVariants.{More}
 use Rattle.wb_meta.specs.declared.read_steps.ReadSteps.{ReadSteps}
 use Rattle.wb_devices.specs.declared.running.RunningCommit.{RunningCommit}
-use Rattle.wb_devices.specs.Opened.{DidTell, HasCome, HasGeneration, ReadsOf, got_of_refusal}
+use Rattle.wb_devices.specs.Opened.{HasGeneration, ReadsOf, got_of_refusal}
+use Rattle.wb_devices.specs.Clean.{DidTell, HasComeIn}
+use Rattle.wb_types.specs.declared.mode.Mode.{Mode}
 
 pub fits_reading : (refusal : Refusal) (left : ℕ) → IsOfReading refusal → Fits (Device (ReadMetadata left)) (got_of_refusal refusal)
 fits_reading (Io Metadata) left h = tt
@@ -47,8 +49,8 @@ not_done (FirstSlotRead alloc global first) none done = done
 not_done (RootFound global root loader) none done = done
 not_done (AllRead state) none done = cc
 
-pub did_tell : {A : Type 0} (geometry : Geometry) (sectors left : ℕ) (was now : ReadSteps A) (device : List History) (commit commit' : Option RunningCommit) (got : Got) (after : Option (ReadSteps A)) → ReadingGoesOn was device now → AreStepsOn sectors now → HasCome geometry left now commit got after commit' → ReadOneMore was now → (HasGeneration commit → HasGeneration commit') → (got ≡ More → ¬ IsDone now) → DidTell geometry sectors left was device commit got after commit'
-did_tell geometry sectors left was now device commit commit' got after goes on come one spells more = inl (now, goes, on, come, one, spells, more)
+pub did_tell : {A : Type 0} (mode : Mode) (geometry : Geometry) (sectors left : ℕ) (was now : ReadSteps A) (device : List History) (commit commit' : Option RunningCommit) (got : Got) (after : Option (ReadSteps A)) → ReadingGoesOn was device now → AreStepsOn sectors now → HasComeIn mode geometry left now commit got after commit' → ReadOneMore was now → (HasGeneration commit → HasGeneration commit') → (got ≡ More → ¬ IsDone now) → DidTell mode geometry sectors left was device commit got after commit'
+did_tell mode geometry sectors left was now device commit commit' got after goes on come one spells more = inl (now, goes, on, come, one, spells, more)
 
 -- what stops a reading on a device that cannot fail is no fault
 pub never_counts : (refusal : Refusal) (May : Type 0) → FailsIf refusal May → (May → ⊥) → (faults : ℕ) → CountsFault refusal faults faults
@@ -59,5 +61,5 @@ never_counts Mismatch May may never faults = refl
 never_counts (Damaged place) May may never faults = refl
 never_counts refusal May may never faults = refl
 
-pub never_stops : {A : Type 0} (geometry : Geometry) (sectors left : ℕ) (was : ReadSteps A) (device : List History) (commit commit' : Option RunningCommit) (got : Got) (after : Option (ReadSteps A)) (refusal : Refusal) (May : Type 0) → StopsBy was device refusal → IsOfReading refusal → FailsIf refusal May → (May → ⊥) → got ≡ got_of_refusal refusal → after ≡ None → commit' ≡ commit → DidTell geometry sectors left was device commit got after commit'
-never_stops geometry sectors left was device commit commit' got after refusal May stops kind may never is none same = inr (refusal, stops, kind, never_counts refusal May may never, is, none, same)
+pub never_stops : {A : Type 0} (mode : Mode) (geometry : Geometry) (sectors left : ℕ) (was : ReadSteps A) (device : List History) (commit commit' : Option RunningCommit) (got : Got) (after : Option (ReadSteps A)) (refusal : Refusal) (May : Type 0) → StopsBy was device refusal → IsOfReading refusal → FailsIf refusal May → (May → ⊥) → got ≡ got_of_refusal refusal → after ≡ None → commit' ≡ commit → DidTell mode geometry sectors left was device commit got after commit'
+never_stops mode geometry sectors left was device commit commit' got after refusal May stops kind may never is none same = inr (refusal, stops, kind, never_counts refusal May may never, is, none, same)

@@ -9,12 +9,12 @@ use Rattle.wb_types.specs.declared.refusal.Refusal.TheVariants.{NotClean}
 use Rattle.wb_disk.specs.Device.{History}
 use Rattle.wb_tree.specs.Mapping.{Mapping, entry_at}
 use Rattle.wb_meta.specs.States.{CountsFault, IsOfReading}
-use Rattle.wb_meta.specs.Reads.{ReadingGoesOn, ReadOneMore, StopsBy}
+use Rattle.wb_meta.specs.Reads.{AreStepsOn, ReadingGoesOn, ReadOneMore, StopsBy, IsDone}
 use Rattle.wb_meta.specs.declared.read_steps.ReadSteps.{ReadSteps}
 use Rattle.wb_meta.specs.declared.read_steps.ReadSteps.TheVariants.{Done as AllRead}
 use Rattle.wb_meta.specs.declared.read_steps.State.{State}
 use Rattle.wb_tasks.specs.declared.step.Got.{Got}
-use Rattle.wb_tasks.specs.declared.step.Got.TheVariants.{Fault, Refused}
+use Rattle.wb_tasks.specs.declared.step.Got.TheVariants.{Fault, Refused, More}
 use Rattle.wb_devices.specs.Opened.{HasCome, HasGeneration, IsUnfit, got_of_refusal}
 use Rattle.wb_devices.specs.declared.running.RunningCommit.{RunningCommit}
 
@@ -76,3 +76,11 @@ DidReadIn {A} mode tells geometry left was device faults commit got after faults
 abbrev pub DidOpenIn : {A : Type 0} → Mode → Type 0 → Geometry → ℕ → Option (ReadSteps A) → List History → ℕ → Option RunningCommit → Got → Option (ReadSteps A) → ℕ → Option RunningCommit → Type 0
 DidOpenIn mode tells geometry left None device faults commit got after faults' commit' = (got ≡ Fault) × (after ≡ None) × (faults' ≡ faults) × (commit' ≡ commit)
 DidOpenIn mode tells geometry left (Some was) device faults commit got after faults' commit' = DidReadIn mode tells geometry left was device faults commit got after faults' commit'
+
+-- A sector's content was told to an opening in this mode, on a device of so many sectors: the reading goes on from what it was, by what stands
+-- there, or stops for what wb_meta says. No device has failed. Where it goes on with more to read, not all was read.
+abbrev pub DidTell : {A : Type 0} → Mode → Geometry → ℕ → ℕ → ReadSteps A → List History → Option RunningCommit → Got → Option (ReadSteps A) → Option RunningCommit → Type 0
+DidTell {A} mode geometry sectors left was device commit got after commit' =
+    ((now : ReadSteps A) × ReadingGoesOn was device now × AreStepsOn sectors now × HasComeIn mode geometry left now commit got after commit'
+    × ReadOneMore was now × (HasGeneration commit → HasGeneration commit') × (got ≡ More → ¬ IsDone now))
+    ⊎ ((refusal : Refusal) × StopsBy was device refusal × IsOfReading refusal × ((faults : ℕ) → CountsFault refusal faults faults) × (got ≡ got_of_refusal refusal) × (after ≡ None) × (commit' ≡ commit))

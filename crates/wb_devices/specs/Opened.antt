@@ -1,13 +1,11 @@
 -- What a step of an opening that reads metadata does.
-use Rattle.std.specs.Prelude.{◌≡◌, ◌≢◌, ◌≤◌, ◌<◌, ◌⊎◌, ◌+◌, ◌^◌, ℕ, List, Option, Some, None, IfSome}
+use Rattle.std.specs.Prelude.{◌≡◌, ◌≢◌, ◌≤◌, ◌<◌, ◌⊎◌, ◌+◌, ◌^◌, ℕ, Option, Some, None, IfSome}
 use Rattle.wb_types.specs.declared.geometry.Geometry.{Geometry}
 use Rattle.wb_types.specs.declared.refusal.Refusal.{Refusal}
 use Rattle.wb_types.specs.declared.refusal.Refusal.TheVariants.{Mismatch, GenerationEnd, Io}
-use Rattle.wb_disk.specs.Device.{History}
 use Rattle.wb_format.specs.declared.root.Root.{Root}
 use Rattle.wb_meta.specs.Openings.{IsOpening}
-use Rattle.wb_meta.specs.States.{CountsFault, IsOfReading}
-use Rattle.wb_meta.specs.Reads.{AreStepsOn, ReadingGoesOn, ReadOneMore, StopsBy, IsDone, known_root}
+use Rattle.wb_meta.specs.Reads.{IsDone, known_root}
 use Rattle.wb_meta.specs.declared.commit_steps.CommitSteps.TheVariants.{NodesSynced}
 use Rattle.wb_meta.specs.declared.read_steps.ReadSteps.{ReadSteps}
 use Rattle.wb_tasks.specs.declared.step.Got.{Got}
@@ -49,11 +47,3 @@ HasCome geometry left now commit got after commit' = ⊥
 -- the root that a commit writes, if there is one, is of a generation that a sector can spell
 abbrev pub HasGeneration : Option RunningCommit → Type 0
 HasGeneration commit = IfSome commit (λ running. running.image.root.generation < 2 ^ 64)
-
--- A sector's content was told, on a device of so many sectors: the reading goes on from what it was, by what stands there, or
--- stops for what wb_meta says. No device has failed. Where it goes on with more to read, not all was read.
-abbrev pub DidTell : {A : Type 0} → Geometry → ℕ → ℕ → ReadSteps A → List History → Option RunningCommit → Got → Option (ReadSteps A) → Option RunningCommit → Type 0
-DidTell {A} geometry sectors left was device commit got after commit' =
-    ((now : ReadSteps A) × ReadingGoesOn was device now × AreStepsOn sectors now × HasCome geometry left now commit got after commit'
-    × ReadOneMore was now × (HasGeneration commit → HasGeneration commit') × (got ≡ More → ¬ IsDone now))
-    ⊎ ((refusal : Refusal) × StopsBy was device refusal × IsOfReading refusal × ((faults : ℕ) → CountsFault refusal faults faults) × (got ≡ got_of_refusal refusal) × (after ≡ None) × (commit' ≡ commit))

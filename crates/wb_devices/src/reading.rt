@@ -3,7 +3,6 @@
 ghost use Rattle.std.specs.Prelude.{◌≡◌, ◌≢◌, ℕ, Some, None, IfSome};
 ghost use Rattle.std.specs.declared.alloc.Global.{Global as GlobalValue};
 ghost use Rattle.std.specs.Bool.{OnTrue, OnFalse};
-ghost use Rattle.wb_types.specs.declared.mode.Mode.TheVariants.{Passthrough};
 ghost use Rattle.wb_tasks.specs.Plan.{Fits};
 ghost use Rattle.wb_tasks.specs.declared.step.Want.TheVariants.{Device};
 ghost use Rattle.wb_tasks.specs.declared.step.DeviceStep.TheVariants.{ReadMetadata};
@@ -13,8 +12,8 @@ ghost use Rattle.wb_meta.specs.Reads.{AreStepsOn, IsDone, known_root};
 ghost use Rattle.wb_meta.specs.declared.read_steps.ReadSteps.{ReadSteps as Steps};
 ghost use Rattle.wb_meta.specs.States.{IsOfReading};
 ghost use Rattle.wb_devices.specs.Openings.{MayGoOn};
-ghost use Rattle.wb_devices.specs.Opened.{DidTell, HasCome, HasGeneration, ReadsOf, got_of_refusal};
-ghost use Rattle.wb_devices.specs.Clean.{DidOpenIn};
+ghost use Rattle.wb_devices.specs.Opened.{HasCome, HasGeneration, ReadsOf, got_of_refusal};
+ghost use Rattle.wb_devices.specs.Clean.{DidOpenIn, DidTell};
 
 use crate::opening::Opening;
 use crate::running::RunningCommit;
@@ -43,8 +42,8 @@ impl Opening {
         ensures geometry { self.new.geometry ≡ self.old.geometry }
         ensures did { DidOpenIn mode D.tells self.old.geometry left self.old.reading (D.contents disk.old) (D.faults disk.old) self.old.commit result self.new.reading (D.faults disk.new) self.new.commit }
 
-        // Where the disk cannot fail to read, what stands there is told, in a mode that takes metadata that were not left clean.
-        ensures told { (was : Steps GlobalValue) → mode ≢ Passthrough → D.tells → (MayLand (D.falters disk.old Reading) → ⊥) → self.old.reading ≡ Some was → DidTell self.old.geometry (D.size disk.old) left was (D.contents disk.old) self.old.commit result self.new.reading self.new.commit }
+        // Where the disk cannot fail to read, what stands there is told.
+        ensures told { (was : Steps GlobalValue) → D.tells → (MayLand (D.falters disk.old Reading) → ⊥) → self.old.reading ≡ Some was → DidTell mode self.old.geometry (D.size disk.old) left was (D.contents disk.old) self.old.commit result self.new.reading self.new.commit }
     {
         let Some(steps) = self.reading.take() else {
             return Got::Fault;

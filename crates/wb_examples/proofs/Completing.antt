@@ -1,5 +1,7 @@
 -- A reading of metadata whose root names no tree, as that of formatted ones does, can be completed: nothing is cached.
-use Rattle.std.proofs.Common.{Global, ◌≡◌, ◌∙◌, ℕ, List, [], Option, Some, None, Ok, refl, sym, ap, subst, arith, length, map, inl}
+use Rattle.std.proofs.Common.{Global, ◌≡◌, ◌∙◌, ℕ, List, [], Option, Some, None, Ok, refl, sym, ap, subst, arith, length, map, inl, ◌≢◌}
+use Rattle.wb_types.specs.declared.mode.Mode.TheVariants.{Passthrough}
+use Rattle.wb_types.specs.declared.mode.Mode.{Mode}
 use Rattle.std.specs.List.{IsDistinct}
 use Rattle.std.proofs.lemmas.List.{length-replicate}
 use Rattle.wb_types.specs.declared.geometry.Geometry.{Geometry}
@@ -101,15 +103,15 @@ module _ (A : Type 0) (heap : Global) (g : Geometry) (device : List History) (ba
     placed = no_node root.geometry.meta_sectors (omega (arith, root.geometry.within.meta_from));
   }
 
-  pub all_read : (P : Type 0) (left : ℕ) (alloc : A) (global : Global) (first : Option Root) → IsInSlot (map newest device) 0 first →
-      DoesRead {P = P} {A = A} g left (FirstSlotRead alloc global first) device None Done (Reaches (Some (AllRead stored)) (Some next_commit))
-  all_read P left alloc global first slot = (
+  pub all_read : (P : Type 0) (mode : Mode) → mode ≢ Passthrough → (left : ℕ) (alloc : A) (global : Global) (first : Option Root) → IsInSlot (map newest device) 0 first →
+      DoesRead {P = P} {A = A} mode g left (FirstSlotRead alloc global first) device None Done (Reaches (Some (AllRead stored)) (Some next_commit))
+  all_read P mode caches left alloc global first slot = (
     λ e. absurd (cc),
     inl (
       AllRead stored,
       completes alloc global first slot,
       fits,
-      (refl, (λ r e. let same : root ≡ r = cc in subst (λ (x : Root). x.geometry ≡ g) same bare.geometry_is), record { is_done = tt; root = root; newest = refl; next = next_commit; commit_is = refl; opens = record { root_is = refl; no_nodes = refl }; steps = refl }),
+      inl ((refl, (λ r e. let same : root ≡ r = cc in subst (λ (x : Root). x.geometry ≡ g) same bare.geometry_is), record { is_done = tt; root = root; newest = refl; next = next_commit; commit_is = refl; opens = record { root_is = refl; no_nodes = refl }; steps = refl }), λ passes. absurd (caches passes)),
       refl,
       omega (arith, bare.more),
     ),

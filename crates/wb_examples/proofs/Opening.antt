@@ -81,7 +81,7 @@ module _ (P A : Type 0) (d : Down P A) where
   commit = next_commit A global shape.geometry durable none_then same_size
 
   pub slot : (first : _) × IsInSlot (map newest durable) 0 first
-  slot = some_slot P A shape.geometry durable (omega (arith, same_size, shape.geometry.within.meta_from))
+  slot = some_slot P A d.mode shape.geometry durable (omega (arith, same_size, shape.geometry.within.meta_from))
 
   abbrev left : ℕ
   left = shape.geometry.meta_sectors
@@ -107,8 +107,8 @@ module _ (P A : Type 0) (d : Down P A) where
   opening_may =
       if_writes d.mode (AreIdle rest × Unit {0}) d.writes (d.idle, tt)
       ⨟ (refl, refl, refl)
-      ⨟ (refl, refl, first_read P A shape.geometry durable d.alloc global left slot.0 slot.1 (omega (arith, shape.geometry.within.meta_from)))
-      ⨟ (refl, refl, all_read A global shape.geometry durable none_then same_size P (left - 1) d.alloc global slot.0 slot.1)
+      ⨟ (refl, refl, first_read P A d.mode shape.geometry durable d.alloc global left slot.0 slot.1 (omega (arith, shape.geometry.within.meta_from)))
+      ⨟ (refl, refl, all_read A global shape.geometry durable none_then same_size P d.mode d.writes (left - 1) d.alloc global slot.0 slot.1)
       ⨟ (refl, refl, (comes_next commit durable NodesSynced WriteRoot fits refl refl, root_does commit durable (omega (arith, none_then.more)) refl))
       ⨟ (refl, refl, (comes_next (record commit { steps = RootWritten }) (rooted commit durable) RootWritten (Sync Metadata) fits_then refl refl, refl))
       ⨟ (refl, refl, (tt, refl))

@@ -21,7 +21,7 @@ use Rattle.wb_tasks.specs.declared.step.Want.TheVariants.{Cell, Device, End}
 use Rattle.wb_tasks.specs.declared.step.Got.{Got}
 use Rattle.wb_tasks.specs.declared.step.Got.TheVariants.{Done, Fault}
 use Rattle.wb_promise.specs.declared.job.Job.{Job}
-use Rattle.wb_promise.specs.declared.job.Job.TheVariants.{Read, Write, Flush, Suspend, Open, Migrate, Replace}
+use Rattle.wb_promise.specs.declared.job.Job.TheVariants.{Read, Write, Flush, Suspend, Open, Migrate, Replace, Invalidate}
 use Rattle.wb_promise.specs.declared.event.Event.{Event}
 use Rattle.wb_promise.specs.declared.event.Event.TheVariants.{Start, Step, FaultStep, Stop}
 use Rattle.wb_promise.specs.declared.event.What.{What}
@@ -134,6 +134,7 @@ is_writing mode = true
 -- an opening in such a mode is in place where no target stands that could go on, any other job where a target does
 abbrev is_in_place : {P A : Type 0} → Phase P A → Job → Bool
 is_in_place (Stands t) (Open mode) = is_writing mode && not (t.words.fail == 0)
+is_in_place (Stands t) (Invalidate block) = false
 is_in_place (Stands t) job = true
 is_in_place Gone (Open mode) = is_writing mode
 is_in_place phase job = false
@@ -242,12 +243,11 @@ idle_applies {P} {A} w job e f o d = elim d [
   where
     placed : (phase : Phase P A) (job : Job) → is_in_place phase job ≡ true → IsOutOfPlace phase job → ⊥
     placed (Stands t) (Open mode) e out =
-        let both = and_true (is_writing mode) (not (t.words.fail == 0)) e in
-        let written = both.0 in
-        let failed = both.1 in
-        elim out [ inl zero_word ↦ absurd (let same : not (t.words.fail == 0) ≡ false = ap (λ n. not (n == 0)) zero_word in cc) | inr past ↦ absurd (let same : is_writing mode ≡ false = ap is_writing past in cc) ]
+        let failed = (and_true (is_writing mode) (not (t.words.fail == 0)) e).1 in
+        absurd (let same : not (t.words.fail == 0) ≡ false = ap (λ n. not (n == 0)) out in cc)
+    placed (Stands t) (Invalidate block) e out = absurd (cc)
     placed (Stands t) job e out = out tt
-    placed Gone (Open mode) e out = elim out [ inl t ↦ t | inr past ↦ absurd (let same : is_writing mode ≡ false = ap is_writing past in cc) ]
+    placed Gone (Open mode) e out = out
     placed phase job e out = absurd (cc)
 
 module _ {P A : Type 0} (global : Global) (shape : Shape) (w : State P A) where
@@ -264,6 +264,7 @@ module _ {P A : Type 0} (global : Global) (shape : Shape) (w : State P A) where
   plain_gives phase x (Write extent content) (End answer) e = ((refl, refl), refl)
   plain_gives phase x Flush (End answer) e = ((refl, refl), refl)
   plain_gives phase x Suspend (End answer) e = ((refl, refl), refl)
+  plain_gives phase x (Invalidate block) (End answer) e = ((refl, refl), refl)
   plain_gives phase x (Migrate migration block) (End answer) e = ((refl, refl), refl)
   plain_gives phase x (Replace old new) (End answer) e = ((refl, refl), refl)
   plain_gives phase x job next e = absurd (cc)

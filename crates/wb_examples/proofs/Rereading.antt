@@ -1,6 +1,8 @@
 -- A reading of metadata whose newest root is that of a suspend, and names a tree of one node, can be completed: it finds the entry with its dirty
 -- bit, whatever that is.
-use Rattle.std.proofs.Common.{Global, ◌≡◌, ◌∙◌, ◌≤◌, ◌<◌, ◌+◌, ◌^◌, ◌&&◌, ◌==◌, inl, ℕ, Bool, true, false, List, [], ◌∷◌, Option, Some, None, Ok, Err, refl, sym, ap, subst, arith, length, map, slice_get}
+use Rattle.std.proofs.Common.{Global, ◌≡◌, ◌∙◌, ◌≤◌, ◌<◌, ◌+◌, ◌^◌, ◌&&◌, ◌==◌, inl, ℕ, Bool, true, false, List, [], ◌∷◌, Option, Some, None, Ok, Err, refl, sym, ap, subst, arith, length, map, slice_get, ◌≢◌}
+use Rattle.wb_types.specs.declared.mode.Mode.TheVariants.{Passthrough}
+use Rattle.wb_types.specs.declared.mode.Mode.{Mode}
 use Rattle.std.specs.Prelude.{All, Contains, if◌then◌else◌}
 use Rattle.std.specs.List.{IsDistinct}
 use Rattle.std.proofs.lemmas.List.Elements.{All-cons, All-nil}
@@ -90,16 +92,16 @@ module _ (P A : Type 0) (t : Tiny P A) (dirty : Bool) (device : List History) (o
     rest = λ others there. loads others;
   }
 
-  pub root_read : (left : ℕ) (alloc : A) (global : Global) (first : Option Root) → IsInSlot (map newest device) 0 first → 1 ≤ left →
-      DoesRead {P = P} {A = A} (geometry P A t) left (FirstSlotRead alloc global first) device None More (Reaches (Some (RootFound global r loader)) None)
+  pub root_read : (mode : Mode) → mode ≢ Passthrough → (left : ℕ) (alloc : A) (global : Global) (first : Option Root) → IsInSlot (map newest device) 0 first → 1 ≤ left →
+      DoesRead {P = P} {A = A} mode (geometry P A t) left (FirstSlotRead alloc global first) device None More (Reaches (Some (RootFound global r loader)) None)
   unfolding IsDistinct
-  root_read left alloc global first slot some = (
+  root_read mode caches left alloc global first slot some = (
     λ e. absurd (cc),
     inl (
       RootFound global r loader,
       finds alloc global first slot,
       (record { size = sym on.size; root_is = refl; used = record { from = tt; to = tt; apart = tt } }, refl),
-      (some, refl, (λ known e. let same : r ≡ known = cc in ap (λ (x : Root). x.geometry) (sym same)), refl),
+      inl ((some, refl, (λ known e. let same : r ≡ known = cc in ap (λ (x : Root). x.geometry) (sym same)), refl), λ passes. absurd (caches passes)),
       refl,
       tt,
     ),
@@ -150,14 +152,14 @@ module _ (P A : Type 0) (t : Tiny P A) (dirty : Bool) (device : List History) (o
     placed = no_node t.meta_sectors (omega (arith, t.within.meta_from));
   }
 
-  pub all_read : (left : ℕ) (global : Global) → DoesRead {P = P} {A = A} (geometry P A t) left (RootFound global r loader) device None Done (Reaches (Some (AllRead stored)) (Some next_commit))
-  all_read left global = (
+  pub all_read : (mode : Mode) → mode ≢ Passthrough → (left : ℕ) (global : Global) → DoesRead {P = P} {A = A} mode (geometry P A t) left (RootFound global r loader) device None Done (Reaches (Some (AllRead stored)) (Some next_commit))
+  all_read mode caches left global = (
     λ e. absurd (cc),
     inl (
       AllRead stored,
       completes global,
       fits,
-      (refl, (λ known e. let same : r ≡ known = cc in ap (λ (x : Root). x.geometry) (sym same)), record { is_done = tt; root = r; newest = refl; next = next_commit; commit_is = refl; opens = record { root_is = refl; no_nodes = refl }; steps = refl }),
+      inl ((refl, (λ known e. let same : r ≡ known = cc in ap (λ (x : Root). x.geometry) (sym same)), record { is_done = tt; root = r; newest = refl; next = next_commit; commit_is = refl; opens = record { root_is = refl; no_nodes = refl }; steps = refl }), λ passes. absurd (caches passes)),
       refl,
       on.more,
     ),

@@ -217,7 +217,7 @@ module _ (P A : Type 0) (t : Tiny P A) (content : Bytes) (d0 : Devices (List His
       next = next_commit P A t dirty read on
 
       slot : (first : Option Root) × IsInSlot (map newest read) 0 first
-      slot = some_slot P A shape0.geometry read (omega (arith, read_size, t.within.meta_from))
+      slot = some_slot P A Writeback shape0.geometry read (omega (arith, read_size, t.within.meta_from))
 
       abbrev opening : List (Move P A)
       opening =
@@ -236,9 +236,9 @@ module _ (P A : Type 0) (t : Tiny P A) (content : Bytes) (d0 : Devices (List His
       opens : IsRun shape0 started (played t.global shape0 started opening)
       opens = goes_on t.global shape0 started opening (
           (refl, refl, refl)
-          ⨟ (refl, refl, first_read P A shape0.geometry read t.alloc t.global t.meta_sectors slot.0 slot.1 (omega (arith, t.within.meta_from)))
-          ⨟ (refl, refl, root_read P A t dirty read on (t.meta_sectors - 1) t.alloc t.global slot.0 slot.1 (omega (arith, t.within.meta_from)))
-          ⨟ (refl, refl, all_read P A t dirty read on (t.meta_sectors - 1 - 1) t.global)
+          ⨟ (refl, refl, first_read P A Writeback shape0.geometry read t.alloc t.global t.meta_sectors slot.0 slot.1 (omega (arith, t.within.meta_from)))
+          ⨟ (refl, refl, root_read P A t dirty read on Writeback (λ e. absurd (cc)) (t.meta_sectors - 1) t.alloc t.global slot.0 slot.1 (omega (arith, t.within.meta_from)))
+          ⨟ (refl, refl, all_read P A t dirty read on Writeback (λ e. absurd (cc)) (t.meta_sectors - 1 - 1) t.global)
           ⨟ (refl, refl, (comes_next next read NodesSynced WriteRoot read_size refl refl, root_does next read on.more refl))
           ⨟ (refl, refl, (comes_next (record next { steps = RootWritten }) (rooted next read) RootWritten (Sync Metadata) fits_then refl refl, refl))
           ⨟ (refl, refl, (tt, refl))

@@ -138,10 +138,10 @@ module _ (P A : Type 0) (shape : Shape) where
     }
 
     -- an opening is at work
-    pub opens : (mode : Mode) (reading : Option (ReadSteps A)) (commit : Option RunningCommit) → mode ≢ Passthrough → MetadataKept {P = P} {A = A} shape.geometry images (Opens mode reading) commit devices.metadata →
+    pub opens : (mode : Mode) (reading : Option (ReadSteps A)) (commit : Option RunningCommit) → MetadataKept {P = P} {A = A} shape.geometry images (Opens mode reading) commit devices.metadata →
         ((a : ℕ) (x : Actor) (job : Job) (plan : Plan) → slice_get actors a ≡ Some x → x.task ≡ Some (job, plan) → AtStage mode reading commit later plan phase ⊎ IsOver plan phase) →
         Goes P A shape (record { devices = devices; commit = commit; phase = Opens mode reading; actors = actors }) n
-    opens mode reading commit caches known each = record {
+    opens mode reading commit known each = record {
       images = images;
       known = known;
       followed = record {
@@ -154,7 +154,6 @@ module _ (P A : Type 0) (shape : Shape) where
         phase = record {
           later = later;
           devices_follow = follow;
-          caches = caches;
           each = λ a x job plan e t. subst (λ (p : PhaseThere). AtStage mode reading commit later plan p ⊎ IsOver plan p) (sym r.phase_is) (each a x job plan e t);
         };
       };

@@ -130,7 +130,6 @@ module _ (P A : Type 0) (shape : Shape) where
   pub record OpeningFollows (images : Images) (mode : Mode) (reading : Option (ReadSteps A)) (commit : Option RunningCommit) (devices : Devices (List History)) (actors : List Actor) (v : Site) : Type 0 where
     pub later : Option Stored
     pub devices_follow : DevicesFollow images later devices v
-    pub caches : mode ≢ Passthrough
     pub each : (a : ℕ) (x : Actor) (job : Job) (plan : Plan) → slice_get actors a ≡ Some x → x.task ≡ Some (job, plan) → AtStage mode reading commit later plan v.phase ⊎ IsOver plan v.phase
 
   abbrev pub PhaseFollows : Images → Phase P A → Option RunningCommit → Devices (List History) → List Actor → Site → Type 0

@@ -1,6 +1,7 @@
 -- Where a target stands, the orders that actors have live, the seals tell where the desk has each block, and each seal that is left is right; and
 -- who suspends is at it alone, and has seen what it has looked at: so it stays, whoever goes on.
 use Rattle.std.proofs.Common.{[], if◌then◌else◌, ◌≡◌, ◌≢◌, ◌∙◌, ◌<◌, ◌==◌, ◌⊎◌, ◌++◌, inl, inr, ℕ, Bool, true, false, List, ◌∷◌, Option, Some, None, refl, sym, ap, subst, arith, unwrap_or, slice_get, slice_set, Contains}
+use Rattle.wb_headline.proofs.Passing.{left_at, same_orders}
 use Rattle.std.proofs.lemmas.Bool.{cases_eq}
 use Rattle.std.proofs.lemmas.List.Elements.{Contains-append_cases, Contains-append_left, Contains-append_right}
 use Rattle.wb_types.proofs.Lists.{set_cases}
@@ -57,7 +58,7 @@ use Rattle.wb_tasks.specs.declared.step.Got.TheVariants.{Done, Fault, Began, Ref
 use Rattle.wb_devices.specs.declared.devices.Devices.{Devices}
 use Rattle.wb_devices.specs.declared.running.RunningCommit.{RunningCommit}
 use Rattle.wb_promise.specs.declared.job.Job.{Job}
-use Rattle.wb_promise.specs.declared.job.Job.TheVariants.{Read, Write, Flush, Suspend, Open, Migrate, Replace}
+use Rattle.wb_promise.specs.declared.job.Job.TheVariants.{Read, Write, Flush, Suspend, Open, Migrate, Replace, Invalidate}
 use Rattle.wb_promise.specs.States.{Shape, Actor, Target, Phase, Stands, Gone, Opens}
 use Rattle.wb_promise.specs.Effects.{actor_then, awaiting_answered, awaiting_released, awaiting_then, dropped, job_of, orders_answered, orders_released, orders_then, replacing}
 use Rattle.wb_promise.specs.Clerk.{Notes}
@@ -80,7 +81,7 @@ use Rattle.wb_headline.proofs.Carried.{carried}
 use Rattle.wb_headline.proofs.Desking.{located_entered, located_left}
 use Rattle.wb_headline.proofs.Following.{situation, size, most, Followed}
 use Rattle.wb_simulation.specs.Carried.{IsOrderFor}
-use Rattle.wb_simulation.specs.Laws.{WantsNext}
+use Rattle.wb_simulation.specs.Laws.{WantsNext, IsRequestJob}
 use Rattle.wb_simulation.specs.Migrating.{EndsOrder}
 use Rattle.wb_simulation.specs.Worlds.{Situation, GivesUp}
 use Rattle.wb_headline.proofs.Orders.{leaves_from, left, of_order, owned_then, stands_so, at_there, live_at, AreParted, for_block, one_of_block, only_held, over, found_of, only_of, replacing_is, true_not}
@@ -466,6 +467,7 @@ module _ (P A : Type 0) (shape : Shape) (images : Images) (t : Target P) (commit
           by_job : (j : Job) → x.task ≡ Some (j, plan) → place_in (seal_word place dirty) ≡ place
           by_job (Read extent) jt = of_it (doing (Read extent) jt).part.block.0 (doing (Read extent) jt).of_block
           by_job (Write extent content) jt = of_it (doing (Write extent content) jt).part.block.0 (doing (Write extent content) jt).of_block
+          by_job (Invalidate block) jt = of_it (doing (Invalidate block) jt).part.block.0 (doing (Invalidate block) jt).of_block
           by_job Flush jt = (let r = doing Flush jt in absurd (own (Flushing r.blocks (most P A shape)) (Cell (Seal b place dirty)) r.job is_seal))
           by_job Suspend jt = (let r = doing Suspend jt in absurd (own (Suspending r.blocks (most P A shape)) (Cell (Seal b place dirty)) r.job is_seal))
           by_job (Open mode) jt = absurd (doing (Open mode) jt)
@@ -591,6 +593,27 @@ module _ (P A : Type 0) (shape : Shape) (images : Images) (t : Target P) (commit
             ))
             | inr other ↦ inl (refl, elsewhere o.0 other, not_sealing (Desk step) e (λ v p d q. absurd (cc)) o)
           ]
+
+  -- a block that a write or an invalidation takes out of the cache, under no order
+  module _ (job : Job) (request : IsRequestJob job) (plan : Plan) (xt : x.task ≡ Some (job, plan)) (bl : OBlock) (new : DeskState P) (e : Desk (Unmap bl) ≡ want plan) (did : DidUnmap (λ policy o. new.policy) bl t.desk new) where
+    pub request_unmap_keeps : KeepingAt (record { words = t.words; desk = new }) (slice_set actors a (y job plan xt (Desk (Unmap bl)) Done))
+    request_unmap_keeps =
+        let suited = suits job plan xt in
+        let gone = left_at P A shape images t commit devices actors n known f a x ex job request plan xt suited bl new e did in
+        let c = gone.0 in
+        let alone = stands_alone P t.desk known.is.kept bl.0 c gone.1 in
+        let holds : x.card.hold ≡ Held Own bl = ready job plan xt (Desk (Unmap bl)) e in
+        let left = located_left t.desk.tree.entries c alone.0 bl.0 alone.1 in
+        let here : None ≡ place_of new.tree.entries bl.0 = sym (changed_same (located t.desk.tree.entries) bl.0 None) ∙ left bl.0 ∙ ap (λ (es : List (Option Entry)). place_of es bl.0) (sym gone.2.entries) in
+        let first = begins_by plan (Desk (Unmap bl)) (sym e) (λ v q. absurd (cc)) in
+        let r' : IsSealed bl None first.0 × SealsRight None first.0 = subst (λ (us : List Want). SealsRight (place_of t.desk.tree.entries bl.0) us) first.1 (right job plan xt Own bl holds) in
+        let inside = (mapped_within unknowing t.desk bl.0 c known.is.kept gone.1).1 in
+        moved job plan xt (Unmap bl) e bl None new (subst (λ (g : Geometry). bl.0 < g.origin_blocks) known.is.geometry inside) holds here
+        (λ i not. ap (λ (es : List (Option Entry)). place_of es i) gone.2.entries ∙ sym (left i) ∙ changed_other (located t.desk.tree.entries) bl.0 i None not)
+        (λ answer. subst (λ (us : List Want). (dirty : Bool) × (first_step (later_steps us) answer ≡ Cell (Seal bl None dirty))) (sym first.1) (sealed_next bl None first.0 answer r'.0))
+        (subst (λ (o : Option ℕ). SealsRight o (after plan Done).steps) here (subst (λ (us : List Want). SealsRight None (later_steps us)) (sym first.1) r'.1))
+        (owned_within P t.desk actors a x (y job plan xt (Desk (Unmap bl)) Done) ex k.owned new (λ o h. then_had x (job_of x.task) (Desk (Unmap bl)) Done o h) (same_orders P A shape images t commit devices actors n known f a x ex job request plan xt suited bl new e did))
+        (λ q. subst IsRequestJob q request)
 
   module _ (m : Migration) (block : OBlock) (plan : Plan) (xt : x.task ≡ Some (Migrate m block, plan)) where
     -- so its actor there is to do this next

@@ -29,7 +29,7 @@ use Rattle.wb_tasks.specs.declared.step.Got.TheVariants.{Done, Fault, Began, Ref
 use Rattle.wb_devices.specs.declared.devices.Devices.{Devices}
 use Rattle.wb_devices.specs.declared.running.RunningCommit.{RunningCommit}
 use Rattle.wb_promise.specs.declared.job.Job.{Job}
-use Rattle.wb_promise.specs.declared.job.Job.TheVariants.{Read, Write, Flush, Suspend, Migrate, Replace}
+use Rattle.wb_promise.specs.declared.job.Job.TheVariants.{Read, Write, Flush, Suspend, Migrate, Replace, Invalidate}
 use Rattle.wb_promise.specs.declared.event.What.TheVariants.{Started}
 use Rattle.wb_promise.specs.States.{Shape, State, Actor, Target, Phase, Stands, OfReading, resting}
 use Rattle.wb_promise.specs.Happenings.{Chosen, Plain, Cut, Orders, Looks, Asks, Commits, Gives, DoesBegin, DoesRead, StartsAs, AreMapped, HasTask, OfSome, order_for}
@@ -45,7 +45,7 @@ use Rattle.wb_runs.proofs.Ordering.{held_of, then_had}
 use Rattle.wb_runs.proofs.Owning.{Owned, owned_given, owned_same}
 use Rattle.wb_headline.proofs.Orders.{AreParted}
 use Rattle.wb_headline.proofs.Following.{Followed}
-use Rattle.wb_headline.proofs.Keeping.{KeepingAt, Keeping, HasNone, NoOrders, TaskRight, GoesAmong, plainly, saw_among, saw_begin, saw_end, own, cell_keeps, device_keeps, answer_keeps, desk_plain, map_keeps, map_refused_keeps, unmap_keeps, release_keeps, flush_release_keeps, ready}
+use Rattle.wb_headline.proofs.Keeping.{KeepingAt, Keeping, HasNone, NoOrders, TaskRight, GoesAmong, plainly, saw_among, saw_begin, saw_end, own, cell_keeps, device_keeps, answer_keeps, desk_plain, map_keeps, map_refused_keeps, unmap_keeps, request_unmap_keeps, release_keeps, flush_release_keeps, ready}
 use Rattle.wb_headline.proofs.Targets.{standing}
 use Rattle.wb_headline.proofs.Seeing.{mapped_there}
 use Rattle.wb_headline.proofs.Suspends.{Saw, SawTask, saw_first, marked_places}
@@ -122,7 +122,7 @@ suspend_gives_done P A shape w x t (Sync Metadata) got read chosen p g = g.1
 suspend_gives_done P A shape w x t (Sync device) got read chosen p g = g.1
 suspend_gives_done P A shape w x t (WriteNode number) got read chosen p g = g.1
 suspend_gives_done P A shape w x t WriteRoot got read chosen p g = g.1
-suspend_gives_done P A shape w x t (ReadMetadata left) got read chosen p g = absurd (subst (λ (q : Phase P A). OfReading q (λ mode was. DoesRead shape.geometry left was w.devices.metadata w.commit got chosen)) p g.2)
+suspend_gives_done P A shape w x t (ReadMetadata left) got read chosen p g = absurd (subst (λ (q : Phase P A). OfReading q (λ mode was. DoesRead mode shape.geometry left was w.devices.metadata w.commit got chosen)) p g.2)
 suspend_gives_done P A shape w x t step got read chosen p g = absurd g
 
 -- who is at nothing has no task
@@ -247,6 +247,10 @@ module _ (P A : Type 0) (shape : Shape) (images : Images) (t : Target P) (commit
     step_keeps (Migrate m b) xt (Desk (Unmap bl)) got read chosen e g = absurd g.2
     step_keeps (Migrate m b) xt (Desk (ReleaseOrder bl)) got read (Asks new) e g = subst (λ (v : Got). After (Desk (ReleaseOrder bl)) v (Asks new)) (sym g.1) (release_keeps P A shape images t commit devices actors n known f rule all_suited k a x ex m b plan xt bl new e g.2)
     step_keeps (Migrate m b) xt (Desk (ReleaseOrder bl)) got read chosen e g = absurd g.2
+    step_keeps (Write ext content) xt (Desk (Unmap bl)) got read (Asks new) e g = subst (λ (v : Got). After (Desk (Unmap bl)) v (Asks new)) (sym g.1) (request_unmap_keeps P A shape images t commit devices actors n known f rule all_suited k a x ex (Write ext content) tt plan xt bl new e g.2)
+    step_keeps (Write ext content) xt (Desk (Unmap bl)) got read chosen e g = absurd g.2
+    step_keeps (Invalidate b) xt (Desk (Unmap bl)) got read (Asks new) e g = subst (λ (v : Got). After (Desk (Unmap bl)) v (Asks new)) (sym g.1) (request_unmap_keeps P A shape images t commit devices actors n known f rule all_suited k a x ex (Invalidate b) tt plan xt bl new e g.2)
+    step_keeps (Invalidate b) xt (Desk (Unmap bl)) got read chosen e g = absurd g.2
     step_keeps Flush xt (Desk (ReleaseOrder bl)) got read (Asks new) e g = subst (λ (v : Got). After (Desk (ReleaseOrder bl)) v (Asks new)) (sym g.1) (flush_release_keeps P A shape images t commit devices actors n known f rule all_suited k a x ex plan xt bl new e g.2)
     step_keeps Flush xt (Desk (ReleaseOrder bl)) got read chosen e g = absurd g.2
     step_keeps job xt (Cell step) got read chosen e g = subst (λ (v : Got). After (Cell step) v chosen) (sym g.1) (cell_keeps P A shape images t commit devices actors n known f rule all_suited k a x ex job plan xt step e)

@@ -9,6 +9,7 @@ mod Desking
 mod Showing
 mod Opened
 mod Targets
+mod Passing
 mod Requests
 mod Commits
 mod Doings

@@ -191,7 +191,7 @@ module _ (P A : Type 0) (shape : Shape) (images : Images) (devices : Devices (Li
           let few : shape.geometry.cache_blocks ≤ 2 ^ 32 = (let l = shape.geometry.within.cache_to in omega (arith, l)) in
           subst (λ (os : List (Option Order)). Agrees (record (situation shape (target_over shape mode policy stored) devices (slice_set actors a y)) { orders = os }) site_now.world) (sym (no_orders_live shape.geometry.cache_blocks))
           (subst (λ (k : ℕ). Agrees (record (situation shape (target_over shape mode policy stored) devices (slice_set actors a y)) { orders = replicate shape.geometry.cache_blocks None }) (record { shared = opened_on f.site.world.shared mode i blocks_now; actors = replicate k idle; waiting = λ c. None })) many_then
-          (opened_followed mode (size P A shape) (most P A shape) shape.geometry.origin_blocks shape.geometry.cache_blocks stored.root.clean tree i blocks_now f.site.world.shared devices (slice_set actors a y) f.phase.caches mapping few rd.0.same rd.0.clean d.origin d.cache at_rest))
+          (opened_followed mode (size P A shape) (most P A shape) shape.geometry.origin_blocks shape.geometry.cache_blocks stored.root.clean tree i blocks_now f.site.world.shared devices (slice_set actors a y) mapping few rd.0.same rd.0.clean d.origin d.cache at_rest))
 
       -- the seals tell where the tree has each block
       pub opened_tells : (block : OBlock) → number_there (place_in (word_at (target_over shape mode policy stored).words.seals block)) ≡ place_of tree block.0
@@ -251,10 +251,10 @@ module _ (P A : Type 0) (shape : Shape) (images : Images) (devices : Devices (Li
           (cache_done P A shape images devices commit mode reading actors n known f alone a x ex opened_in [] doing job_is total left ph rd xt read chosen)
       by_stage Basing ph rd xt g = subst (λ (v : Got). Done_by job buffer (Device (Sync Origin)) v read chosen) (sym g.1)
           (origin_done P A shape images devices commit mode reading actors n known f alone a x ex opened_in [] doing job_is total left ph rd xt read chosen)
-      by_stage Looking ph rd xt g = by_chosen chosen (subst (λ (c : Option RunningCommit). Rattle.wb_promise.specs.Happenings.DoesRead shape.geometry left rd.0.0 devices.metadata c got chosen) rd.1
-          (subst (λ (r : Option (ReadSteps A)). OfReading {P = P} {A = A} (Opens mode r) (λ mode was. Rattle.wb_promise.specs.Happenings.DoesRead shape.geometry left was devices.metadata commit got chosen)) rd.0.1 g.2))
+      by_stage Looking ph rd xt g = by_chosen chosen (subst (λ (c : Option RunningCommit). Rattle.wb_promise.specs.Happenings.DoesRead mode shape.geometry left rd.0.0 devices.metadata c got chosen) rd.1
+          (subst (λ (r : Option (ReadSteps A)). OfReading {P = P} {A = A} (Opens mode r) (λ mode was. Rattle.wb_promise.specs.Happenings.DoesRead mode shape.geometry left was devices.metadata commit got chosen)) rd.0.1 g.2))
         where
-          by_chosen : (c : Chosen P A) → Rattle.wb_promise.specs.Happenings.DoesRead shape.geometry left rd.0.0 devices.metadata None got c → Done_by job buffer (Device (ReadMetadata left)) got read c
+          by_chosen : (c : Chosen P A) → Rattle.wb_promise.specs.Happenings.DoesRead mode shape.geometry left rd.0.0 devices.metadata None got c → Done_by job buffer (Device (ReadMetadata left)) got read c
           by_chosen (Reaches r c) d = looks P A shape images devices commit mode reading actors n known f alone a x ex opened_in [] doing job_is total left ph rd xt got read (Reaches r c) d
           by_chosen c d = absurd d
       by_stage (Rooting i) ph rd xt g = subst (λ (v : Got). Done_by job buffer (Device WriteRoot) v read chosen) (sym g.1) (by_chosen chosen (subst (λ (c : Option RunningCommit). DoesPut c WriteRoot devices.metadata chosen) rd.0.commit_is g.2))

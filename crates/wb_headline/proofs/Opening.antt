@@ -1,13 +1,15 @@
 -- Each step of an opening, done, refused or failing, is followed.
 use Rattle.std.proofs.Common.{◌≡◌, ◌≢◌, ◌∙◌, ◌-◌, ◌⊎◌, inl, inr, ℕ, Bool, true, List, [], Option, Some, None, refl, sym, ap, subst, arith, map, slice_get, slice_set, false}
+use Rattle.wb_format.specs.declared.root.Root.{Root}
+use Rattle.wb_devices.specs.Clean.{IsCleanSoFar}
 use Rattle.std.proofs.lemmas.Option.{some_pair_parts}
 use Rattle.std.proofs.lemmas.List.{length-set}
 use Rattle.wb_types.proofs.Lists.{set_cases}
 use Rattle.wb_types.specs.declared.mode.Mode.{Mode}
-use Rattle.wb_types.specs.declared.mode.Mode.TheVariants.{Writeback}
+use Rattle.wb_types.specs.declared.mode.Mode.TheVariants.{Writeback, Passthrough}
 use Rattle.wb_types.specs.declared.mode.Dev.TheVariants.{Metadata, Cache, Origin}
 use Rattle.wb_types.specs.declared.refusal.Refusal.{Refusal}
-use Rattle.wb_types.specs.declared.refusal.Refusal.TheVariants.{Io}
+use Rattle.wb_types.specs.declared.refusal.Refusal.TheVariants.{Io, NotClean}
 use Rattle.wb_disk.specs.Device.{Content as Bytes, History, newest, synced}
 use Rattle.wb_disk.specs.Failing.{synced_where}
 use Rattle.wb_disk.proofs.FailedSyncs.{partly_synced}
@@ -110,7 +112,7 @@ module _ (P A : Type 0) (shape : Shape) (images : Images) (devices : Devices (Li
           let y = actor_then {P = P} {A = A} shape (Opens mode reading) devices x (Device step) got in
           subst (λ (r : Option (ReadSteps A)). Goes P A shape (record { devices = devices'; commit = commit_then {P = P} {A = A} (Opens mode reading) commit (Device step) got chosen; phase = Opens mode r; actors = slice_set actors a y }) (n' step got read)) (sym er)
           (subst (λ (c : Option RunningCommit). Goes P A shape (record { devices = devices'; commit = c; phase = Opens mode reading'; actors = slice_set actors a y }) (n' step got read)) (sym ec)
-          (opens P A shape images' later' phase' devices' (n' step got read) v down (slice_set actors a y) (sized_so P A shape actors (slice_set actors a y) n (n' step got read) (same step got read) (length-set actors a y) f.sized) mode reading' commit' f.phase.caches known'
+          (opens P A shape images' later' phase' devices' (n' step got read) v down (slice_set actors a y) (sized_so P A shape actors (slice_set actors a y) n (n' step got read) (same step got read) (length-set actors a y) f.sized) mode reading' commit' known'
           (each_then y plan' (λ (p : Plan). AtStage mode reading' commit' later' p phase' ⊎ IsOver p phase') (ap (λ (t : Option (Job × Plan)). task_then t (Device step) got) xt ∙ ap (λ (p : Plan). Some (Open opened_in, p)) ep) at)))
 
     over : (total : ℕ) (refusal : Refusal) → IsOver (record { job = Opening total; steps = []; answer = Rattle.wb_tasks.specs.declared.step.Answer.TheVariants.Refused refusal }) GoneThere
@@ -220,16 +222,18 @@ module _ (P A : Type 0) (shape : Shape) (images : Images) (devices : Devices (Li
         abbrev learnt : Learnt
         learnt = record { locations = f.site.world.shared.committed; clean = f.site.world.shared.committed_clean }
 
-        look_done : (stored : Rattle.wb_meta.specs.declared.read_steps.State.State A) (running : RunningCommit) (read : List Bytes) (chosen : Chosen P A) → HasReached shape.geometry images (AllRead stored) device → (next : Rattle.wb_devices.specs.Opened.HasNextRoot (AllRead stored) (Some running)) →
+        look_done : (stored : Rattle.wb_meta.specs.declared.read_steps.State.State A) (running : RunningCommit) (read : List Bytes) (chosen : Chosen P A) → (mode ≡ Passthrough → IsCleanSoFar shape.geometry (AllRead stored)) → HasReached shape.geometry images (AllRead stored) device → (next : Rattle.wb_devices.specs.Opened.HasNextRoot (AllRead stored) (Some running)) →
             reading_then reading (Device (ReadMetadata left)) Done chosen ≡ Some (AllRead stored) → commit_then {P = P} {A = A} (Opens mode reading) commit (Device (ReadMetadata left)) Done chosen ≡ Some running → Goes P A shape (after_it (ReadMetadata left) Done chosen devices) (n' (ReadMetadata left) Done read)
-        look_done stored running read chosen k next er ec =
+        look_done stored running read chosen clean k next er ec =
             let is = read_is_committed shape.geometry k.found.committed device stored.root stored.tree stored.used.items k.found.read k.found.settled k.come k.on in
             let one : images.committed ≡ k.found.committed = ap (λ (i : Images). i.committed) k.found.are in
             let entries_are : stored.tree.entries ≡ images.committed.found.entries = is.1 ∙ ap (λ (s : Stored). s.found.entries) (sym one) in
             let located_so : learnt.locations ≡ located stored.tree.entries = agree.images.committed_is ∙ ap (λ es. located es) (sym entries_are) in
+            let takes = read_clean stored.root stored.tree images.committed learnt.clean (is.0 ∙ ap (λ (s : Stored). s.root) (sym one)) entries_are agree.images.clean_is in
+            let its_geometry : stored.root.geometry ≡ shape.geometry = ap (λ (r : Root). r.geometry) is.0 ∙ k.found.read.same_geometry in
             let l : LeadsTo shape.geometry (size P A shape) images.committed None f.site (OpensThere mode (Rooting learnt)) devices = record {
               event = Advances (Learns learnt);
-              may = (mode, Looking, ph, (refl, refl, admitted mode f.phase.caches learnt));
+              may = (mode, Looking, ph, (refl, refl, admitted mode stored.root stored.tree learnt (λ passes. clean passes stored refl its_geometry) located_so takes));
               phase_is = ap (λ (p : PhaseThere). (advance f.site.world p (Learns learnt)).phase) ph;
               agrees = subst (λ (p : PhaseThere). DevicesAgree shape.geometry (size P A shape) images.committed None devices (advance f.site.world p (Learns learnt)).world.shared) (sym ph) agree;
             } in
@@ -251,29 +255,32 @@ module _ (P A : Type 0) (shape : Shape) (images : Images) (devices : Devices (Li
                   running = running;
                   commit_is = refl;
                   same = located_so;
-                  clean = read_clean stored.root stored.tree images.committed learnt.clean (is.0 ∙ ap (λ (s : Stored). s.root) (sym one)) entries_are agree.images.clean_is;
+                  clean = takes;
                 },
                 refl,
               );
             }))
 
         -- by what its step gives
-        pub looks : (got : Got) (read : List Bytes) (chosen : Chosen P A) → DoesRead shape.geometry left rd.0.0 device None got chosen → Goes P A shape (after_it (ReadMetadata left) got chosen devices) (n' (ReadMetadata left) got read)
-        looks got read (Reaches after' commit') (no_fault, inl more) = by_got got no_fault more.3
+        pub looks : (got : Got) (read : List Bytes) (chosen : Chosen P A) → DoesRead mode shape.geometry left rd.0.0 device None got chosen → Goes P A shape (after_it (ReadMetadata left) got chosen devices) (n' (ReadMetadata left) got read)
+        looks got read (Reaches after' commit') (no_fault, inl more) = elim more.3 [
+          | inl in_time ↦ by_got in_time.1 got no_fault in_time.0
+          | inr unclean ↦ look_stops got read (Reaches after' commit') NotClean unclean.2 unclean.3 (ap (λ (v : Got). after (opening_at total left Looking) v) unclean.1)
+        ]
           where
             reached : HasReached shape.geometry images more.0 device
             reached = record { found = so_far.found; come = more.1 (map newest device) (record { size = Rattle.std.proofs.lemmas.List.length-map device newest; here = λ place e. refl }) so_far.come; on = more.2 }
 
-            all_read : (now : ReadSteps A) → HasReached shape.geometry images now device → (next : Rattle.wb_devices.specs.Opened.HasNextRoot now commit') → after' ≡ Some now → Goes P A shape (after_it (ReadMetadata left) Done (Reaches after' commit') devices) (n' (ReadMetadata left) Done read)
-            all_read (AllRead stored) k next e = look_done stored next.next read (Reaches after' commit') k (subst (λ (c : Option RunningCommit). Rattle.wb_devices.specs.Opened.HasNextRoot (AllRead stored) c) next.commit_is next) e next.commit_is
-            all_read now k next e = absurd next.is_done
+            all_read : (now : ReadSteps A) → (mode ≡ Passthrough → IsCleanSoFar shape.geometry now) → HasReached shape.geometry images now device → (next : Rattle.wb_devices.specs.Opened.HasNextRoot now commit') → after' ≡ Some now → Goes P A shape (after_it (ReadMetadata left) Done (Reaches after' commit') devices) (n' (ReadMetadata left) Done read)
+            all_read (AllRead stored) clean k next e = look_done stored next.next read (Reaches after' commit') clean k (subst (λ (c : Option RunningCommit). Rattle.wb_devices.specs.Opened.HasNextRoot (AllRead stored) c) next.commit_is next) e next.commit_is
+            all_read now clean k next e = absurd next.is_done
 
-            by_got : (got : Got) → (got ≢ Fault) → HasCome shape.geometry left more.0 None got after' commit' → Goes P A shape (after_it (ReadMetadata left) got (Reaches after' commit') devices) (n' (ReadMetadata left) got read)
-            by_got More z h = look_on more.0 read (Reaches after' commit') reached h.1 h.3
-            by_got Done z h = all_read more.0 reached h.2 h.0
-            by_got (GotRefused refusal) z h = look_stops (GotRefused refusal) read (Reaches after' commit') refusal h.0 h.1 refl
-            by_got Fault z h = absurd (z refl)
-            by_got got z h = absurd h
+            by_got : (mode ≡ Passthrough → IsCleanSoFar shape.geometry more.0) → (got : Got) → (got ≢ Fault) → HasCome shape.geometry left more.0 None got after' commit' → Goes P A shape (after_it (ReadMetadata left) got (Reaches after' commit') devices) (n' (ReadMetadata left) got read)
+            by_got clean More z h = look_on more.0 read (Reaches after' commit') reached h.1 h.3
+            by_got clean Done z h = all_read more.0 clean reached h.2 h.0
+            by_got clean (GotRefused refusal) z h = look_stops (GotRefused refusal) read (Reaches after' commit') refusal h.0 h.1 refl
+            by_got clean Fault z h = absurd (z refl)
+            by_got clean got z h = absurd h
         looks got read (Reaches after' commit') (no_fault, inr more) = by_refusal more.0 more.3
           where
             by_refusal : (r : Refusal) → got ≡ got_of_refusal r → Goes P A shape (after_it (ReadMetadata left) got (Reaches after' commit') devices) (n' (ReadMetadata left) got read)

@@ -1,7 +1,7 @@
 -- One recursion over a run: what each kind of event leads to, and that every answer on the way is right.
 use Rattle.std.proofs.Common.{false, true, arith, ◌≡◌, ◌∙◌, inl, inr, ℕ, List, [], ◌∷◌, Option, Some, None, All, refl, sym, ap, subst, length, slice_get, slice_set}
 use Rattle.wb_types.specs.declared.mode.Mode.{Mode}
-use Rattle.wb_types.specs.declared.mode.Mode.TheVariants.{Writeback}
+use Rattle.wb_types.specs.declared.mode.Mode.TheVariants.{Writeback, Writethrough, Passthrough}
 use Rattle.wb_types.specs.declared.refusal.Refusal.{Refusal}
 use Rattle.wb_types.specs.declared.extent.Extent.{Extent}
 use Rattle.wb_types.specs.declared.mode.Dev.{Dev}
@@ -19,7 +19,7 @@ use Rattle.wb_tasks.specs.declared.step.Got.TheVariants.{Done, Fault}
 use Rattle.wb_devices.specs.declared.devices.Devices.{Devices}
 use Rattle.wb_devices.specs.declared.running.RunningCommit.{RunningCommit}
 use Rattle.wb_promise.specs.declared.job.Job.{Job}
-use Rattle.wb_promise.specs.declared.job.Job.TheVariants.{Read, Write, Open, Migrate, Flush, Suspend, Replace}
+use Rattle.wb_promise.specs.declared.job.Job.TheVariants.{Read, Write, Open, Migrate, Flush, Suspend, Replace, Invalidate}
 use Rattle.wb_promise.specs.declared.event.Event.{Event}
 use Rattle.wb_promise.specs.declared.event.Event.TheVariants.{Step, FaultStep, Start, Stop}
 use Rattle.wb_promise.specs.declared.event.What.{What}
@@ -33,12 +33,13 @@ use Rattle.wb_runs.specs.Laws.{AllAlong, IsCovered, DoingCovers, AnswerCovers, R
 use Rattle.wb_promise.specs.Latest.{IsGiven, GivesLatest, ReadsRightly, AllReadRightly}
 use Rattle.wb_runs.specs.Holding.{TaskSuits}
 use Rattle.wb_runs.proofs.Claims.{Noted}
-use Rattle.wb_runs.proofs.Linking.{TaskHere, InPhase}
+use Rattle.wb_runs.proofs.Linking.{TaskHere}
+use Rattle.wb_runs.proofs.Opening.{InPhase}
 use Rattle.wb_runs.proofs.LinkedRuns.{run_refuses, run_covers, all_skip, links_what}
 use Rattle.wb_promise.specs.Sealed.{SealsTell}
 use Rattle.wb_headline.proofs.Following.{Goes}
 use Rattle.wb_headline.proofs.Opened.{opening_keeps, opening_steps, opening_faults, opening_shows}
-use Rattle.wb_headline.proofs.Requests.{given_latest, read_steps, read_faults, write_steps, write_faults}
+use Rattle.wb_headline.proofs.Requests.{given_latest, read_steps, read_faults, write_steps, write_faults, invalidation_steps, invalidation_faults}
 use Rattle.wb_headline.proofs.Showing.{crash_consistent}
 use Rattle.wb_headline.proofs.Doings.{IsFault, what_noted}
 use Rattle.wb_headline.proofs.Keeping.{Keeping}
@@ -53,7 +54,7 @@ use Rattle.wb_runs.proofs.InsideRuns.{Inside, inside_what, want_inside}
 use Rattle.wb_headline.proofs.Kept.{at_nothing, fault_keeps, none_goes, none_rest, none_set, start_keeps, step_keeps}
 use Rattle.wb_headline.proofs.Targets.{never_replaces}
 use Rattle.wb_headline.proofs.Arriving.{crash_goes}
-use Rattle.wb_headline.proofs.Starts.{any_start, any_replacement, read_starts, write_starts, flush_starts, suspend_starts, opening_starts}
+use Rattle.wb_headline.proofs.Starts.{any_start, any_replacement, read_starts, write_starts, invalidation_starts, flush_starts, suspend_starts, opening_starts}
 use Rattle.wb_simulation.specs.Actors.{IsAmong, IsAmongOthers, AreAmongOthers}
 use Rattle.wb_headline.proofs.Commits.{commit_steps, commit_faults}
 use Rattle.wb_headline.proofs.Migrations.{any_step, any_fault}
@@ -86,6 +87,7 @@ module _ (P A : Type 0) (shape : Shape) where
         by_job : (job : Job) → x.task ≡ Some (job, plan) → (d : Noted shape t.desk.mode job plan (slice_get n.doings a)) → Gives shape (in_phase (Stands t)) x job next got read chosen → Stepped_to P A shape (in_phase (Stands t)) n a x job next got read chosen d.doing
         by_job (Read extent) xt d g = read_steps P A shape b.goes.images t commit devices actors n b.goes.known b.goes.followed b.used.here a x ex plan suits d.doing d.is extent xt d.job_is d.claim next got read chosen e g
         by_job (Write extent content) xt d g = write_steps P A shape b.goes.images t commit devices actors n b.goes.known b.goes.followed b.used.here a x ex plan suits d.doing d.is extent content xt d.job_is d.claim next got read chosen e g
+        by_job (Invalidate block) xt d g = invalidation_steps P A shape b.goes.images t commit devices actors n b.goes.known b.goes.followed b.used.here a x ex plan suits d.doing d.is block xt d.job_is next got read chosen e g
         by_job Flush xt d g = commit_steps P A shape b.goes.images t commit devices actors n b.goes.known b.goes.followed b.used.here b.used.suited b.keeping a x ex plan d.doing d.is suits false xt d.job_is next got read chosen (asked d.doing d.is) e g
         by_job Suspend xt d g = commit_steps P A shape b.goes.images t commit devices actors n b.goes.known b.goes.followed b.used.here b.used.suited b.keeping a x ex plan d.doing d.is suits true xt d.job_is next got read chosen (asked d.doing d.is) e g
         by_job (Open mode) xt d g = absurd (subst (λ (o : Option (Job × Plan)). TaskHere {P = P} {A = A} (Stands t) o) xt (b.linked.here a x ex))
@@ -120,6 +122,7 @@ module _ (P A : Type 0) (shape : Shape) where
         by_job : (job : Job) → x.task ≡ Some (job, plan) → (d : Noted shape t.desk.mode job plan (slice_get n.doings a)) → Faulted_to P A shape (in_phase (Stands t)) n a x choice job next read chosen d.doing
         by_job (Read extent) xt d = read_faults P A shape b.goes.images t commit devices actors n b.goes.known b.goes.followed b.used.here a x ex plan suits d.doing d.is extent xt d.job_is d.claim choice next read chosen e m g
         by_job (Write extent content) xt d = write_faults P A shape b.goes.images t commit devices actors n b.goes.known b.goes.followed b.used.here a x ex plan suits d.doing d.is extent content xt d.job_is d.claim choice next read chosen inside b.inside.cache b.inside.origin e m g
+        by_job (Invalidate block) xt d = invalidation_faults P A shape b.goes.images t commit devices actors n b.goes.known b.goes.followed b.used.here a x ex plan suits d.doing d.is block xt d.job_is choice next read chosen e m
         by_job Flush xt d = commit_faults P A shape b.goes.images t commit devices actors n b.goes.known b.goes.followed b.used.here b.used.suited b.keeping a x ex plan d.doing d.is suits false xt d.job_is choice next read chosen e m g
         by_job Suspend xt d = commit_faults P A shape b.goes.images t commit devices actors n b.goes.known b.goes.followed b.used.here b.used.suited b.keeping a x ex plan d.doing d.is suits true xt d.job_is choice next read chosen e m g
         by_job (Open mode) xt d = absurd (subst (λ (o : Option (Job × Plan)). TaskHere {P = P} {A = A} (Stands t) o) xt (b.linked.here a x ex))
@@ -159,7 +162,7 @@ module _ (P A : Type 0) (shape : Shape) where
 
   start_opening : (w : State P A) (n : Notes) → Whole P A shape w n → (a : ℕ) (x : Actor) (mode : Mode) (chosen : Chosen P A) → slice_get w.actors a ≡ Some x → (¬ IsOutOfPlace w.phase (Open mode)) → Begun_to w n a (Open mode) chosen
   start_opening w n b a x mode chosen ex place = put_there (cleared w (Open mode)) (put (starting n (Open mode)) a (Some (begun n (Open mode)))) a resting (Open mode) chosen (there_rests w.actors a x ex)
-      (opening_starts P A shape b.goes.images w n b.goes.known b.goes.followed a mode (given shape Writeback resting (Open mode) chosen) (λ o. place (inl o)) (λ o. place (inr o)) refl, none_set (all_resting w.actors) a (given shape Writeback resting (Open mode) chosen) (λ order h. absurd (omega (arith, h.1))) (none_rest w.actors))
+      (opening_starts P A shape b.goes.images w n b.goes.known b.goes.followed a mode (given shape Writeback resting (Open mode) chosen) place refl, none_set (all_resting w.actors) a (given shape Writeback resting (Open mode) chosen) (λ order h. absurd (omega (arith, h.1))) (none_rest w.actors))
 
   module _ (t : Target P) (commit : Option RunningCommit) (devices : Devices (List History)) (actors : List Actor) (n : Notes) (b : Whole P A shape (at_target P A shape t commit devices actors) n) (a : ℕ) (x : Actor) (ex : slice_get actors a ≡ Some x) (xt : x.task ≡ None) where
     abbrev w_now : State P A
@@ -181,6 +184,16 @@ module _ (P A : Type 0) (shape : Shape) where
       start_at_target (Open mode) chosen place g = start_opening w_now n b a x mode chosen ex place
       start_at_target (Read extent) (Cut cut) place g = goes_and (Read extent) (Cut cut) g (read_starts P A shape b.goes.images t commit devices actors n b.goes.known b.goes.followed a x ex xt extent cut among holds_none g.0 g.1)
       start_at_target (Write extent content) (Cut cut) place g = goes_and (Write extent content) (Cut cut) g (write_starts P A shape b.goes.images t commit devices actors n b.goes.known b.goes.followed a x ex xt extent content cut among holds_none g.0 g.1)
+      start_at_target (Invalidate block) Plain place g = goes_and (Invalidate block) Plain g (invalidation_starts P A shape b.goes.images t commit devices actors n b.goes.known b.goes.followed a x ex xt block among holds_none (passes place))
+        where
+          -- it is in place where the target passes through
+          passes : (¬ (¬ (t.desk.mode ≡ Passthrough))) → t.desk.mode ≡ Passthrough
+          passes not = by t.desk.mode refl not
+            where
+              by : (mode : Mode) → t.desk.mode ≡ mode → (¬ (¬ (mode ≡ Passthrough))) → t.desk.mode ≡ Passthrough
+              by Passthrough e not = e
+              by Writeback e not = absurd (not (λ f. absurd (cc)))
+              by Writethrough e not = absurd (not (λ f. absurd (cc)))
       start_at_target Flush Plain place g = goes_and Flush Plain g (flush_starts P A shape b.goes.images t commit devices actors n b.goes.known b.goes.followed a x ex xt [] among)
       start_at_target Suspend (Looks blocks) place g = goes_and Suspend (Looks blocks) g (suspend_starts P A shape b.goes.images t commit devices actors n b.goes.known b.goes.followed a x ex xt blocks (λ c z ez. at_nothing P A w_now c z ez (g.0 c)))
       start_at_target (Migrate migration block) chosen place g = goes_and (Migrate migration block) chosen g (any_start P A shape t commit devices actors n b a x ex xt among migration block chosen (its (Migrate migration block) chosen g))

@@ -1,6 +1,11 @@
 -- Each step of a read or a write, done or failing, and its answer, is followed; what a step of a read is given is the last entry of each of its
 -- sectors' histories.
 use Rattle.std.proofs.Common.{◌≡◌, ◌∙◌, ◌<◌, ◌≤◌, ◌+◌, ◌*◌, ◌%◌, ℕ, Bool, List, [], ◌∷◌, ◌++◌, Option, Some, None, refl, sym, ap, subst, arith, length, replicate, slice_get, slice_set, mul_comm, suc, All, true, false, cond}
+use Rattle.wb_types.specs.declared.number.OBlock.{OBlock}
+use Rattle.wb_headline.proofs.Passing.{unmap_goes}
+use Rattle.wb_runs.proofs.Passing.{write_own}
+use Rattle.wb_tasks.specs.declared.step.DeskStep.TheVariants.{Unmap}
+use Rattle.wb_simulation.proofs.Written.{job_written}
 use Rattle.std.proofs.Math.Nat.{mul-le-mul_right}
 use Rattle.std.proofs.lemmas.List.{length-set}
 use Rattle.std.proofs.lemmas.Nat.{div_below}
@@ -14,23 +19,23 @@ use Rattle.wb_policy.specs.declared.order.Order.{Order}
 use Rattle.wb_words.specs.SharedWords.{Words}
 use Rattle.wb_words.specs.Effects.{result_of, words_after}
 use Rattle.wb_words.specs.declared.step.CellStep.{CellStep}
-use Rattle.wb_tasks.specs.Tables.{BlockRange, Reading as ReadingPart, Writing as WritingPart, OnBlock, TaskJob}
+use Rattle.wb_tasks.specs.Tables.{BlockRange, Reading as ReadingPart, Invalidating as InvalidatingPart, OnBlock, TaskJob}
 use Rattle.wb_tasks.specs.Plan.{Plan, want, got_of, device_of}
 use Rattle.wb_tasks.specs.Ready.{Suits, HoldsBlocks, IsOwnStep}
 use Rattle.wb_tasks.specs.declared.step.Answer.{Answer}
 use Rattle.wb_tasks.specs.declared.step.Answer.TheVariants.{Done as Finished, Refused as Refuses}
 use Rattle.wb_tasks.specs.declared.step.DeviceStep.TheVariants.{Read as ReadExtent, Write as WriteExtent}
 use Rattle.wb_tasks.specs.declared.step.Want.{Want}
-use Rattle.wb_tasks.specs.declared.step.Want.TheVariants.{Cell, Device, End}
+use Rattle.wb_tasks.specs.declared.step.Want.TheVariants.{Cell, Device, End, Desk}
 use Rattle.wb_tasks.specs.declared.step.Got.{Got}
 use Rattle.wb_tasks.specs.declared.step.Got.TheVariants.{Done, Fault}
 use Rattle.wb_devices.specs.declared.devices.Devices.{Devices}
 use Rattle.wb_devices.specs.declared.running.RunningCommit.{RunningCommit}
 use Rattle.wb_devices.specs.Moving.{device_in}
 use Rattle.wb_promise.specs.declared.job.Job.{Job}
-use Rattle.wb_promise.specs.declared.job.Job.TheVariants.{Read, Write}
+use Rattle.wb_promise.specs.declared.job.Job.TheVariants.{Read, Write, Invalidate}
 use Rattle.wb_promise.specs.States.{Shape, State, Actor, Target, Stands, with_device, sector_count}
-use Rattle.wb_promise.specs.Happenings.{block_range, Chosen, Gives, Falters, MayFailAt}
+use Rattle.wb_promise.specs.Happenings.{block_range, Chosen, Gives, Falters, MayFailAt, write_job, Asks}
 use Rattle.wb_promise.specs.Effects.{actor_then, orders_then, awaiting_then, device_done, device_failed, stepped, seen_then}
 use Rattle.wb_runs.specs.Holding.{cards_of}
 use Rattle.wb_promise.specs.Clerk.{Notes, Doing, noted_step, device_note, failing, put, readings_from, sector_for, write_note, enter_each, entering, finished_note, all_raised, Entering, enter, is_entered}
@@ -40,10 +45,10 @@ use Rattle.wb_runs.proofs.Metadata.{MetadataKept}
 use Rattle.wb_runs.proofs.Extents.{may_start, some_sectors}
 use Rattle.wb_runs.proofs.Claims.{JobClaim}
 use Rattle.wb_link.specs.World.{abstract_after_all}
-use Rattle.wb_refines.specs.Translation.{job_for}
+use Rattle.wb_refines.specs.Translation.{job_for, writing_in, offsets}
 use Rattle.wb_simulation.specs.Noting.{NotesAgree}
 use Rattle.wb_simulation.specs.Noted.{told, AreNewest}
-use Rattle.wb_simulation.specs.Actors.{IsRequestAt}
+use Rattle.wb_simulation.specs.Actors.{IsRequestAt, write_of}
 use Rattle.wb_simulation.specs.Steps.{AreOfBlock}
 use Rattle.wb_simulation.specs.Telling.{Quietly, Reads, Writes, Answers}
 use Rattle.wb_simulation.specs.Worlds.{Stays, WorldFollows, zeros}
@@ -71,6 +76,7 @@ use Rattle.wb_runs.proofs.Stepping.{data_device}
 seen_still : (seen : List Bool) (job : Job) (next : Want) (got : Got) → IsRequestJob job → seen_then seen next got job ≡ seen
 seen_still seen (Read extent) next got q = refl
 seen_still seen (Write extent content) next got q = refl
+seen_still seen (Invalidate block) next got q = refl
 seen_still seen job next got q = absurd q
 
 module _ (P A : Type 0) (shape : Shape) (images : Images) (t : Target P) (commit : Option RunningCommit) (devices : Devices (List History)) (actors : List Actor) (n : Notes) (known : MetadataKept {P = P} {A = A} shape.geometry images (Stands t) commit devices.metadata)
@@ -98,12 +104,14 @@ module _ (P A : Type 0) (shape : Shape) (images : Images) (t : Target P) (commit
 orders_still : (orders awaiting : List Order) (job : Job) (answer : Answer) → IsRequestJob job → orders_then orders awaiting job (End answer) Done ≡ orders
 orders_still orders awaiting (Read extent) Finished q = refl
 orders_still orders awaiting (Write extent content) Finished q = refl
+orders_still orders awaiting (Invalidate block) Finished q = refl
 orders_still orders awaiting job (Refuses refusal) q = refl
 orders_still orders awaiting job answer q = absurd q
 
 awaiting_still : (orders awaiting : List Order) (job : Job) (answer : Answer) → IsRequestJob job → awaiting_then orders awaiting job (End answer) Done ≡ awaiting
 awaiting_still orders awaiting (Read extent) Finished q = refl
 awaiting_still orders awaiting (Write extent content) Finished q = refl
+awaiting_still orders awaiting (Invalidate block) Finished q = refl
 awaiting_still orders awaiting job (Refuses refusal) q = refl
 awaiting_still orders awaiting job answer q = absurd q
 
@@ -164,7 +172,7 @@ module _ (P A : Type 0) (shape : Shape) (images : Images) (t : Target P) (commit
     in_block : e.first % size P A shape + e.count ≤ size P A shape
     in_block =
         let b = beside P A shape images t commit devices actors n known f a x ex in
-        let r : IsRequestAt (size P A shape) content _ WritingPart plan x.card b.0 = doing_of (size P A shape) (most P A shape) t.words x b.0 (Write extent content) plan (f.phase.agrees.each a x b.0 ex b.1) xt in
+        let r : IsRequestAt (size P A shape) content _ write_of plan x.card b.0 = doing_of (size P A shape) (most P A shape) t.words x b.0 (Write extent content) plan (f.phase.agrees.each a x b.0 ex b.1) xt in
         let first = begins_by plan (Device (WriteExtent device e)) (sym next) (λ answer q. absurd (cc)) in
         (subst (λ (ws : List Want). AreOfBlock (size P A shape) r.part.block.0 ws) first.1 r.of_block).0.room
 
@@ -261,15 +269,23 @@ module _ (P A : Type 0) (shape : Shape) (images : Images) (t : Target P) (commit
       let b = beside P A shape images t commit devices actors n known f a x ex in
       subst (λ (k : Job). Goes P A shape (record { devices = devices; commit = commit; phase = Stands (record { words = t.words; desk = t.desk }); actors = slice_set actors a (actor_then {P = P} {A = A} shape (Stands t) devices x (End Finished) Done) }) (finished_note n a doing k shown)) (sym job_is)
       (answered_with (Read extent) q plan xt suits Finished next Finished of (put n a None) (length-set n.doings a None) refl g
-      (notes_followed.read_answered part.block.0 _ Stays a f.site.world _ _ g b.0 n f.notes b.1 (noted_within P A shape images t commit devices actors n known f a x ex) f.notes_agree))
+      (notes_followed.read_answered t.desk.mode part.block.0 _ Stays a f.site.world _ _ g b.0 n f.notes b.1 (noted_within P A shape images t commit devices actors n known f a x ex) f.notes_agree))
   answers (Write extent content) q plan xt suits job_is claim Finished next contents =
       let part = block_range shape t.desk.mode extent claim.cut in
-      let of = job_for (size P A shape) content (OnBlock (WritingPart part)) in
-      let g = subst (λ (k : TaskJob). WorldFollows (Answers (job_for (size P A shape) content k) Finished) a f.site.world (situation shape t devices actors) (record x { task = None })) claim.is_job (answer_follows (Write extent content) q plan xt suits Finished next) in
+      let of = writing_in t.desk.mode part.block.0 (offsets (size P A shape) part.extents) content in
+      let g = subst (λ (k : Rattle.wb_link.specs.Tables.Job). WorldFollows (Answers k Finished) a f.site.world (situation shape t devices actors) (record x { task = None })) (ap (λ (k : TaskJob). job_for (size P A shape) content k) claim.is_job ∙ job_written (size P A shape) content part) (answer_follows (Write extent content) q plan xt suits Finished next) in
       let b = beside P A shape images t commit devices actors n known f a x ex in
       subst (λ (k : Job). Goes P A shape (record { devices = devices; commit = commit; phase = Stands (record { words = t.words; desk = t.desk }); actors = slice_set actors a (actor_then {P = P} {A = A} shape (Stands t) devices x (End Finished) Done) }) (finished_note n a doing k shown)) (sym job_is)
       (answered_with (Write extent content) q plan xt suits Finished next Finished of (record n { finished = all_raised n.finished doing.entered; doings = slice_set n.doings a None }) (length-set n.doings a None) refl g
       (notes_followed.write_answered t.desk.mode part.block.0 _ content Stays a f.site.world _ _ g b.0 n f.notes b.1 (noted_within P A shape images t commit devices actors n known f a x ex) f.notes_agree doing noted))
+  answers (Invalidate block) q plan xt suits job_is claim Finished next contents =
+      let b = beside P A shape images t commit devices actors n known f a x ex in
+      let r : IsRequestAt (size P A shape) [] _ InvalidatingPart plan x.card b.0 = doing_of (size P A shape) (most P A shape) t.words x b.0 (Invalidate block) plan (f.phase.agrees.each a x b.0 ex b.1) xt in
+      let of = job_for (size P A shape) [] (OnBlock (InvalidatingPart r.part)) in
+      let g = subst (λ (k : TaskJob). WorldFollows (Answers (job_for (size P A shape) [] k) Finished) a f.site.world (situation shape t devices actors) (record x { task = None })) r.job (answer_follows (Invalidate block) q plan xt suits Finished next) in
+      subst (λ (k : Job). Goes P A shape (record { devices = devices; commit = commit; phase = Stands (record { words = t.words; desk = t.desk }); actors = slice_set actors a (actor_then {P = P} {A = A} shape (Stands t) devices x (End Finished) Done) }) (finished_note n a doing k shown)) (sym job_is)
+      (answered_with (Invalidate block) q plan xt suits Finished next Finished of (put n a None) (length-set n.doings a None) refl g
+      (notes_followed.invalidation_answered r.part.block.0 Stays a f.site.world _ _ g b.0 n f.notes b.1 (noted_within P A shape images t commit devices actors n known f a x ex) f.notes_agree))
   answers job q plan xt suits job_is claim Finished next contents = absurd q
 
 -- newest by block and offset is latest by sector
@@ -354,7 +370,7 @@ module _ (P A : Type 0) (shape : Shape) (images : Images) (t : Target P) (commit
 
   module _ (extent : Extent) (content : Bytes) (xt : x.task ≡ Some (Write extent content, plan)) (job_is : doing.job ≡ Write extent content) (claim : JobClaim shape t.desk.mode (Write extent content) plan doing) where
     abbrev of_write : TaskJob
-    of_write = OnBlock (WritingPart (block_range shape t.desk.mode extent claim.cut))
+    of_write = OnBlock (write_job t.desk.mode (block_range shape t.desk.mode extent claim.cut))
 
     pub write_steps : (next : Want) (got : Got) (read : List Bytes) (chosen : Chosen P A) → next ≡ want plan → Gives shape w x (Write extent content) next got read chosen → Done_by (Write extent content) next got read chosen
     write_steps (Cell step) got read chosen e g = subst (λ (v : Got). Done_by (Write extent content) (Cell step) v read chosen) (sym g.1)
@@ -363,8 +379,11 @@ module _ (P A : Type 0) (shape : Shape) (images : Images) (t : Target P) (commit
         (writes P A shape images t commit devices actors n known f a x ex [] doing noted extent content plan xt suits job_is claim d ex' e g.0 read g.3)
     write_steps (End answer) got read chosen e g = subst (λ (v : Got). Done_by (Write extent content) (End answer) v read chosen) (sym g.1) (subst (λ (c : Chosen P A). Done_by (Write extent content) (End answer) Done read c) (sym g.0.1)
         (answers P A shape images t commit devices actors n known f a x ex _ doing noted (Write extent content) tt plan xt suits job_is claim answer e read))
+    write_steps (Desk (Unmap bl)) got read (Asks new) e g = subst (λ (v : Got). Done_by (Write extent content) (Desk (Unmap bl)) v read (Asks new)) (sym g.1)
+        (unmap_goes P A shape images t commit devices actors n known f a x ex (Write extent content) tt plan xt suits bl new e g.2 refl)
+    write_steps (Desk (Unmap bl)) got read chosen e g = absurd g.2
     write_steps (Device (ReadExtent d ex')) got read chosen e g = absurd g
-    write_steps next got read chosen e g = absurd (own of_write next claim.is_job e)
+    write_steps next got read chosen e g = absurd (write_own t.desk.mode (block_range shape t.desk.mode extent claim.cut) next (own of_write next claim.is_job e))
 
     pub write_faults : (choice : Choice) (next : Want) (read : List Bytes) (chosen : Chosen P A) → StepInside shape next → (length devices.cache ≡ Rattle.wb_promise.specs.States.cache_sector_count shape) → (length devices.origin ≡ sector_count shape) → next ≡ want plan → MayFailAt devices choice next → Falters w choice next chosen → Failed_by choice (Write extent content) next read chosen
     write_faults choice (Device (WriteExtent d ex')) read chosen inside cs os e m g = subst (λ (c : Chosen P A). Failed_by choice (Write extent content) (Device (WriteExtent d ex')) read c) (sym g.0)
@@ -374,5 +393,29 @@ module _ (P A : Type 0) (shape : Shape) (images : Images) (t : Target P) (commit
         by Cache h i = subst (λ (k : ℕ). ex'.first + ex'.count ≤ k) (sym cs) i
         by Origin h i = subst (λ (k : ℕ). ex'.first + ex'.count ≤ k) (sym os) i
         by Metadata h i = absurd h
-    write_faults choice (Device step) read chosen inside cs os e m g = absurd (own of_write (Device step) claim.is_job e)
+    write_faults choice (Device step) read chosen inside cs os e m g = absurd (write_own t.desk.mode (block_range shape t.desk.mode extent claim.cut) (Device step) (own of_write (Device step) claim.is_job e))
     write_faults choice next read chosen inside cs os e m g = absurd m
+
+  -- ---- invalidations
+
+  module _ (block : OBlock) (xt : x.task ≡ Some (Invalidate block, plan)) (job_is : doing.job ≡ Invalidate block) where
+    -- what it is there
+    at_it : (part : BlockRange) × (plan.job ≡ OnBlock (InvalidatingPart part))
+    at_it =
+        let b = beside P A shape images t commit devices actors n known f a x ex in
+        let r : IsRequestAt (size P A shape) [] _ InvalidatingPart plan x.card b.0 = doing_of (size P A shape) (most P A shape) t.words x b.0 (Invalidate block) plan (f.phase.agrees.each a x b.0 ex b.1) xt in
+        (r.part, r.job)
+
+    pub invalidation_steps : (next : Want) (got : Got) (read : List Bytes) (chosen : Chosen P A) → next ≡ want plan → Gives shape w x (Invalidate block) next got read chosen → Done_by (Invalidate block) next got read chosen
+    invalidation_steps (Cell step) got read chosen e g = subst (λ (v : Got). Done_by (Invalidate block) (Cell step) v read chosen) (sym g.1)
+        (on_words P A shape images t commit devices actors n known f rule a x ex (Invalidate block) plan xt suits step tt e)
+    invalidation_steps (Desk (Unmap bl)) got read (Asks new) e g = subst (λ (v : Got). Done_by (Invalidate block) (Desk (Unmap bl)) v read (Asks new)) (sym g.1)
+        (unmap_goes P A shape images t commit devices actors n known f a x ex (Invalidate block) tt plan xt suits bl new e g.2 refl)
+    invalidation_steps (Desk (Unmap bl)) got read chosen e g = absurd g.2
+    invalidation_steps (End answer) got read chosen e g = subst (λ (v : Got). Done_by (Invalidate block) (End answer) v read chosen) (sym g.1) (subst (λ (c : Chosen P A). Done_by (Invalidate block) (End answer) Done read c) (sym g.0.1)
+        (answers P A shape images t commit devices actors n known f a x ex _ doing noted (Invalidate block) tt plan xt suits job_is tt answer e read))
+    invalidation_steps next got read chosen e g = absurd (own (OnBlock (InvalidatingPart at_it.0)) next at_it.1 e)
+
+    pub invalidation_faults : (choice : Choice) (next : Want) (read : List Bytes) (chosen : Chosen P A) → next ≡ want plan → MayFailAt devices choice next → Failed_by choice (Invalidate block) next read chosen
+    invalidation_faults choice (Device step) read chosen e m = absurd (own (OnBlock (InvalidatingPart at_it.0)) (Device step) at_it.1 e)
+    invalidation_faults choice next read chosen e m = absurd m

@@ -10,15 +10,15 @@ use Rattle.wb_types.specs.declared.mode.Mode.TheVariants.{Writeback, Passthrough
 use Rattle.wb_disk.specs.Device.{Content as Bytes, History}
 use Rattle.wb_words.specs.SharedWords.{flag}
 use Rattle.wb_words.specs.declared.card.Hold.TheVariants.{Nothing}
-use Rattle.wb_tasks.specs.Tables.{Reading as ReadingPart, Writing as WritingPart, OnBlock, whole_block}
+use Rattle.wb_tasks.specs.Tables.{Reading as ReadingPart, Invalidating as InvalidatingPart, OnBlock, whole_block}
 use Rattle.wb_tasks.specs.Plan.{Plan, table}
 use Rattle.wb_policy.specs.declared.order.Order.{Order}
 use Rattle.wb_devices.specs.declared.devices.Devices.{Devices}
 use Rattle.wb_devices.specs.declared.running.RunningCommit.{RunningCommit}
 use Rattle.wb_promise.specs.declared.job.Job.{Job}
-use Rattle.wb_promise.specs.declared.job.Job.TheVariants.{Read, Write, Flush, Suspend, Open, Migrate, Replace}
+use Rattle.wb_promise.specs.declared.job.Job.TheVariants.{Read, Write, Flush, Suspend, Open, Migrate, Replace, Invalidate}
 use Rattle.wb_promise.specs.States.{Shape, State, Actor, Target, Phase, Stands, Gone, Opens, OfTarget, resting, block_size}
-use Rattle.wb_promise.specs.Happenings.{blocks_left, block_range, extent_refusal, task_job, Chosen, Cut, Orders, StartGives, begun_as, order_for}
+use Rattle.wb_promise.specs.Happenings.{blocks_left, block_range, extent_refusal, task_job, Chosen, Cut, Orders, StartGives, begun_as, order_for, write_job, invalidated_range}
 use Rattle.wb_promise.specs.Effects.{all_resting, phase_given, given, unseen}
 use Rattle.wb_promise.specs.Clerk.{Notes, Doing, begun, put, nobody}
 use Rattle.wb_runs.proofs.Images.{Images, later_of}
@@ -79,10 +79,9 @@ use Rattle.wb_headline.proofs.Whole.{Whole, at_target}
 
 -- ---- the extents of a request are of its block
 
-pub part_of : (shape : Shape) (mode : Mode) → mode ≢ Passthrough → (extent : Extent) (cut : List Extent) → extent_refusal shape extent ≡ None → IsCutInto extent cut → IsPart (block_size shape) (block_range shape mode extent cut)
-part_of shape mode caches extent cut inside cuts = record {
+pub part_of : (shape : Shape) (mode : Mode) (extent : Extent) (cut : List Extent) → extent_refusal shape extent ≡ None → IsCutInto extent cut → IsPart (block_size shape) (block_range shape mode extent cut)
+part_of shape mode extent cut inside cuts = record {
   some = some_sectors shape extent m;
-  mode = caches;
   sized = refl;
   each = λ e c.
       let w = some_there extent cut all e c in
@@ -131,12 +130,18 @@ module _ (P A : Type 0) (shape : Shape) (images : Images) (t : Target P) (commit
   pub read_starts : (extent : Extent) (cut : List Extent) → AreAmongOthers actors → x.card.hold ≡ Nothing → extent_refusal shape extent ≡ None → IsCutInto extent cut →
       Goes P A shape (record { devices = devices; commit = commit; phase = Stands (record { words = t.words; desk = t.desk }); actors = slice_set actors a (record x { task = Some (Read extent, table (task_job shape t.desk.mode x.awaiting (Read extent) cut [])) }) }) (put n a (Some (begun n (Read extent))))
   read_starts extent cut among holds inside cuts = begins_so (Read extent) (table (task_job shape t.desk.mode x.awaiting (Read extent) cut [])) x.seen (job_for (size P A shape) [] (OnBlock (ReadingPart (block_range shape t.desk.mode extent cut))))
-      (starts_followed.read (situation shape t devices actors) a x extent (block_range shape t.desk.mode extent cut) f.site.world ex xt holds (part_of shape t.desk.mode f.phase.agrees.caches extent cut inside cuts) among f.phase.agrees)
+      (starts_followed.read (situation shape t devices actors) a x extent (block_range shape t.desk.mode extent cut) f.site.world ex xt holds (part_of shape t.desk.mode extent cut inside cuts) refl among f.phase.agrees)
 
   pub write_starts : (extent : Extent) (content : Bytes) (cut : List Extent) → AreAmongOthers actors → x.card.hold ≡ Nothing → extent_refusal shape extent ≡ None → IsCutInto extent cut →
       Goes P A shape (record { devices = devices; commit = commit; phase = Stands (record { words = t.words; desk = t.desk }); actors = slice_set actors a (record x { task = Some (Write extent content, table (task_job shape t.desk.mode x.awaiting (Write extent content) cut [])) }) }) (put n a (Some (begun n (Write extent content))))
-  write_starts extent content cut among holds inside cuts = begins_so (Write extent content) (table (task_job shape t.desk.mode x.awaiting (Write extent content) cut [])) x.seen (job_for (size P A shape) content (OnBlock (WritingPart (block_range shape t.desk.mode extent cut))))
-      (starts_followed.write (situation shape t devices actors) a x extent content (block_range shape t.desk.mode extent cut) f.site.world ex xt holds (part_of shape t.desk.mode f.phase.agrees.caches extent cut inside cuts) refl among f.phase.agrees)
+  write_starts extent content cut among holds inside cuts = begins_so (Write extent content) (table (task_job shape t.desk.mode x.awaiting (Write extent content) cut [])) x.seen (job_for (size P A shape) content (OnBlock (write_job t.desk.mode (block_range shape t.desk.mode extent cut))))
+      (starts_followed.write (situation shape t devices actors) a x extent content (block_range shape t.desk.mode extent cut) f.site.world ex xt holds (part_of shape t.desk.mode extent cut inside cuts) refl among f.phase.agrees)
+
+  -- an invalidation, in passthrough
+  pub invalidation_starts : (block : OBlock) → AreAmongOthers actors → x.card.hold ≡ Nothing → t.desk.mode ≡ Passthrough →
+      Goes P A shape (record { devices = devices; commit = commit; phase = Stands (record { words = t.words; desk = t.desk }); actors = slice_set actors a (record x { task = Some (Invalidate block, table (task_job shape t.desk.mode x.awaiting (Invalidate block) [] [])) }) }) (put n a (Some (begun n (Invalidate block))))
+  invalidation_starts block among holds passes = begins_so (Invalidate block) (table (task_job shape t.desk.mode x.awaiting (Invalidate block) [] [])) x.seen (job_for (size P A shape) [] (OnBlock (InvalidatingPart (invalidated_range shape block))))
+      (starts_followed.invalidate (situation shape t devices actors) a x block (invalidated_range shape block) f.site.world ex xt holds (record { some = omega (arith, shape.geometry.within.block_from); sized = refl; each = λ e c. absurd (omega (arith, c.1)) }) passes among f.phase.agrees)
 
   -- a flush
   pub flush_starts : (cut : List Extent) → AreAmongOthers actors → Goes P A shape (record { devices = devices; commit = commit; phase = Stands (record { words = t.words; desk = t.desk }); actors = slice_set actors a (record x { task = Some (Flush, table (task_job shape t.desk.mode x.awaiting Flush cut [])) }) }) (put n a (Some (begun n Flush)))
@@ -166,16 +171,16 @@ module _ (P A : Type 0) (shape : Shape) (images : Images) (w : State P A) (n : N
   may_open (Opens mode reading) e not = inl (subst (λ (q : Phase P A). Rattle.wb_headline.proofs.Following.PhaseFollows P A shape images q w.commit w.devices w.actors f.site) e f.phase).devices_follow.down
 
   -- an opening begins
-  pub opening_starts : (a : ℕ) (mode : Mode) (y : Actor) → (OfTarget w.phase (λ t. t.words.fail ≡ 0) → ⊥) → mode ≢ Passthrough → y.task ≡ Some (Open mode, table (task_job shape Writeback y.awaiting (Open mode) [] [])) →
+  pub opening_starts : (a : ℕ) (mode : Mode) (y : Actor) → (OfTarget w.phase (λ t. t.words.fail ≡ 0) → ⊥) → y.task ≡ Some (Open mode, table (task_job shape Writeback y.awaiting (Open mode) [] [])) →
       Goes P A shape (record { devices = w.devices; commit = None; phase = Opens mode None; actors = slice_set (all_resting w.actors) a y }) (put (record n { doings = nobody n.doings }) a (Some (begun n (Open mode))))
-  opening_starts a mode y not caches yt =
+  opening_starts a mode y not yt =
       let d = agreeing P A shape images w.phase w.commit w.devices w.actors f.site known f.phase in
       let l = openings_followed.begins shape.geometry (size P A shape) images.committed d.later mode f.site w.devices d.agree (may_open w.phase refl not) in
       let n' = put (record n { doings = nobody n.doings }) a (Some (begun n (Open mode))) in
       let same : SameSectors n n' = record { histories = refl; finished = refl; floors = refl; doings = length-set (nobody n.doings) a (Some (begun n (Open mode))) ∙ length-map n.doings (λ (o : Option Doing). None) } in
       let v = arrives P A shape images w n n' f same images.committed d.later (OpensThere mode Settling) w.devices l (λ e. absurd (cc)) in
       opens P A shape images d.later (OpensThere mode Settling) w.devices n' v (λ e. absurd (cc)) (slice_set (all_resting w.actors) a y)
-      (sized_so P A shape w.actors (slice_set (all_resting w.actors) a y) n n' same (length-set (all_resting w.actors) a y ∙ length-map w.actors (λ (z : Actor). resting)) f.sized) mode None None caches
+      (sized_so P A shape w.actors (slice_set (all_resting w.actors) a y) n n' same (length-set (all_resting w.actors) a y ∙ length-map w.actors (λ (z : Actor). resting)) f.sized) mode None None
       (kept_readable shape.geometry images w.devices.metadata P A w.phase w.commit known)
       (λ b z job plan e zt. elim (set_cases (all_resting w.actors) a b y z e) [
         | inl here ↦
@@ -306,7 +311,7 @@ module _ (P A : Type 0) (shape : Shape) (t : Target P) (commit : Option RunningC
         let s = g.site.world.shared in
         let less = slice_get_within t.desk.orders.slots c.0 None may.give.vacant in
         let h = migrations_followed.starts (situation shape t devices actors) a x migration block c next o cut g.site.world ex xt holds some (small c.0 less) cuts
-        (vacant_there t.desk.orders.slots c.0 may.give.vacant) of there (ungiven o block c next may named_by) waits given_there among g.phase.agrees in
+        (vacant_there t.desk.orders.slots c.0 may.give.vacant) of there (ungiven o block c next may named_by) waits given_there may.mode among g.phase.agrees in
         let s' = (abstract_after_all g.site.world h.records).shared in
         let turned = images_stay migration c.0 s s' h.turned in
         let readable = kept_readable shape.geometry b.goes.images devices.metadata P A (Stands t) commit b.goes.known in

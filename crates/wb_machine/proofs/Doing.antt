@@ -41,12 +41,12 @@ use Rattle.wb_devices.specs.Moving.{device_in}
 use Rattle.wb_stage.specs.Asking.{DidMap, DidUnmap, HasBegunWith, ended, DidRelease}
 use Rattle.wb_stage.specs.Stages.{DidAsk, DidBeginWith, EndsWith, IsServed, is_all_done}
 use Rattle.wb_promise.specs.declared.job.Job.{Job}
-use Rattle.wb_promise.specs.declared.job.Job.TheVariants.{Read, Write, Flush, Suspend, Open, Migrate, Replace}
+use Rattle.wb_promise.specs.declared.job.Job.TheVariants.{Read, Write, Flush, Suspend, Open, Invalidate, Migrate, Replace}
 use Rattle.wb_promise.specs.States.{Shape, Actor, Stands, Target as RunTarget, with_device}
 use Rattle.wb_promise.specs.Happenings.{Plain, Commits, Asks, AreWhole, DoesSync, FailsSync, Gives}
 use Rattle.wb_promise.specs.Effects.{contents_for, led}
 use Rattle.wb_machine.specs.declared.target.Target.{Target}
-use Rattle.wb_machine.specs.Serving.{Allows, DidAskFor, IsAskable, ComesNext, DoesOn, FailsAt, IsDoable, IsPossible, IsPut, MayBePut, Performs, PutsSector, DeskWasAsked, WasPut, IsCopy, Migrates, chosen_at, commit_by, noted_read, over, stood, target_told, GivesUp, is_clean}
+use Rattle.wb_machine.specs.Serving.{Allows, DidAskFor, IsAskable, ComesNext, DoesOn, FailsAt, IsDoable, IsPossible, IsPut, MayBePut, Performs, PutsSector, DeskWasAsked, WasPut, IsCopy, Migrates, Unmaps, chosen_at, commit_by, noted_read, over, stood, target_told, GivesUp, is_clean}
 use Rattle.wb_policy.specs.declared.order.Order.{Order}
 
 -- ---- devices
@@ -99,6 +99,7 @@ module _ (devices : Devices (List History)) (commit : Option RunningCommit) (dev
     }
     did_read (Replace old new) device e read can many each d c = absurd can.0
     did_read (Write extent content) device e read can many each d c = absurd can.0
+    did_read (Invalidate block) device e read can many each d c = absurd can.0
     did_read Flush device e read can many each d c = absurd can.0
     did_read Suspend device e read can many each d c = absurd can.0
     did_read (Open mode) device e read can many each d c = absurd can.0
@@ -107,6 +108,7 @@ module _ (devices : Devices (List History)) (commit : Option RunningCommit) (dev
         devices' ≡ with_device device devices (written_each (device_in device devices) e.first (contents_for job buffer e.count)) → commit' ≡ commit → DoesOn devices commit job buffer (WriteExtent device e) [] devices' commit'
     did_write (Read extent) device e can d c = absurd can.0
     did_write (Write extent content) device e can d c = record { gives = λ shape t actors x. (can.1, (refl, refl), refl, can.2); copies = tt; devices_are = d; commit_is = c }
+    did_write (Invalidate block) device e can d c = absurd can.0
     did_write (Migrate migration block) device e can d c = record { gives = λ shape t actors x. (can.1, (refl, refl), refl, can.2); copies = tt; devices_are = d; commit_is = c }
     did_write (Replace old new) device e can d c = absurd can.0
     did_write Flush device e can d c = absurd can.0
@@ -122,6 +124,7 @@ module _ (devices : Devices (List History)) (commit : Option RunningCommit) (dev
         DoesOn devices commit job buffer (Sync device) read devices' commit'
     did_sync (Read extent) Metadata read can r d c = record { gives = λ shape t actors x. (r, refl, syncs_so commit can t); copies = tt; devices_are = d; commit_is = c }
     did_sync (Write extent content) Metadata read can r d c = record { gives = λ shape t actors x. (r, refl, syncs_so commit can t); copies = tt; devices_are = d; commit_is = c }
+    did_sync (Invalidate block) Metadata read can r d c = record { gives = λ shape t actors x. (r, refl, syncs_so commit can t); copies = tt; devices_are = d; commit_is = c }
     did_sync Flush Metadata read can r d c = record { gives = λ shape t actors x. (r, refl, syncs_so commit can t); copies = tt; devices_are = d; commit_is = c }
     did_sync Suspend Metadata read can r d c = record { gives = λ shape t actors x. (r, refl, syncs_so commit can t); copies = tt; devices_are = d; commit_is = c }
     did_sync (Open mode) Metadata read can r d c = record { gives = λ shape t actors x. (r, refl, syncs_so commit can t); copies = tt; devices_are = d; commit_is = c }
@@ -129,6 +132,7 @@ module _ (devices : Devices (List History)) (commit : Option RunningCommit) (dev
     did_sync (Replace old new) Metadata read can r d c = record { gives = λ shape t actors x. (r, refl, syncs_so commit can t); copies = tt; devices_are = d; commit_is = c }
     did_sync (Read extent) Cache read can r d c = record { gives = λ shape t actors x. ((r, refl), refl); copies = tt; devices_are = d; commit_is = c }
     did_sync (Write extent content) Cache read can r d c = record { gives = λ shape t actors x. ((r, refl), refl); copies = tt; devices_are = d; commit_is = c }
+    did_sync (Invalidate block) Cache read can r d c = record { gives = λ shape t actors x. ((r, refl), refl); copies = tt; devices_are = d; commit_is = c }
     did_sync Flush Cache read can r d c = record { gives = λ shape t actors x. ((r, refl), refl); copies = tt; devices_are = d; commit_is = c }
     did_sync Suspend Cache read can r d c = record { gives = λ shape t actors x. ((r, refl), refl); copies = tt; devices_are = d; commit_is = c }
     did_sync (Open mode) Cache read can r d c = record { gives = λ shape t actors x. ((r, refl), refl); copies = tt; devices_are = d; commit_is = c }
@@ -136,6 +140,7 @@ module _ (devices : Devices (List History)) (commit : Option RunningCommit) (dev
     did_sync (Replace old new) Cache read can r d c = record { gives = λ shape t actors x. ((r, refl), refl); copies = tt; devices_are = d; commit_is = c }
     did_sync (Read extent) Origin read can r d c = record { gives = λ shape t actors x. ((r, refl), refl); copies = tt; devices_are = d; commit_is = c }
     did_sync (Write extent content) Origin read can r d c = record { gives = λ shape t actors x. ((r, refl), refl); copies = tt; devices_are = d; commit_is = c }
+    did_sync (Invalidate block) Origin read can r d c = record { gives = λ shape t actors x. ((r, refl), refl); copies = tt; devices_are = d; commit_is = c }
     did_sync Flush Origin read can r d c = record { gives = λ shape t actors x. ((r, refl), refl); copies = tt; devices_are = d; commit_is = c }
     did_sync Suspend Origin read can r d c = record { gives = λ shape t actors x. ((r, refl), refl); copies = tt; devices_are = d; commit_is = c }
     did_sync (Open mode) Origin read can r d c = record { gives = λ shape t actors x. ((r, refl), refl); copies = tt; devices_are = d; commit_is = c }
@@ -146,6 +151,7 @@ module _ (devices : Devices (List History)) (commit : Option RunningCommit) (dev
         DoesOn devices commit job buffer step read devices' commit'
     did_put (Read extent) (WriteNode number) read put r p d c = record { gives = λ shape t actors x. (r, refl, p); copies = tt; devices_are = d; commit_is = c }
     did_put (Write extent content) (WriteNode number) read put r p d c = record { gives = λ shape t actors x. (r, refl, p); copies = tt; devices_are = d; commit_is = c }
+    did_put (Invalidate block) (WriteNode number) read put r p d c = record { gives = λ shape t actors x. (r, refl, p); copies = tt; devices_are = d; commit_is = c }
     did_put Flush (WriteNode number) read put r p d c = record { gives = λ shape t actors x. (r, refl, p); copies = tt; devices_are = d; commit_is = c }
     did_put Suspend (WriteNode number) read put r p d c = record { gives = λ shape t actors x. (r, refl, p); copies = tt; devices_are = d; commit_is = c }
     did_put (Open mode) (WriteNode number) read put r p d c = record { gives = λ shape t actors x. (r, refl, p); copies = tt; devices_are = d; commit_is = c }
@@ -153,6 +159,7 @@ module _ (devices : Devices (List History)) (commit : Option RunningCommit) (dev
     did_put (Replace old new) (WriteNode number) read put r p d c = record { gives = λ shape t actors x. (r, refl, p); copies = tt; devices_are = d; commit_is = c }
     did_put (Read extent) WriteRoot read put r p d c = record { gives = λ shape t actors x. (r, refl, p); copies = tt; devices_are = d; commit_is = c }
     did_put (Write extent content) WriteRoot read put r p d c = record { gives = λ shape t actors x. (r, refl, p); copies = tt; devices_are = d; commit_is = c }
+    did_put (Invalidate block) WriteRoot read put r p d c = record { gives = λ shape t actors x. (r, refl, p); copies = tt; devices_are = d; commit_is = c }
     did_put Flush WriteRoot read put r p d c = record { gives = λ shape t actors x. (r, refl, p); copies = tt; devices_are = d; commit_is = c }
     did_put Suspend WriteRoot read put r p d c = record { gives = λ shape t actors x. (r, refl, p); copies = tt; devices_are = d; commit_is = c }
     did_put (Open mode) WriteRoot read put r p d c = record { gives = λ shape t actors x. (r, refl, p); copies = tt; devices_are = d; commit_is = c }
@@ -218,6 +225,7 @@ bits_of job seen = None
 no_bits : (job : Job) (seen : List Bool) → (job ≡ Suspend → ⊥) → bits_of job seen ≡ None
 no_bits (Read extent) seen n = refl
 no_bits (Write extent content) seen n = refl
+no_bits (Invalidate block) seen n = refl
 no_bits Flush seen n = refl
 no_bits Suspend seen n = absurd (n refl)
 no_bits (Open mode) seen n = refl
@@ -228,6 +236,7 @@ no_bits (Replace old new) seen n = refl
 not_clean : (job : Job) → (job ≡ Suspend → ⊥) → true ≡ is_clean job → ⊥
 not_clean (Read extent) n e = cc
 not_clean (Write extent content) n e = cc
+not_clean (Invalidate block) n e = cc
 not_clean Flush n e = cc
 not_clean Suspend n e = n refl
 not_clean (Open mode) n e = cc
@@ -252,6 +261,7 @@ module _ (desk : DeskState Quiet) (commit : Option RunningCommit) (desk' : DeskS
   pub asked_plainly : (with_entry : Quiet → ℕ → ℕ → Quiet) (without_entry : Quiet → ℕ → Quiet) (job : Job) (step : DeskStep) (got : Got) → (job ≡ Suspend → ⊥) → DidAsk with_entry without_entry held step got desk commit desk' commit' → DidAskFor job held seen step got desk commit desk' commit'
   asked_plainly enters leaves (Read extent) step got n did = (enters, leaves, did)
   asked_plainly enters leaves (Write extent content) step got n did = (enters, leaves, did)
+  asked_plainly enters leaves (Invalidate block) step got n did = (enters, leaves, did)
   asked_plainly enters leaves Flush step got n did = (enters, leaves, did)
   asked_plainly enters leaves Suspend step got n did = absurd (n refl)
   asked_plainly enters leaves (Open mode) step got n did = (enters, leaves, did)
@@ -277,6 +287,7 @@ module _ (desk : DeskState Quiet) (commit : Option RunningCommit) (desk' : DeskS
       by_job : (job : Job) → clean ≡ is_clean job → HasBegunWith hint_of (bits_of job seen) desk running.image (commit_begun desk desk'.tree) → (shape : Shape) (devices : Devices (List History)) (words : Words) (actors : List Actor) (x : Actor) → x.seen ≡ seen → Gives shape (stood devices commit (record { words = words; desk = desk }) actors) x job (Desk (BeginCommit clean most)) (Began nodes) [] (Commits running desk'.tree)
       by_job (Read extent) n h shape devices words actors x own = (refl, n, (few, many, steps, (hint_of, h), whole))
       by_job (Write extent content) n h shape devices words actors x own = (refl, n, (few, many, steps, (hint_of, h), whole))
+      by_job (Invalidate block) n h shape devices words actors x own = (refl, n, (few, many, steps, (hint_of, h), whole))
       by_job Flush n h shape devices words actors x own = (refl, n, (few, many, steps, (hint_of, h), whole))
       by_job Suspend n h shape devices words actors x own = (refl, n, (few, many, steps, (hint_of, subst (λ (bits : List Bool). HasBegunWith hint_of (Some bits) desk running.image (commit_begun desk desk'.tree)) (sym own) h), whole))
       by_job (Open mode) n h shape devices words actors x own = (refl, n, (few, many, steps, (hint_of, h), whole))
@@ -289,6 +300,7 @@ module _ (desk : DeskState Quiet) (commit : Option RunningCommit) (desk' : DeskS
       by_job : (job : Job) → clean ≡ is_clean job → (shape : Shape) (devices : Devices (List History)) (words : Words) (actors : List Actor) (x : Actor) → Gives shape (stood devices commit (record { words = words; desk = desk }) actors) x job (Desk (BeginCommit clean most)) (GotRefused refusal) [] Plain
       by_job (Read extent) n shape devices words actors x = (refl, n, refused)
       by_job (Write extent content) n shape devices words actors x = (refl, n, refused)
+      by_job (Invalidate block) n shape devices words actors x = (refl, n, refused)
       by_job Flush n shape devices words actors x = (refl, n, refused)
       by_job Suspend n shape devices words actors x = (refl, n, refused)
       by_job (Open mode) n shape devices words actors x = (refl, n, refused)
@@ -301,6 +313,7 @@ module _ (desk : DeskState Quiet) (commit : Option RunningCommit) (desk' : DeskS
       by_job : (shape : Shape) (devices : Devices (List History)) (words : Words) (actors : List Actor) (x : Actor) (job : Job) → Gives shape (stood devices commit (record { words = words; desk = desk }) actors) x job (Desk EndCommit) Done [] Plain
       by_job shape devices words actors x (Read extent) = ((refl, refl), refl, done)
       by_job shape devices words actors x (Write extent content) = ((refl, refl), refl, done)
+      by_job shape devices words actors x (Invalidate block) = ((refl, refl), refl, done)
       by_job shape devices words actors x Flush = ((refl, refl), refl, done)
       by_job shape devices words actors x Suspend = ((refl, refl), refl, done)
       by_job shape devices words actors x (Open mode) = ((refl, refl), refl, done)
@@ -325,13 +338,18 @@ module _ (desk : DeskState Quiet) (commit : Option RunningCommit) (desk' : DeskS
   did_map with_entry (Migrate migration block) b c got m f did k = absurd did
   did_map with_entry job b c got m f did k = absurd m
 
-  -- or it is unmapped, where the desk has it and its order lets it go
-  did_unmap : (without_entry : Quiet → ℕ → Quiet) (job : Job) (b : OBlock) → Migrates job → DidUnmap without_entry b desk desk' → commit' ≡ commit → DeskWasAsked desk commit job held seen (Unmap b) Done desk' commit'
-  did_unmap without_entry (Migrate migration block) b m did k = record { chosen = Asks desk'; gives = λ shape devices words actors x own. (refl, refl, (λ may. left may (did.0 may), did.1)); desk_is = refl; commit_is = k }
+  -- a block is unmapped, where the desk has it and its order lets it go
+  did_unmap : (without_entry : Quiet → ℕ → Quiet) (job : Job) (b : OBlock) → Unmaps job → DidUnmap without_entry b desk desk' → commit' ≡ commit → DeskWasAsked desk commit job held seen (Unmap b) Done desk' commit'
+  did_unmap without_entry job b m did k = record { chosen = Asks desk'; gives = λ shape devices words actors x own. by_job job m shape devices words actors x; desk_is = refl; commit_is = k }
     where
       left : (may : MayUnmap desk b) → HasLeft without_entry desk b may.cache desk' → HasLeft (λ policy block. desk'.policy) desk b may.cache desk'
       left may l = (l.0, l.1 ∙ ap (λ (p : Quiet). unmapped desk may.cache desk'.tree p) (sym (ap (λ (d : DeskState Quiet). d.policy) l.1)))
-  did_unmap without_entry job b m did k = absurd m
+
+      by_job : (job : Job) → Unmaps job → (shape : Shape) (devices : Devices (List History)) (words : Words) (actors : List Actor) (x : Actor) → Gives shape (stood devices commit (record { words = words; desk = desk }) actors) x job (Desk (Unmap b)) Done [] (Asks desk')
+      by_job (Migrate migration block) m shape devices words actors x = (refl, refl, (λ may. left may (did.0 may), did.1))
+      by_job (Write extent content) m shape devices words actors x = (refl, refl, (λ may. left may (did.0 may), did.1))
+      by_job (Invalidate block) m shape devices words actors x = (refl, refl, (λ may. left may (did.0 may), did.1))
+      by_job job m shape devices words actors x = absurd m
 
   -- or an order of those that the job may give up is
   did_release : (job : Job) (b : OBlock) → GivesUp job → DidRelease held b desk desk' → commit' ≡ commit → DeskWasAsked desk commit job held seen (ReleaseOrder b) Done desk' commit'
@@ -365,6 +383,7 @@ module _ (desk : DeskState Quiet) (commit : Option RunningCommit) (desk' : DeskS
       ((nodes : ℕ) (running : RunningCommit) → got ≡ Began nodes → commit' ≡ Some running → AreWhole running.image) → DidAskFor job held seen step got desk commit desk' commit' → DeskWasAsked desk commit job held seen step got desk' commit'
   did_ask (Read extent) step got askable enough fits whole did = did_plainly did.0 did.1 (Read extent) step got (λ e. cc) askable enough fits whole did.2
   did_ask (Write extent content) step got askable enough fits whole did = did_plainly did.0 did.1 (Write extent content) step got (λ e. cc) askable enough fits whole did.2
+  did_ask (Invalidate block) step got askable enough fits whole did = did_plainly did.0 did.1 (Invalidate block) step got (λ e. cc) askable enough fits whole did.2
   did_ask Flush step got askable enough fits whole did = did_plainly did.0 did.1 Flush step got (λ e. cc) askable enough fits whole did.2
   did_ask Suspend step got askable enough fits whole did = did_suspend step got askable enough fits whole did
   did_ask (Open mode) step got askable enough fits whole did = did_plainly did.0 did.1 (Open mode) step got (λ e. cc) askable enough fits whole did.2
@@ -381,6 +400,7 @@ module _ (devices : Devices (List History)) (old : Target) (a : ℕ) (held : Lis
       no_copy : (job : Job) → IsCopy devices job (Cell step) read
       no_copy (Read extent) = tt
       no_copy (Write extent content) = tt
+      no_copy (Invalidate block) = tt
       no_copy Flush = tt
       no_copy Suspend = tt
       no_copy (Open mode) = tt
@@ -390,6 +410,7 @@ module _ (devices : Devices (List History)) (old : Target) (a : ℕ) (held : Lis
       by_job : (shape : Shape) (actors : List Actor) (x : Actor) (job : Job) → Gives shape (over devices old actors) x job (Cell step) got (noted_read job (Cell step) read) Plain
       by_job shape actors x (Read extent) = ((r, refl), g)
       by_job shape actors x (Write extent content) = ((r, refl), g)
+      by_job shape actors x (Invalidate block) = ((r, refl), g)
       by_job shape actors x Flush = ((r, refl), g)
       by_job shape actors x Suspend = ((r, refl), g)
       by_job shape actors x (Open mode) = ((r, refl), g)
@@ -402,6 +423,7 @@ module _ (devices : Devices (List History)) (old : Target) (a : ℕ) (held : Lis
       no_copy : (job : Job) → IsCopy devices job (End answer) read
       no_copy (Read extent) = tt
       no_copy (Write extent content) = tt
+      no_copy (Invalidate block) = tt
       no_copy Flush = tt
       no_copy Suspend = tt
       no_copy (Open mode) = tt
@@ -411,6 +433,7 @@ module _ (devices : Devices (List History)) (old : Target) (a : ℕ) (held : Lis
       by_job : (shape : Shape) (actors : List Actor) (x : Actor) (job : Job) (answer : Answer) → IsPossible devices old.commit job (End answer) → Gives shape (over devices old actors) x job (End answer) Done (noted_read job (End answer) read) Plain
       by_job shape actors x (Read extent) answer can = ((r, refl), refl)
       by_job shape actors x (Write extent content) answer can = ((r, refl), refl)
+      by_job shape actors x (Invalidate block) answer can = ((r, refl), refl)
       by_job shape actors x Flush answer can = ((r, refl), refl)
       by_job shape actors x Suspend answer can = ((r, refl), refl)
       by_job shape actors x (Migrate migration block) answer can = ((r, refl), refl)
@@ -438,6 +461,7 @@ module _ (devices : Devices (List History)) (old : Target) (a : ℕ) (held : Lis
       nothing : (job : Job) → [] ≡ noted_read job (Desk step) []
       nothing (Read extent) = refl
       nothing (Write extent content) = refl
+      nothing (Invalidate block) = refl
       nothing Flush = refl
       nothing Suspend = refl
       nothing (Open mode) = refl
@@ -447,6 +471,7 @@ module _ (devices : Devices (List History)) (old : Target) (a : ℕ) (held : Lis
       no_copy : (job : Job) → IsCopy devices job (Desk step) []
       no_copy (Read extent) = tt
       no_copy (Write extent content) = tt
+      no_copy (Invalidate block) = tt
       no_copy Flush = tt
       no_copy Suspend = tt
       no_copy (Open mode) = tt

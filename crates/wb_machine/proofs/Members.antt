@@ -6,7 +6,7 @@ use Rattle.wb_words.specs.declared.card.Card.{Card}
 use Rattle.wb_words.specs.Cards.{blank_card}
 use Rattle.wb_tasks.specs.Plan.{Plan}
 use Rattle.wb_promise.specs.declared.job.Job.{Job}
-use Rattle.wb_promise.specs.declared.job.Job.TheVariants.{Read, Write, Flush, Suspend, Open, Migrate, Replace}
+use Rattle.wb_promise.specs.declared.job.Job.TheVariants.{Read, Write, Flush, Suspend, Open, Invalidate, Migrate, Replace}
 use Rattle.wb_promise.specs.States.{Actor, resting}
 use Rattle.wb_promise.specs.Happenings.{OfSome}
 use Rattle.wb_machine.specs.Members.{Member, free, is_at_work, is_suspend, is_to_suspend, seat, suspends, with_cards as seated, works_there}
@@ -139,6 +139,7 @@ suspends_so m e = by_task m.task e
     by_job : (job : Job) → is_suspend job ≡ true → job ≡ Suspend
     by_job (Read extent) e = absurd (cc)
     by_job (Write extent content) e = absurd (cc)
+    by_job (Invalidate block) e = absurd (cc)
     by_job Flush e = absurd (cc)
     by_job Suspend e = refl
     by_job (Open mode) e = absurd (cc)

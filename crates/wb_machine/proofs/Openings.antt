@@ -1,5 +1,5 @@
 -- What an event does to an opening is what wb_promise says.
-use Rattle.std.proofs.Common.{◌≡◌, ◌≢◌, ◌≤◌, ◌<◌, ◌⊎◌, not, inl, inr, ℕ, zero, suc, Bool, true, false, List, [], ◌∷◌, Option, Some, None, refl, sym, ap, subst, ◌∙◌, arith, slice_get, slice_set, length, length-set, replicate}
+use Rattle.std.proofs.Common.{◌≡◌, ◌≢◌, ◌≤◌, ◌<◌, not, inl, inr, ℕ, zero, suc, Bool, true, false, List, [], ◌∷◌, Option, Some, None, refl, sym, ap, subst, ◌∙◌, arith, slice_get, slice_set, length, length-set, replicate}
 use Rattle.std.proofs.lemmas.Option.{slice_get_past}
 use Rattle.std.proofs.lemmas.Bool.{cases_eq, eqb-false, eqb-true}
 use Rattle.std.specs.Bool.{OnTrue, OnFalse}
@@ -7,7 +7,6 @@ use Rattle.std.specs.declared.alloc.Global.{Global}
 use Rattle.wb_types.specs.declared.geometry.Geometry.{Geometry}
 use Rattle.wb_words.specs.SharedWords.{flag}
 use Rattle.wb_types.specs.declared.mode.Mode.{Mode}
-use Rattle.wb_types.specs.declared.mode.Mode.TheVariants.{Writeback, Writethrough, Passthrough}
 use Rattle.wb_types.specs.declared.mode.Dev.{Dev}
 use Rattle.wb_types.specs.declared.mode.Dev.TheVariants.{Metadata, Cache, Origin}
 use Rattle.wb_policy.specs.declared.quiet.Quiet.{Quiet}
@@ -162,17 +161,15 @@ begun_state : (n : ℕ) (devices : Devices Memory) (o : Phase) → IsThere n o �
     state_of n devices (Underway new) ≡ record { devices = contents_of devices; commit = None; phase = Opens mode None; actors = slice_set (all_resting (actors_of n o)) a (opening_actor mode plan) }
 begun_state n devices o t a mode plan new e f g k = rw (e, f, g, k, all_rest n o t) refl
 
-no_standing : (g : Geometry) (n : ℕ) (o : Phase) (mode : Mode) → mode ≢ Passthrough → StandsSo g n o → is_sound o ≡ false → ((OfTarget (phase_of o) (λ t. t.words.fail ≡ 0)) ⊎ (mode ≡ Passthrough)) → ⊥
-no_standing g n o mode other s f (inr d) = other d
-no_standing g n Closed mode other s f (inl t) = t
-no_standing g n (Underway o) mode other s f (inl t) = t
-no_standing g n (Standing x members) mode other s f (inl t) = has_not x.failed f (s.failed ∙ ap flag t)
+no_standing : (g : Geometry) (n : ℕ) (o : Phase) → StandsSo g n o → is_sound o ≡ false → OfTarget (phase_of o) (λ t. t.words.fail ≡ 0) → ⊥
+no_standing g n Closed s f t = t
+no_standing g n (Underway o) s f t = t
+no_standing g n (Standing x members) s f t = has_not x.failed f (s.failed ∙ ap flag t)
 
 module _ (shape : Shape) (devices : Devices Memory) (n : ℕ) (o : Phase) (is_there : IsThere n o) (so : StandsSo shape.geometry n o) (a : ℕ) (h : a < n) (i : has_task a o ≡ false) (alone : is_suspending o ≡ false) (calm : is_sound o ≡ false) where
-  -- an opening in any mode but passthrough
-  starts_in : (mode : Mode) (what : What) (new : Opener) → mode ≢ Passthrough → new.asked ≡ record { actor = a; mode = mode } → new.task ≡ table (Opening shape.geometry.meta_sectors) → reading_of new ≡ None → new.opening.commit ≡ None → what ≡ Started →
+  starts_in : (mode : Mode) (what : What) (new : Opener) → new.asked ≡ record { actor = a; mode = mode } → new.task ≡ table (Opening shape.geometry.meta_sectors) → reading_of new ≡ None → new.opening.commit ≡ None → what ≡ Started →
       Happens shape (state_of n devices o) (Start a (Open mode)) what [] (state_of n devices (Underway new))
-  starts_in mode what new other e f g k s = rw s (record {
+  starts_in mode what new e f g k s = rw s (record {
     chosen = Plain;
     may = (refl, applies, tt);
     leads = begun_state n devices o is_there a mode (table (Opening shape.geometry.meta_sectors)) new e f g k ∙ sym given;
@@ -189,12 +186,11 @@ module _ (shape : Shape) (devices : Devices Memory) (n : ℕ) (o : Phase) (is_th
       applies (inl none) = let inside = within n o is_there a h in let is = inside.1 in absurd (cc)
       applies (inr (inl t)) = idle n o a (λ doing. Unit {0}) i t
       applies (inr (inr (inl s))) = nobody_suspends devices n o is_there alone s
-      applies (inr (inr (inr p))) = no_standing shape.geometry n o mode other so calm p
+      applies (inr (inr (inr p))) = no_standing shape.geometry n o so calm p
 
   pub starts : (job : Job) (mode : Mode) (what : What) (new : Opener) → opened_in job ≡ Some mode → new.asked ≡ record { actor = a; mode = mode } → new.task ≡ table (Opening shape.geometry.meta_sectors) → reading_of new ≡ None → new.opening.commit ≡ None → what ≡ Started →
       Happens shape (state_of n devices o) (Start a job) what [] (state_of n devices (Underway new))
-  starts (Open Writeback) mode what new j e f g k s = let same : Writeback ≡ mode = cc in starts_in Writeback what new (λ p. cc) (rw same e) f g k s
-  starts (Open Writethrough) mode what new j e f g k s = let same : Writethrough ≡ mode = cc in starts_in Writethrough what new (λ p. cc) (rw same e) f g k s
+  starts (Open mode) opened what new j e f g k s = let same : mode ≡ opened = cc in starts_in mode what new (rw same e) f g k s
   starts job mode what new j e f g k s = absurd (cc)
 
 -- ---- steps of who opens
@@ -261,15 +257,15 @@ module _ (shape : Shape) (n : ℕ) (devices devices' : Devices Memory) (o new : 
   fails choice step what other kind next e m t r c d = absurd (cc)
 
   pub reads : (left : ℕ) (was : ReadSteps Global) (got : Got) (what : What) → want o.task ≡ Device (ReadMetadata left) → what ≡ Stepped (Device (ReadMetadata left)) got → (reading_of o) ≡ Some was →
-      DoesRead {P = Quiet} shape.geometry left was devices.metadata.contents None got (Reaches (reading_of new) new.opening.commit) → new.task ≡ after o.task got → contents_of devices' ≡ contents_of devices → Happens shape (w None) (Step o.asked.actor) what [] (state_of n devices' (Underway new))
+      DoesRead {P = Quiet} o.asked.mode shape.geometry left was devices.metadata.contents None got (Reaches (reading_of new) new.opening.commit) → new.task ≡ after o.task got → contents_of devices' ≡ contents_of devices → Happens shape (w None) (Step o.asked.actor) what [] (state_of n devices' (Underway new))
   reads left was got what next e present does t d = rw e (record {
     chosen = Reaches (reading_of new) new.opening.commit;
     may = busy n o _ h (sym next, (refl, refl, of_reading (reading_of o) present));
     leads = next_state _ _ _ _ d refl refl t ∙ sym (leads None (Device (ReadMetadata left)) got (Reaches (reading_of new) new.opening.commit) (λ job buffer step. device_done {P = Quiet} {A = Global} job buffer step (Reaches (reading_of new) new.opening.commit)));
   })
     where
-      of_reading : (reading : Option (ReadSteps Global)) → reading ≡ Some was → OfReading {P = Quiet} (Opens o.asked.mode reading) (λ mode r. DoesRead {P = Quiet} shape.geometry left r devices.metadata.contents None got (Reaches (reading_of new) new.opening.commit))
-      of_reading reading e = subst (λ x. OfReading {P = Quiet} (Opens o.asked.mode x) (λ mode r. DoesRead {P = Quiet} shape.geometry left r devices.metadata.contents None got (Reaches (reading_of new) new.opening.commit))) (sym e) does
+      of_reading : (reading : Option (ReadSteps Global)) → reading ≡ Some was → OfReading {P = Quiet} (Opens o.asked.mode reading) (λ mode r. DoesRead {P = Quiet} mode shape.geometry left r devices.metadata.contents None got (Reaches (reading_of new) new.opening.commit))
+      of_reading reading e = subst (λ x. OfReading {P = Quiet} (Opens o.asked.mode x) (λ mode r. DoesRead {P = Quiet} mode shape.geometry left r devices.metadata.contents None got (Reaches (reading_of new) new.opening.commit))) (sym e) does
 
   -- the root is written
   pub puts : (c : RunningCommit) (what : What) → want o.task ≡ Device WriteRoot → what ≡ Stepped (Device WriteRoot) Done → goes_on (length devices.metadata.contents) c.image c.steps WriteRoot ≡ true →

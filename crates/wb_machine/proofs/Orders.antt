@@ -11,7 +11,7 @@ use Rattle.wb_tasks.specs.Plan.{Plan, table}
 use Rattle.wb_tasks.specs.Tables.{whole_block}
 use Rattle.wb_tasks.specs.declared.step.Migration.TheVariants.{Demote}
 use Rattle.wb_promise.specs.declared.job.Job.{Job}
-use Rattle.wb_promise.specs.declared.job.Job.TheVariants.{Read, Write, Flush, Suspend, Open, Migrate, Replace}
+use Rattle.wb_promise.specs.declared.job.Job.TheVariants.{Read, Write, Flush, Suspend, Open, Invalidate, Migrate, Replace}
 use Rattle.wb_promise.specs.declared.event.What.{What}
 use Rattle.wb_promise.specs.declared.event.What.TheVariants.{Refused, Started}
 use Rattle.wb_promise.specs.States.{Shape, block_size}
@@ -51,6 +51,7 @@ module _ (shape : Shape) (desk : DeskState Quiet) (m : Member) (job : Job) where
 pub refused_request : (shape : Shape) (desk : DeskState Quiet) (m : Member) (job : Job) (refusal : Refusal) → job_refusal shape job ≡ Some refusal → GetsJob shape desk m job (Refused refusal) desk m
 refused_request shape desk m (Read extent) refusal e = record { chosen = Plain; gives = λ words card. e; leaves = (refl, refl) }
 refused_request shape desk m (Write extent content) refusal e = record { chosen = Plain; gives = λ words card. e; leaves = (refl, refl) }
+refused_request shape desk m (Invalidate block) refusal e = record { chosen = Plain; gives = λ words card. e; leaves = (refl, refl) }
 refused_request shape desk m Flush refusal e = absurd (cc)
 refused_request shape desk m Suspend refusal e = absurd (cc)
 refused_request shape desk m (Open mode) refusal e = absurd (cc)
@@ -63,6 +64,7 @@ refused_busy shape desk m (Migrate migration block) desk' m' e t = record { chos
 refused_busy shape desk m (Replace old new) desk' m' e t = record { chosen = Plain; gives = λ words card. (t.0, λ may. t.1 may.0 (ReplaceOrder old new may.0) refl may.1); leaves = (t.2, t.3) }
 refused_busy shape desk m (Read extent) desk' m' e t = absurd (cc)
 refused_busy shape desk m (Write extent content) desk' m' e t = absurd (cc)
+refused_busy shape desk m (Invalidate block) desk' m' e t = absurd (cc)
 refused_busy shape desk m Flush desk' m' e t = absurd (cc)
 refused_busy shape desk m Suspend desk' m' e t = absurd (cc)
 refused_busy shape desk m (Open mode) desk' m' e t = absurd (cc)
@@ -79,6 +81,7 @@ begins shape desk m job = table (task_job shape desk.mode m.awaiting job (cut_fo
 pub started_request : (shape : Shape) (desk : DeskState Quiet) (m : Member) (job : Job) (plan : Plan) → starts_beside job ≡ true → is_ordered job ≡ false → job_refusal shape job ≡ None → plan ≡ begins shape desk m job → GetsJob shape desk m job Started desk (tasked m (begun_as job) plan)
 started_request shape desk m (Read extent) plan w o r p = record { chosen = Cut (cut_for shape (Read extent)); gives = λ words card. (r, pieces_cut 1 extent (omega arith)); leaves = (refl, ap (λ (x : Plan). tasked m (Read extent) x) p) }
 started_request shape desk m (Write extent content) plan w o r p = record { chosen = Cut (cut_for shape (Write extent content)); gives = λ words card. (r, pieces_cut 1 extent (omega arith)); leaves = (refl, ap (λ (x : Plan). tasked m (Write extent content) x) p) }
+started_request shape desk m (Invalidate block) plan w o r p = record { chosen = Plain; gives = λ words card. r; leaves = (refl, ap (λ (x : Plan). tasked m (Invalidate block) x) p) }
 started_request shape desk m Flush plan w o r p = record { chosen = Plain; gives = λ words card. tt; leaves = (refl, ap (λ (x : Plan). tasked m Flush x) p) }
 started_request shape desk m Suspend plan w o r p = absurd (cc)
 started_request shape desk m (Open mode) plan w o r p = absurd (cc)
@@ -126,6 +129,7 @@ started_ordered shape desk m (Replace old new) desk' m' plan e t p = elim t [
 ]
 started_ordered shape desk m (Read extent) desk' m' plan e t p = absurd (cc)
 started_ordered shape desk m (Write extent content) desk' m' plan e t p = absurd (cc)
+started_ordered shape desk m (Invalidate block) desk' m' plan e t p = absurd (cc)
 started_ordered shape desk m Flush desk' m' plan e t p = absurd (cc)
 started_ordered shape desk m Suspend desk' m' plan e t p = absurd (cc)
 started_ordered shape desk m (Open mode) desk' m' plan e t p = absurd (cc)

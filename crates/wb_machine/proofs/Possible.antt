@@ -21,7 +21,7 @@ use Rattle.wb_devices.specs.declared.devices.Devices.{Devices}
 use Rattle.wb_devices.specs.declared.running.RunningCommit.{RunningCommit}
 use Rattle.wb_devices.specs.Moving.{device_in}
 use Rattle.wb_promise.specs.declared.job.Job.{Job}
-use Rattle.wb_promise.specs.declared.job.Job.TheVariants.{Read, Write, Flush, Suspend, Open, Migrate, Replace}
+use Rattle.wb_promise.specs.declared.job.Job.TheVariants.{Read, Write, Flush, Suspend, Open, Invalidate, Migrate, Replace}
 use Rattle.wb_promise.specs.States.{Shape, Actor, Stands, Target as RunTarget}
 use Rattle.wb_promise.specs.Happenings.{Chosen, Puts, Opened, OfSome, DoesOpen, DoesPut, DoesSync, Gives}
 use Rattle.wb_runs.specs.Holding.{AreUsedRightly}
@@ -69,6 +69,7 @@ module _ (shape : Shape) (devices : Devices (List History)) (commit : Option Run
   reads : (job : Job) (device : Dev) (e : Extent) → G job (Device (ReadExtent device e)) → IsDoable devices commit job (ReadExtent device e)
   reads (Read extent) device e g = (tt, g.0, λ l. extent_inside (device_in device devices) read e g.3 g.4 l)
   reads (Write extent content) device e g = absurd g
+  reads (Invalidate block) device e g = absurd g
   reads Flush device e g = absurd g
   reads Suspend device e g = absurd g
   reads (Open mode) device e g = absurd g
@@ -78,6 +79,7 @@ module _ (shape : Shape) (devices : Devices (List History)) (commit : Option Run
   writes : (job : Job) (device : Dev) (e : Extent) → G job (Device (WriteExtent device e)) → IsDoable devices commit job (WriteExtent device e)
   writes (Read extent) device e g = absurd g
   writes (Write extent content) device e g = (tt, g.0, g.3)
+  writes (Invalidate block) device e g = absurd g
   writes Flush device e g = absurd g
   writes Suspend device e g = absurd g
   writes (Open mode) device e g = absurd g
@@ -87,6 +89,7 @@ module _ (shape : Shape) (devices : Devices (List History)) (commit : Option Run
   syncs : (job : Job) → G job (Device (Sync Metadata)) → ComesNext commit (Sync Metadata) devices.metadata
   syncs (Read extent) g = syncs_next t commit devices.metadata chosen g.2
   syncs (Write extent content) g = syncs_next t commit devices.metadata chosen g.2
+  syncs (Invalidate block) g = syncs_next t commit devices.metadata chosen g.2
   syncs Flush g = syncs_next t commit devices.metadata chosen g.2
   syncs Suspend g = syncs_next t commit devices.metadata chosen g.2
   syncs (Open mode) g = syncs_next t commit devices.metadata chosen g.2
@@ -96,6 +99,7 @@ module _ (shape : Shape) (devices : Devices (List History)) (commit : Option Run
   writes_node : (job : Job) (number : ℕ) → G job (Device (WriteNode number)) → ComesNext commit (WriteNode number) devices.metadata
   writes_node (Read extent) number g = puts_next commit (WriteNode number) devices.metadata chosen g.2
   writes_node (Write extent content) number g = puts_next commit (WriteNode number) devices.metadata chosen g.2
+  writes_node (Invalidate block) number g = puts_next commit (WriteNode number) devices.metadata chosen g.2
   writes_node Flush number g = puts_next commit (WriteNode number) devices.metadata chosen g.2
   writes_node Suspend number g = puts_next commit (WriteNode number) devices.metadata chosen g.2
   writes_node (Open mode) number g = puts_next commit (WriteNode number) devices.metadata chosen g.2
@@ -105,6 +109,7 @@ module _ (shape : Shape) (devices : Devices (List History)) (commit : Option Run
   writes_root : (job : Job) → G job (Device WriteRoot) → ComesNext commit WriteRoot devices.metadata
   writes_root (Read extent) g = puts_next commit WriteRoot devices.metadata chosen g.2
   writes_root (Write extent content) g = puts_next commit WriteRoot devices.metadata chosen g.2
+  writes_root (Invalidate block) g = puts_next commit WriteRoot devices.metadata chosen g.2
   writes_root Flush g = puts_next commit WriteRoot devices.metadata chosen g.2
   writes_root Suspend g = puts_next commit WriteRoot devices.metadata chosen g.2
   writes_root (Open mode) g = puts_next commit WriteRoot devices.metadata chosen g.2
@@ -114,6 +119,7 @@ module _ (shape : Shape) (devices : Devices (List History)) (commit : Option Run
   reads_metadata : (job : Job) (left : ℕ) → G job (Device (ReadMetadata left)) → ⊥
   reads_metadata (Read extent) left g = g.2
   reads_metadata (Write extent content) left g = g.2
+  reads_metadata (Invalidate block) left g = g.2
   reads_metadata Flush left g = g.2
   reads_metadata Suspend left g = g.2
   reads_metadata (Open mode) left g = g.2
@@ -123,6 +129,7 @@ module _ (shape : Shape) (devices : Devices (List History)) (commit : Option Run
   asks : (job : Job) (step : DeskStep) → G job (Desk step) → IsAskable commit job step
   asks (Read extent) (BeginCommit clean most) g = g.1
   asks (Write extent content) (BeginCommit clean most) g = g.1
+  asks (Invalidate block) (BeginCommit clean most) g = g.1
   asks Flush (BeginCommit clean most) g = g.1
   asks Suspend (BeginCommit clean most) g = g.1
   asks (Open mode) (BeginCommit clean most) g = g.1
@@ -130,6 +137,7 @@ module _ (shape : Shape) (devices : Devices (List History)) (commit : Option Run
   asks (Replace old new) (BeginCommit clean most) g = g.1
   asks (Read extent) EndCommit g = g.2
   asks (Write extent content) EndCommit g = g.2
+  asks (Invalidate block) EndCommit g = g.2
   asks Flush EndCommit g = g.2
   asks Suspend EndCommit g = g.2
   asks (Open mode) EndCommit g = g.2
@@ -138,9 +146,12 @@ module _ (shape : Shape) (devices : Devices (List History)) (commit : Option Run
   asks (Migrate migration block) (Map b c) g = tt
   asks (Migrate migration block) (ReleaseOrder b) g = tt
   asks (Migrate migration block) (Unmap b) g = tt
+  asks (Write extent content) (Unmap b) g = tt
+  asks (Invalidate block) (Unmap b) g = tt
   asks Flush (ReleaseOrder b) g = tt
   asks (Read extent) step g = absurd g
   asks (Write extent content) step g = absurd g
+  asks (Invalidate block) step g = absurd g
   asks Flush step g = absurd g
   asks Suspend step g = absurd g
   asks (Open mode) step g = absurd g
@@ -149,6 +160,7 @@ module _ (shape : Shape) (devices : Devices (List History)) (commit : Option Run
   ends : (job : Job) → G job (End Finished) → ¬ Opens job
   ends (Read extent) g = λ o. o
   ends (Write extent content) g = λ o. o
+  ends (Invalidate block) g = λ o. o
   ends Flush g = λ o. o
   ends Suspend g = λ o. o
   ends (Migrate migration block) g = λ o. o

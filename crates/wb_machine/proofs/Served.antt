@@ -6,6 +6,7 @@ use Rattle.wb_types.specs.declared.mode.Dev.TheVariants.{Metadata, Cache, Origin
 use Rattle.wb_types.specs.declared.number.OBlock.{OBlock}
 use Rattle.wb_types.specs.declared.number.CBlock.{CBlock}
 use Rattle.wb_types.specs.declared.mode.Mode.{Mode}
+use Rattle.wb_types.specs.declared.mode.Mode.TheVariants.{Writeback, Writethrough, Passthrough}
 use Rattle.wb_disk.specs.Device.{Content as Bytes, History}
 use Rattle.wb_disk.specs.Crash.{Choice}
 use Rattle.wb_words.specs.Cards.{blank_card}
@@ -16,6 +17,7 @@ use Rattle.wb_words.specs.declared.step.CellStep.TheVariants.{Look}
 use Rattle.wb_words.specs.declared.card.Card.{Card}
 use Rattle.wb_cells.specs.Crews.{CrewState}
 use Rattle.wb_policy.specs.declared.order.Order.{Order}
+use Rattle.wb_policy.specs.Situations.{is_passthrough}
 use Rattle.wb_policy.specs.declared.quiet.Quiet.{Quiet}
 use Rattle.wb_desk.specs.Commits.{commit_ended}
 use Rattle.wb_desk.specs.Desks.{DeskState}
@@ -32,7 +34,7 @@ use Rattle.wb_tasks.specs.declared.step.Got.TheVariants.{Done, Fault, Refused as
 use Rattle.wb_devices.specs.declared.devices.Devices.{Devices}
 use Rattle.wb_devices.specs.declared.running.RunningCommit.{RunningCommit}
 use Rattle.wb_promise.specs.declared.job.Job.{Job}
-use Rattle.wb_promise.specs.declared.job.Job.TheVariants.{Read, Write, Flush, Suspend, Open, Migrate, Replace}
+use Rattle.wb_promise.specs.declared.job.Job.TheVariants.{Read, Write, Flush, Suspend, Open, Invalidate, Migrate, Replace}
 use Rattle.wb_promise.specs.declared.event.Event.TheVariants.{Start, Step, FaultStep}
 use Rattle.wb_promise.specs.declared.event.What.{What}
 use Rattle.wb_promise.specs.declared.event.What.TheVariants.{Skipped, Refused, Started, Stepped, Stopped}
@@ -41,7 +43,7 @@ use Rattle.wb_promise.specs.Happenings.{Chosen, Plain, Cut, Orders, Looks, Begin
 use Rattle.wb_promise.specs.Effects.{after_what, asked_desk, begun_desk, card_then, commit_then, desk_then, devices_then, given, job_of, phase_given, seen_then, task_then, went, words_then}
 use Rattle.wb_runs.proofs.Desks.{is_live, is_unmappable}
 use Rattle.wb_machine.specs.declared.target.Target.{Target}
-use Rattle.wb_machine.specs.Life.{Now, Happens, starts_beside, wants_target}
+use Rattle.wb_machine.specs.Life.{Now, Happens, starts_beside, suits_mode, wants_target}
 use Rattle.wb_machine.specs.Members.{HasBits, Member, free, seat, with_cards}
 use Rattle.wb_machine.specs.Serving.{member_given, MemberFails, FailsOrRests, GetsJob, IsPassed, Leads, LeavesStarted, NothingFails, Starts, StartsIf, Steps, MemberSteps, chosen_at, commit_by, crew_then, desk_given, done_by, failed_by, member_then, noted_read, over, stood, target_told}
 use Rattle.wb_machine.specs.Standing.{AllRoomy, AllowsImages, HasRoom, IsRoomy}
@@ -59,23 +61,39 @@ nobody_there actors a P e h = subst (λ (o : Option Actor). OfSome o P) e h
 
 -- ---- a start over a target
 
--- a job is in its place over a target that nobody suspends, for who is at nothing
-pub in_place : (devices : Devices (List History)) (t : Target) (actors : List Actor) (a : ℕ) (job : Job) (x : Actor) → wants_target job ≡ true → (IsSuspending (over devices t actors) → ⊥) → slice_get actors a ≡ Some x → x.task ≡ None → DoesNotApply (over devices t actors) (Start a job) → ⊥
-in_place devices t actors a job x w alone at e (inl none) = absurd (let some = at in cc)
-in_place devices t actors a job x w alone at e (inr (inl h)) = subst (λ (o : Option (Job × Plan)). OfSome o (λ d. Unit {0})) e (subst (λ (o : Option Actor). OfSome o (λ (y : Actor). OfSome y.task (λ d. Unit {0}))) at h)
-in_place devices t actors a job x w alone at e (inr (inr (inl s))) = alone s
-in_place devices t actors a (Read extent) x w alone at e (inr (inr (inr f))) = f tt
-in_place devices t actors a (Write extent content) x w alone at e (inr (inr (inr f))) = f tt
-in_place devices t actors a Flush x w alone at e (inr (inr (inr f))) = f tt
-in_place devices t actors a Suspend x w alone at e (inr (inr (inr f))) = f tt
-in_place devices t actors a (Open mode) x w alone at e (inr (inr (inr f))) = absurd (cc)
-in_place devices t actors a (Migrate migration block) x w alone at e (inr (inr (inr f))) = f tt
-in_place devices t actors a (Replace old new) x w alone at e (inr (inr (inr f))) = f tt
+-- the mode is passthrough, or it is not
+passes_by : (mode : Mode) → is_passthrough mode ≡ true → mode ≡ Passthrough
+passes_by Passthrough e = refl
+passes_by Writeback e = absurd (cc)
+passes_by Writethrough e = absurd (cc)
+
+caches : (mode : Mode) → is_passthrough mode ≡ false → mode ≡ Passthrough → ⊥
+caches mode e p = let bad : true ≡ false = sym (ap is_passthrough p) ∙ e in cc
+
+-- one that does not suit it is out of place
+pub out_of_mode : (devices : Devices (List History)) (t : Target) (actors : List Actor) (a : ℕ) (job : Job) → suits_mode job t.desk.mode ≡ false → DoesNotApply (over devices t actors) (Start a job)
+out_of_mode devices t actors a (Invalidate block) e = inr (inr (inr (caches t.desk.mode e)))
+out_of_mode devices t actors a job e = absurd (cc)
+
+-- a job that suits the mode of a target is in its place over it where nobody suspends it, for who is at nothing
+pub in_place : (devices : Devices (List History)) (t : Target) (actors : List Actor) (a : ℕ) (job : Job) (x : Actor) → wants_target job ≡ true → suits_mode job t.desk.mode ≡ true → (IsSuspending (over devices t actors) → ⊥) → slice_get actors a ≡ Some x → x.task ≡ None → DoesNotApply (over devices t actors) (Start a job) → ⊥
+in_place devices t actors a job x w fits alone at e (inl none) = absurd (let some = at in cc)
+in_place devices t actors a job x w fits alone at e (inr (inl h)) = subst (λ (o : Option (Job × Plan)). OfSome o (λ d. Unit {0})) e (subst (λ (o : Option Actor). OfSome o (λ (y : Actor). OfSome y.task (λ d. Unit {0}))) at h)
+in_place devices t actors a job x w fits alone at e (inr (inr (inl s))) = alone s
+in_place devices t actors a (Read extent) x w fits alone at e (inr (inr (inr f))) = f tt
+in_place devices t actors a (Write extent content) x w fits alone at e (inr (inr (inr f))) = f tt
+in_place devices t actors a (Invalidate block) x w fits alone at e (inr (inr (inr f))) = f (passes_by t.desk.mode fits)
+in_place devices t actors a Flush x w fits alone at e (inr (inr (inr f))) = f tt
+in_place devices t actors a Suspend x w fits alone at e (inr (inr (inr f))) = f tt
+in_place devices t actors a (Open mode) x w fits alone at e (inr (inr (inr f))) = absurd (cc)
+in_place devices t actors a (Migrate migration block) x w fits alone at e (inr (inr (inr f))) = f tt
+in_place devices t actors a (Replace old new) x w fits alone at e (inr (inr (inr f))) = f tt
 
 -- a job that starts whatever the others are at is one of a target, and starts so
 of_target : (job : Job) → starts_beside job ≡ true → wants_target job ≡ true
 of_target (Read extent) b = refl
 of_target (Write extent content) b = refl
+of_target (Invalidate block) b = refl
 of_target Flush b = refl
 of_target Suspend b = refl
 of_target (Open mode) b = absurd (cc)
@@ -85,6 +103,7 @@ of_target (Replace old new) b = refl
 starts_as : (shape : Shape) (w : Now) (a : ℕ) (job : Job) (what : What) (chosen : Chosen Quiet Global) → starts_beside job ≡ true → StartGives shape w.phase (slice_get w.actors a) job what chosen → StartsAs shape w a job what chosen
 starts_as shape w a (Read extent) what chosen b g = g
 starts_as shape w a (Write extent content) what chosen b g = g
+starts_as shape w a (Invalidate block) what chosen b g = g
 starts_as shape w a Flush what chosen b g = g
 starts_as shape w a Suspend what chosen b g = absurd (cc)
 starts_as shape w a (Open mode) what chosen b g = absurd (cc)
@@ -95,6 +114,7 @@ starts_as shape w a (Replace old new) what chosen b g = g
 phase_so : (words : Words) (desk : DeskState Quiet) (job : Job) (chosen : Chosen Quiet Global) → Stands (record { words = words; desk = desk_given desk job chosen }) ≡ phase_given {P = Quiet} {A = Global} (Stands (record { words = words; desk = desk })) job chosen
 phase_so words desk (Read extent) chosen = refl
 phase_so words desk (Write extent content) chosen = refl
+phase_so words desk (Invalidate block) chosen = refl
 phase_so words desk Flush chosen = refl
 phase_so words desk Suspend chosen = refl
 phase_so words desk (Open mode) chosen = refl
@@ -124,6 +144,7 @@ pub given_so : (shape : Shape) (devices : Devices (List History)) (t : Target) (
     over devices (record t { desk = desk_given t.desk job chosen }) (slice_set actors a (given {P = Quiet} {A = Global} shape t.desk.mode x job chosen)) ≡ after_what shape (over devices t actors) (Start a job) Started chosen
 given_so shape devices t actors a x (Read extent) chosen w at = rw at refl
 given_so shape devices t actors a x (Write extent content) chosen w at = rw at refl
+given_so shape devices t actors a x (Invalidate block) chosen w at = rw at refl
 given_so shape devices t actors a x Flush chosen w at = rw at refl
 given_so shape devices t actors a x Suspend chosen w at = rw at refl
 given_so shape devices t actors a x (Open mode) chosen w at = absurd (cc)
@@ -163,12 +184,12 @@ module _ (shape : Shape) (devices : Devices (List History)) (t : Target) (member
   -- ---- a start
 
   -- a start that is not skipped
-  job_starts : (job : Job) (what : What) (desk' : DeskState Quiet) → starts_beside job ≡ true → (IsSuspending before → ⊥) → m.task ≡ None → GetsJob shape t.desk m job what desk' new →
+  job_starts : (job : Job) (what : What) (desk' : DeskState Quiet) → starts_beside job ≡ true → suits_mode job t.desk.mode ≡ true → (IsSuspending before → ⊥) → m.task ≡ None → GetsJob shape t.desk m job what desk' new →
       Happens shape before (Start a job) what [] (over devices (record t { desk = desk' }) (with_cards (slice_set members a new) t.crew.cards))
-  job_starts job what desk' b alone e g = by_what what g.gives g.leaves
+  job_starts job what desk' b fits alone e g = by_what what g.gives g.leaves
     where
       applies : DoesNotApply before (Start a job) → ⊥
-      applies = in_place devices t actors a job x (of_target job b) alone at e
+      applies = in_place devices t actors a job x (of_target job b) fits alone at e
 
       starts : (what : What) → ((words : Words) (card : Card) → StartGives shape (Stands (record { words = words; desk = t.desk })) (Some (seat m card)) job what g.chosen) → StartsAs shape before a job what g.chosen
       starts what gives = starts_as shape before a job what g.chosen b (subst (λ (o : Option Actor). StartGives shape before.phase o job what g.chosen) (sym at) (gives t.crew.words x.card))
@@ -195,13 +216,13 @@ module _ (shape : Shape) (devices : Devices (List History)) (t : Target) (member
   passed_so : (job : Job) (what : What) (desk' : DeskState Quiet) → DoesNotApply before (Start a job) → IsPassed t.desk m what desk' new → Happens shape before (Start a job) what [] (over devices (record t { desk = desk' }) (with_cards (slice_set members a new) t.crew.cards))
   passed_so job what desk' d p = rw (ap (λ (k : DeskState Quiet). over devices (record t { desk = k }) (with_cards (slice_set members a new) t.crew.cards)) p.desk_is ∙ stays p.member_is) (passes shape before (Start a job) what d p.what_is)
 
-  pub start_happens : (job : Job) (what : What) (desk' : DeskState Quiet) → starts_beside job ≡ true → (IsSuspending before → ⊥) → Starts shape t.desk m job what desk' new →
+  pub start_happens : (job : Job) (what : What) (desk' : DeskState Quiet) → starts_beside job ≡ true → suits_mode job t.desk.mode ≡ true → (IsSuspending before → ⊥) → Starts shape t.desk m job what desk' new →
       Happens shape before (Start a job) what [] (over devices (record t { desk = desk' }) (with_cards (slice_set members a new) t.crew.cards))
-  start_happens job what desk' b alone s = by_task m.task refl s
+  start_happens job what desk' b fits alone s = by_task m.task refl s
     where
       by_task : (o : Option (Job × Plan)) → m.task ≡ o → StartsIf (is_none o) shape t.desk m job what desk' new →
           Happens shape before (Start a job) what [] (over devices (record t { desk = desk' }) (with_cards (slice_set members a new) t.crew.cards))
-      by_task None e s = job_starts job what desk' b alone e s
+      by_task None e s = job_starts job what desk' b fits alone e s
       by_task (Some doing) e s = passed_so job what desk' (inr (inl (works doing e (λ y d. Unit {0}) tt))) s
 
   -- ---- a step
@@ -331,13 +352,15 @@ module _ (shape : Shape) (devices : Devices (List History)) (commit : Option Run
   desk_sizes (Migrate migration block) (Desk (Map b c)) g = map_sizes t.desk b c got chosen g.1
   desk_sizes (Read extent) (Desk (Map b c)) g = absurd g
   desk_sizes (Write extent content) (Desk (Map b c)) g = absurd g
+  desk_sizes (Invalidate block) (Desk (Map b c)) g = absurd g
   desk_sizes Flush (Desk (Map b c)) g = absurd g
   desk_sizes Suspend (Desk (Map b c)) g = absurd g
   desk_sizes (Open mode) (Desk (Map b c)) g = absurd g
   desk_sizes (Replace old new) (Desk (Map b c)) g = absurd g
   desk_sizes (Migrate migration block) (Desk (Unmap b)) g = unmap_sizes t.desk b chosen g.2
   desk_sizes (Read extent) (Desk (Unmap b)) g = absurd g
-  desk_sizes (Write extent content) (Desk (Unmap b)) g = absurd g
+  desk_sizes (Write extent content) (Desk (Unmap b)) g = unmap_sizes t.desk b chosen g.2
+  desk_sizes (Invalidate block) (Desk (Unmap b)) g = unmap_sizes t.desk b chosen g.2
   desk_sizes Flush (Desk (Unmap b)) g = absurd g
   desk_sizes Suspend (Desk (Unmap b)) g = absurd g
   desk_sizes (Open mode) (Desk (Unmap b)) g = absurd g
@@ -345,6 +368,7 @@ module _ (shape : Shape) (devices : Devices (List History)) (commit : Option Run
   desk_sizes (Migrate migration block) (Desk (ReleaseOrder b)) g = release_sizes t.desk actor.orders b chosen g.2
   desk_sizes (Read extent) (Desk (ReleaseOrder b)) g = absurd g
   desk_sizes (Write extent content) (Desk (ReleaseOrder b)) g = absurd g
+  desk_sizes (Invalidate block) (Desk (ReleaseOrder b)) g = absurd g
   desk_sizes Suspend (Desk (ReleaseOrder b)) g = absurd g
   desk_sizes Flush (Desk (ReleaseOrder b)) g = release_sizes t.desk actor.awaiting b chosen g.2
   desk_sizes (Open mode) (Desk (ReleaseOrder b)) g = absurd g
@@ -406,6 +430,7 @@ start_sizes shape desk m job what desk' m' s = by_test (is_none m.task) s
     given_sizes (Replace old new) (Opened policy) = refl
     given_sizes (Read extent) chosen = refl
     given_sizes (Write extent content) chosen = refl
+    given_sizes (Invalidate block) chosen = refl
     given_sizes Flush chosen = refl
     given_sizes Suspend chosen = refl
     given_sizes (Open mode) chosen = refl
@@ -442,6 +467,7 @@ as_many_seen next got seen = refl
 bits_then : (cache_blocks : ℕ) (seen : List Bool) (next : Want) (got : Got) (job : Job) → HasBits cache_blocks seen job → HasBits cache_blocks (seen_then seen next got job) job
 bits_then cache_blocks seen next got (Read extent) h = tt
 bits_then cache_blocks seen next got (Write extent content) h = tt
+bits_then cache_blocks seen next got (Invalidate block) h = tt
 bits_then cache_blocks seen next got Flush h = tt
 bits_then cache_blocks seen next got Suspend h = as_many_seen next got seen ∙ h
 bits_then cache_blocks seen next got (Open mode) h = tt
@@ -476,6 +502,7 @@ no_more n = omega arith
 pub given_roomy : (shape : Shape) (mode : Mode) (m : Member) (job : Job) (chosen : Chosen Quiet Global) → IsRoomy shape.geometry.cache_blocks (member_given shape mode m job chosen)
 given_roomy shape mode m (Read extent) chosen = (tt, tt)
 given_roomy shape mode m (Write extent content) chosen = (tt, tt)
+given_roomy shape mode m (Invalidate block) chosen = (tt, tt)
 given_roomy shape mode m Flush chosen = (no_more (node_count shape.geometry.cache_blocks), tt)
 given_roomy shape mode m Suspend chosen = (no_more (node_count shape.geometry.cache_blocks), length_replicate shape.geometry.cache_blocks false)
 given_roomy shape mode m (Open opened_in) chosen = (tt, tt)

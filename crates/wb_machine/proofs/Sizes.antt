@@ -19,7 +19,7 @@ use Rattle.wb_tasks.specs.declared.step.Want.TheVariants.{Cell, Device, Desk, En
 use Rattle.wb_tasks.specs.declared.step.Got.{Got}
 use Rattle.wb_devices.specs.declared.devices.Devices.{Devices}
 use Rattle.wb_promise.specs.declared.job.Job.{Job}
-use Rattle.wb_promise.specs.declared.job.Job.TheVariants.{Read, Write, Flush, Suspend, Migrate, Open, Replace}
+use Rattle.wb_promise.specs.declared.job.Job.TheVariants.{Read, Write, Flush, Suspend, Migrate, Open, Invalidate, Replace}
 use Rattle.wb_promise.specs.declared.event.Event.{Event}
 use Rattle.wb_promise.specs.declared.event.Event.TheVariants.{Start, Step, FaultStep, Stop}
 use Rattle.wb_promise.specs.declared.event.What.{What}
@@ -70,6 +70,7 @@ module _ (shape : Shape) (w : Now) (actor : Actor) (got : Got) (read : List Byte
   read_plain : (job : Job) (device : Dev) (e : Rattle.wb_types.specs.declared.extent.Extent.Extent) → Gives shape w actor job (Device (ReadExtent device e)) got read chosen → chosen ≡ Plain
   read_plain (Read extent) device e g = g.1
   read_plain (Write extent content) device e g = absurd g
+  read_plain (Invalidate block) device e g = absurd g
   read_plain Flush device e g = absurd g
   read_plain Suspend device e g = absurd g
   read_plain (Open mode) device e g = absurd g

@@ -2,10 +2,11 @@
 use Rattle.std.proofs.Common.{◌≡◌, ◌≢◌, ◌≤◌, ◌⊎◌, ◌+◌, ◌-◌, inl, inr, ℕ, Bool, true, false, List, Option, Some, None, refl, sym, ap, subst, ◌∙◌, arith, length}
 use Rattle.std.specs.declared.alloc.Global.{Global}
 use Rattle.wb_types.specs.declared.geometry.Geometry.{Geometry}
+use Rattle.wb_types.specs.declared.mode.Mode.{Mode}
 use Rattle.wb_types.specs.declared.mode.Dev.{Dev}
 use Rattle.wb_types.specs.declared.mode.Dev.TheVariants.{Metadata, Cache, Origin}
 use Rattle.wb_types.specs.declared.refusal.Refusal.{Refusal}
-use Rattle.wb_types.specs.declared.refusal.Refusal.TheVariants.{Io, Memory}
+use Rattle.wb_types.specs.declared.refusal.Refusal.TheVariants.{Io, Memory, NotClean}
 use Rattle.wb_policy.specs.declared.quiet.Quiet.{Quiet}
 use Rattle.wb_disk.specs.Device.{Content as Bytes, History}
 use Rattle.wb_disk.specs.Crash.{Choice}
@@ -29,7 +30,8 @@ use Rattle.wb_tasks.specs.declared.step.DeviceStep.TheVariants.{Sync, ReadMetada
 use Rattle.wb_tasks.specs.declared.step.Want.TheVariants.{Device}
 use Rattle.wb_tasks.specs.declared.step.Got.{Got}
 use Rattle.wb_tasks.specs.declared.step.Got.TheVariants.{Done, Fault, Refused, More}
-use Rattle.wb_devices.specs.Opened.{DidTell, HasCome, HasNextRoot, ReadsOf, HasGeneration as DevicesGeneration, got_of_refusal}
+use Rattle.wb_devices.specs.Clean.{DidTell, HasComeIn}
+use Rattle.wb_devices.specs.Opened.{HasCome, HasNextRoot, ReadsOf, HasGeneration as DevicesGeneration, got_of_refusal}
 use Rattle.wb_machine.specs.declared.asked.Asked.{Asked}
 use Rattle.wb_machine.specs.declared.making.Made.{Made}
 use Rattle.wb_machine.specs.declared.opener.Opener.{Opener}
@@ -193,11 +195,11 @@ refused_as (Io device) counts = absurd (cc)
 refused_as refusal counts = refl
 
 -- what a reading with no commit beside it has told of
-record ToldMore (g : Geometry) (left : ℕ) (was : ReadSteps Global) (device : List History) (got : Got) (after' : Option (ReadSteps Global)) (commit' : Option RunningCommit) : Type 0 where
+record ToldMore (mode : Mode) (g : Geometry) (left : ℕ) (was : ReadSteps Global) (device : List History) (got : Got) (after' : Option (ReadSteps Global)) (commit' : Option RunningCommit) : Type 0 where
   pub now : ReadSteps Global
   pub goes : ReadingGoesOn was device now
   pub on : AreStepsOn g.meta_sectors now
-  pub come : HasCome g left now None got after' commit'
+  pub come : HasComeIn mode g left now None got after' commit'
   pub one : ReadOneMore was now
   pub spells : DevicesGeneration None → DevicesGeneration commit'
   pub more : got ≡ More → ¬ IsDone now
@@ -215,9 +217,9 @@ spelled : (commit : Option RunningCommit) → DevicesGeneration commit → HasGe
 spelled None h = tt
 spelled (Some c) h = h
 
-module _ (g : Geometry) (left : ℕ) (was : ReadSteps Global) (device : List History) (got : Got) (after' : Option (ReadSteps Global)) (commit' : Option RunningCommit) (two : 2 ≤ g.meta_sectors) (whole : length device ≡ g.meta_sectors)
-    (not_done : IsDone was → ⊥) (left_is : left + sectors_read was ≡ g.meta_sectors) (did : DidTell g g.meta_sectors left was device None got after' commit') where
-  told : ToldMore g left was device got after' commit' ⊎ ToldNoMore was device got after' commit'
+module _ (mode : Mode) (g : Geometry) (left : ℕ) (was : ReadSteps Global) (device : List History) (got : Got) (after' : Option (ReadSteps Global)) (commit' : Option RunningCommit) (two : 2 ≤ g.meta_sectors) (whole : length device ≡ g.meta_sectors)
+    (not_done : IsDone was → ⊥) (left_is : left + sectors_read was ≡ g.meta_sectors) (did : DidTell mode g g.meta_sectors left was device None got after' commit') where
+  told : ToldMore mode g left was device got after' commit' ⊎ ToldNoMore was device got after' commit'
   told = elim did [
     | inl x ↦ inl (record { now = x.0; goes = x.1; on = x.2; come = x.3; one = x.4; spells = x.5; more = x.6 })
     | inr x ↦ inr (record { refusal = x.0; stops = x.1; kind = x.2; faults = x.3; is = x.4; gone = x.5; kept = x.6 })
@@ -229,14 +231,17 @@ module _ (g : Geometry) (left : ℕ) (was : ReadSteps Global) (device : List His
 
   never_fault : got ≡ Fault → ⊥
   never_fault e = elim told [
-    | inl t ↦
-        let over = subst (λ x. HasCome g left t.now None x after' commit') e t.come in
-        let most = read-sectors g.meta_sectors t.now two t.on in
-        absurd (omega (arith, most, one_more t.now t.one, left_is, over.2))
+    | inl t ↦ elim t.come [
+      | inl come ↦
+          let over = subst (λ x. HasCome g left t.now None x after' commit') e come.0 in
+          let most = read-sectors g.meta_sectors t.now two t.on in
+          absurd (omega (arith, most, one_more t.now t.one, left_is, over.2))
+      | inr unclean ↦ absurd (let r = sym e ∙ unclean.1 in cc)
+    ]
     | inr t ↦ no_device t.refusal (t.faults 0) (sym t.is ∙ e)
   ]
 
-  pub does_read : DoesRead {P = Quiet} g left was device None got (Reaches after' commit')
+  pub does_read : DoesRead {P = Quiet} mode g left was device None got (Reaches after' commit')
   does_read = (
     never_fault,
     elim told [
@@ -277,7 +282,10 @@ module _ (g : Geometry) (left : ℕ) (was : ReadSteps Global) (device : List His
 
   goes_told : (n : ℕ) (a : Asked) (made : Option Made) → MadeBy g n got a made → Goes g n a (AtRead left) got after' commit' made
   goes_told n a made is = elim told [
-    | inl t ↦ goes_more n a got t.now t.on (one_more t.now t.one) t.more t.come never_fault made is
+    | inl t ↦ elim t.come [
+      | inl come ↦ goes_more n a got t.now t.on (one_more t.now t.one) t.more come.0 never_fault made is
+      | inr unclean ↦ subst (λ x. Goes g n a (AtRead left) x after' commit' made) (sym unclean.1) (record { next = AtRefusal NotClean; plan = refl; come = tt; made_is = tt })
+    ]
     | inr t ↦ subst (λ x. Goes g n a (AtRead left) x after' commit' made) (sym (t.is ∙ refused_as t.refusal (t.faults 0))) (record { next = AtRefusal t.refusal; plan = refl; come = tt; made_is = tt })
   ]
 
@@ -290,9 +298,12 @@ module _ (g : Geometry) (left : ℕ) (was : ReadSteps Global) (device : List His
   -- once all was read
   pub all_told : got ≡ Done → HasReadAll g NodesSynced after' commit'
   all_told e = elim told [
-    | inl t ↦
-        let come = subst (λ x. HasCome g left t.now None x after' commit') e t.come in
-        all_read t.now t.on come.0 come.1 come.2
+    | inl t ↦ elim t.come [
+      | inl come ↦
+          let done = subst (λ x. HasCome g left t.now None x after' commit') e come.0 in
+          all_read t.now t.on done.0 done.1 done.2
+      | inr unclean ↦ absurd (let r = sym e ∙ unclean.1 in cc)
+    ]
     | inr t ↦ absurd (let r = sym e ∙ t.is ∙ refused_as t.refusal (t.faults 0) in cc)
   ]
 
@@ -303,11 +314,14 @@ module _ (g : Geometry) (left : ℕ) (was : ReadSteps Global) (device : List His
   fitting (RootFound global known loader) done sectors read = absurd done
 
   -- where all was read, the opening may be refused for want of memory
-  pub wants_memory : got ≡ Done → DidTell g g.meta_sectors left was device None (Refused Memory) None None
+  pub wants_memory : got ≡ Done → DidTell mode g g.meta_sectors left was device None (Refused Memory) None None
   wants_memory e = elim told [
-    | inl t ↦
-        let come = subst (λ x. HasCome g left t.now None x after' commit') e t.come in
-        inr (Memory, (λ sectors agrees has. fitting t.now come.2.is_done sectors (t.goes sectors agrees has)), tt, (λ faults. refl), refl, refl, refl)
+    | inl t ↦ elim t.come [
+      | inl come ↦
+          let done = subst (λ x. HasCome g left t.now None x after' commit') e come.0 in
+          inr (Memory, (λ sectors agrees has. fitting t.now done.2.is_done sectors (t.goes sectors agrees has)), tt, (λ faults. refl), refl, refl, refl)
+      | inr unclean ↦ absurd (let r = sym e ∙ unclean.1 in cc)
+    ]
     | inr t ↦ absurd (let r = sym e ∙ t.is ∙ refused_as t.refusal (t.faults 0) in cc)
   ]
 

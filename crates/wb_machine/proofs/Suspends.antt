@@ -7,7 +7,7 @@ use Rattle.wb_desk.specs.Desks.{DeskState}
 use Rattle.wb_devices.specs.declared.devices.Devices.{Devices}
 use Rattle.wb_policy.specs.declared.quiet.Quiet.{Quiet}
 use Rattle.wb_promise.specs.declared.job.Job.{Job}
-use Rattle.wb_promise.specs.declared.job.Job.TheVariants.{Read, Write, Flush, Suspend, Open, Migrate, Replace}
+use Rattle.wb_promise.specs.declared.job.Job.TheVariants.{Read, Write, Flush, Suspend, Open, Invalidate, Migrate, Replace}
 use Rattle.wb_promise.specs.declared.event.Event.TheVariants.{Start}
 use Rattle.wb_promise.specs.declared.event.What.{What}
 use Rattle.wb_promise.specs.declared.event.What.TheVariants.{Skipped, Refused, Started}
@@ -50,6 +50,7 @@ module _ (shape : Shape) (devices : Devices (List History)) (t : Target) (member
   of_suspend : (job : Job) → wants_target job ≡ true → starts_beside job ≡ false → job ≡ Suspend
   of_suspend (Read extent) w b = absurd (cc)
   of_suspend (Write extent content) w b = absurd (cc)
+  of_suspend (Invalidate block) w b = absurd (cc)
   of_suspend Flush w b = absurd (cc)
   of_suspend Suspend w b = refl
   of_suspend (Open mode) w b = absurd (cc)
@@ -65,7 +66,7 @@ module _ (shape : Shape) (devices : Devices (List History)) (t : Target) (member
     where
       -- what is free for its start
       applies : works_there members a ≡ false → DoesNotApply (standing members) (Start a Suspend) → ⊥
-      applies idle = let m = there_is members a inside in in_place devices t (with_cards members t.crew.cards) a Suspend (seat_at m.0 t.crew.cards a) refl calm (somebody members t.crew.cards a m.0 m.1 many) (idle_seat m.0 idle m.1)
+      applies idle = let m = there_is members a inside in in_place devices t (with_cards members t.crew.cards) a Suspend (seat_at m.0 t.crew.cards a) refl refl calm (somebody members t.crew.cards a m.0 m.1 many) (idle_seat m.0 idle m.1)
 
       by_what : (what : What) → StartsSuspend shape t.desk members a what members' → Happens shape (standing members) (Start a Suspend) what [] (standing members')
       by_what Skipped s = subst (λ (ms : List Member). Happens shape (standing members) (Start a Suspend) Skipped [] (standing ms)) (sym s.1) (passes shape (standing members) (Start a Suspend) Skipped (inr (inl (busy_there members t.crew.cards a many s.0))) refl)

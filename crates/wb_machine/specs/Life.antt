@@ -5,7 +5,7 @@ use Rattle.wb_types.specs.declared.geometry.Geometry.{Geometry}
 use Rattle.wb_types.specs.declared.mode.Dev.{Dev}
 use Rattle.wb_types.specs.declared.mode.Dev.TheVariants.{Metadata}
 use Rattle.wb_types.specs.declared.mode.Mode.{Mode}
-use Rattle.wb_types.specs.declared.mode.Mode.TheVariants.{Passthrough}
+use Rattle.wb_policy.specs.Situations.{is_passthrough}
 use Rattle.wb_disk.specs.Device.{Content as Bytes, History}
 use Rattle.wb_disk.specs.Memory.{Memory}
 use Rattle.wb_disk.specs.Crash.{Choice}
@@ -30,7 +30,7 @@ use Rattle.wb_tasks.specs.declared.step.Want.{Want}
 use Rattle.wb_tasks.specs.declared.step.Want.TheVariants.{Device, End}
 use Rattle.wb_tasks.specs.declared.step.Answer.TheVariants.{Done as Finished}
 use Rattle.wb_promise.specs.declared.job.Job.{Job}
-use Rattle.wb_promise.specs.declared.job.Job.TheVariants.{Open, Suspend}
+use Rattle.wb_promise.specs.declared.job.Job.TheVariants.{Open, Invalidate, Suspend}
 use Rattle.wb_promise.specs.declared.event.Event.{Event}
 use Rattle.wb_promise.specs.declared.event.What.{What}
 use Rattle.wb_promise.specs.declared.event.Record.{Record}
@@ -125,9 +125,8 @@ abbrev pub is_sound : Phase → Bool
 is_sound (Standing target members) = not target.failed
 is_sound phase = false
 
--- the mode of an opening, where it may start if no target stands that has not failed: none does in passthrough
+-- the mode of an opening
 abbrev pub opened_in : Job → Option Mode
-opened_in (Open Passthrough) = None
 opened_in (Open mode) = Some mode
 opened_in job = None
 
@@ -135,6 +134,11 @@ opened_in job = None
 abbrev pub wants_target : Job → Bool
 wants_target (Open mode) = false
 wants_target job = true
+
+-- one that a target of this mode has: an invalidation is of passthrough alone
+abbrev pub suits_mode : Job → Mode → Bool
+suits_mode (Invalidate block) mode = is_passthrough mode
+suits_mode job mode = true
 
 -- one that starts whatever the others are at
 abbrev pub starts_beside : Job → Bool

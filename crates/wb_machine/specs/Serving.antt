@@ -46,7 +46,7 @@ use Rattle.wb_devices.specs.declared.running.RunningCommit.{RunningCommit}
 use Rattle.wb_devices.specs.Committing.{goes_on}
 use Rattle.wb_devices.specs.Moving.{device_in}
 use Rattle.wb_promise.specs.declared.job.Job.{Job}
-use Rattle.wb_promise.specs.declared.job.Job.TheVariants.{Read, Write, Flush, Suspend, Open, Migrate, Replace}
+use Rattle.wb_promise.specs.declared.job.Job.TheVariants.{Read, Write, Flush, Suspend, Open, Invalidate, Migrate, Replace}
 use Rattle.wb_promise.specs.declared.event.What.{What}
 use Rattle.wb_promise.specs.declared.event.What.TheVariants.{Skipped, Refused, Started, Stepped}
 use Rattle.wb_stage.specs.Stages.{DidAsk, DidBeginWith, is_all_done}
@@ -178,6 +178,13 @@ abbrev pub Migrates : Job → Type 0
 Migrates (Migrate migration block) = Unit {0}
 Migrates job = ⊥
 
+-- a migration takes a block out of the cache, and in passthrough a write or an invalidation
+abbrev pub Unmaps : Job → Type 0
+Unmaps (Migrate migration block) = Unit {0}
+Unmaps (Write extent content) = Unit {0}
+Unmaps (Invalidate block) = Unit {0}
+Unmaps job = ⊥
+
 -- a migration or a flush may give up an order
 abbrev pub GivesUp : Job → Type 0
 GivesUp (Migrate migration block) = Unit {0}
@@ -252,12 +259,12 @@ is_clean Suspend = true
 is_clean job = false
 
 -- the desk can be asked for it: a commit begins that is clean for a suspend alone, or ends once all of it was done; a migration's block is
--- mapped or unmapped, or its order given up
+-- mapped, a block is unmapped, or an order given up
 abbrev pub IsAskable : Option RunningCommit → Job → DeskStep → Type 0
 IsAskable commit job (BeginCommit clean most) = clean ≡ is_clean job
 IsAskable commit job EndCommit = is_all_done commit ≡ true
 IsAskable commit job (Map block place) = Migrates job
-IsAskable commit job (Unmap block) = Migrates job
+IsAskable commit job (Unmap block) = Unmaps job
 IsAskable commit job (ReleaseOrder block) = GivesUp job
 
 -- A step of a job can be done. No opening is answered done over a target.

@@ -15,7 +15,7 @@ ghost use Rattle.wb_meta.specs.declared.commit_steps.CommitSteps.TheVariants.{No
 ghost use Rattle.wb_meta.specs.declared.read_steps.ReadSteps.{ReadSteps as Steps};
 ghost use Rattle.wb_tasks.specs.declared.step.Want.TheVariants.{Device};
 ghost use Rattle.wb_devices.specs.Moving.{device_in};
-ghost use Rattle.wb_devices.specs.Opened.{DidTell};
+ghost use Rattle.wb_devices.specs.Clean.{DidTell};
 ghost use Rattle.wb_promise.specs.States.{with_device};
 ghost use Rattle.wb_promise.specs.declared.event.Event.TheVariants.{Step};
 ghost use Rattle.wb_promise.specs.declared.event.What.TheVariants.{Stepped};
@@ -36,7 +36,7 @@ use wb_disk::{CrashChoice, Disk, MemDisk};
 use wb_flow::OpenTask;
 use wb_meta::ReadSteps;
 use wb_tasks::{DeviceStep, Got, Task};
-use wb_types::{Content, Dev, Geometry, Mode, Refusal, SECTOR_BYTES};
+use wb_types::{Content, Dev, Geometry, Refusal, SECTOR_BYTES};
 
 /// Who opens in which mode, what is left of the opening, and what was read: the reading begins once the metadata were synced, and is over where
 /// the metadata device has failed, as is the commit of the root. Once all was read, what the answer wants has been made of it.
@@ -154,7 +154,7 @@ impl Opener {
         ensures asked { self.new.asked ≡ self.old.asked }
         ensures task { self.new.task ≡ after self.old.task result }
         ensures geometry { self.new.opening.geometry ≡ self.old.opening.geometry }
-        ensures did { (was : Steps GlobalValue) → self.old.opening.reading ≡ Some was → DidTell geometry.now geometry.now.meta_sectors left was metadata.old.contents self.old.opening.commit result (reading_of self.new) self.new.opening.commit }
+        ensures did { (was : Steps GlobalValue) → self.old.opening.reading ≡ Some was → DidTell self.old.asked.mode geometry.now geometry.now.meta_sectors left was metadata.old.contents self.old.opening.commit result (reading_of self.new) self.new.opening.commit }
         ensures made { MadeBy geometry.now ACTORS result self.old.asked self.new.made }
     {
         let got = self.tell(geometry, metadata, left);
@@ -163,7 +163,7 @@ impl Opener {
     }
 
     /// Tells the opening what stands in the metadata sector that comes next. Where all was read, what the answer wants is made; the
-    /// opening is refused where there is no memory for it.
+    /// opening is refused where there is no memory for it, and in passthrough where what was read was not left clean.
     fn tell(&mut self, geometry: &Geometry, metadata: &mut MemDisk, left: u32) -> Got
         requires there { self.old.asked.actor < ACTORS }
         requires none { self.old.made ≡ None }
@@ -175,11 +175,11 @@ impl Opener {
         ensures task { self.new.task ≡ self.old.task }
         ensures kind { Fits (Device (ReadMetadata left)) result }
         ensures geometry { self.new.opening.geometry ≡ self.old.opening.geometry }
-        ensures did { (was : Steps GlobalValue) → self.old.opening.reading ≡ Some was → DidTell geometry.now geometry.now.meta_sectors left was metadata.old.contents self.old.opening.commit result (reading_of self.new) self.new.opening.commit }
+        ensures did { (was : Steps GlobalValue) → self.old.opening.reading ≡ Some was → DidTell self.old.asked.mode geometry.now geometry.now.meta_sectors left was metadata.old.contents self.old.opening.commit result (reading_of self.new) self.new.opening.commit }
         ensures made { MadeBy geometry.now ACTORS result self.old.asked self.new.made }
     {
         let _two_slots = geometry.node_count();
-        match self.opening.read(Mode::Writeback, metadata, left) {
+        match self.opening.read(self.asked.mode, metadata, left) {
             Got::Done => match self.prepare() {
                 Ok(()) => Got::Done,
                 Err(refusal) => Got::Refused(refusal),

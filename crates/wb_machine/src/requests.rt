@@ -1,4 +1,4 @@
-//! Whether a job over a target may be started, and the tasks of reads, writes, flushes and migrations.
+//! Whether a job over a target may be started, and the tasks of reads, writes, flushes, invalidations and migrations.
 
 ghost use Rattle.std.specs.Prelude.{◌≡◌, ◌/◌, [], None, true, IfOk, IfErr};
 ghost use Rattle.wb_types.specs.declared.refusal.Refusal.TheVariants.{Memory};
@@ -6,7 +6,8 @@ ghost use Rattle.wb_types.specs.Extents.{pieces};
 ghost use Rattle.wb_tasks.specs.Plan.{table};
 ghost use Rattle.wb_tasks.specs.Phases.{job_on_block};
 ghost use Rattle.wb_tasks.specs.Tables.{OnBlock, Migrating, whole_block};
-ghost use Rattle.wb_promise.specs.Happenings.{begun_as, block_range, extent_refusal, job_refusal, migrated_range, order_for, task_job};
+ghost use Rattle.wb_promise.specs.Happenings.{begun_as, block_range, extent_refusal, job_refusal, migrated_range, order_for, task_job, write_job};
+ghost use Rattle.wb_promise.specs.declared.job.Job.TheVariants.{Invalidate};
 ghost use Rattle.wb_machine.specs.declared.machine.TheConstants.{ACTORS};
 ghost use Rattle.wb_machine.specs.Life.{shape_of, starts_beside};
 ghost use Rattle.wb_machine.specs.Serving.{cut_for, is_ordered};
@@ -30,6 +31,7 @@ pub(crate) fn refusal_of(geometry: &Geometry, job: &Job) -> Option<Refusal>
         Job::Flush => None,
         Job::Suspend => None,
         Job::Open(_) => None,
+        Job::Invalidate(block) => block_refusal(geometry, *block),
         Job::Migrate(_, _) => None,
         Job::Replace(_, _) => None,
     }
@@ -52,6 +54,17 @@ fn extent_refusal(geometry: &Geometry, extent: Extent) -> Option<Refusal>
         None
     } else {
         Some(Refusal::Crosses)
+    }
+}
+
+/// Why an invalidation of this block is not started: `Range` where the origin has no such block.
+fn block_refusal(geometry: &Geometry, block: OBlock) -> Option<Refusal>
+    ensures { result ≡ job_refusal (shape_of geometry.now ACTORS) (Invalidate block) }
+{
+    if block.0 < geometry.origin_blocks {
+        None
+    } else {
+        Some(Refusal::Range)
     }
 }
 
@@ -104,12 +117,16 @@ pub(crate) fn task_of(
             Ok(Work::on_block(task))
         }
         Job::Write(extent, _) => {
-            let task = moves(geometry, mode, wb_tasks::Work::Write, *extent);
+            let task = writes(geometry, mode, *extent);
             Ok(Work::on_block(task))
         }
         Job::Flush => {
             let serves = blocks_left(alloc, awaiting)?;
             Ok(Work::commits(CommitTask::flush(serves, geometry.node_count())))
+        }
+        Job::Invalidate(block) => {
+            let task = BlockTask::invalidate(geometry.block, *block);
+            Ok(Work::on_block(task))
         }
         Job::Migrate(migration, block) => Ok(migrates(geometry, *migration, *block)),
         Job::Replace(old, _) => Ok(migrates(geometry, Migration::Demote, *old)),
@@ -121,6 +138,19 @@ fn migrates(geometry: &Geometry, migration: Migration, block: OBlock) -> Work
     ensures { result ≡ table (OnBlock (Migrating migration (migrated_range (shape_of geometry.now ACTORS) block (pieces 1 (whole_block geometry.now.block block))))) }
 {
     Work::on_block(BlockTask::migrate(migration, geometry.block, block, 1))
+}
+
+/// The task that writes sectors of one block: in passthrough it takes the block out of the cache first.
+fn writes(geometry: &Geometry, mode: Mode, extent: Extent) -> BlockTask
+    requires { extent_refusal (shape_of geometry.now ACTORS) extent ≡ None }
+    ensures { result ≡ table (OnBlock (write_job mode (block_range (shape_of geometry.now ACTORS) mode extent (pieces 1 extent)))) }
+{
+    match mode {
+        Mode::Passthrough => moves(geometry, mode, wb_tasks::Work::Displace, extent),
+        Mode::Writeback | Mode::Writethrough => {
+            moves(geometry, mode, wb_tasks::Work::Write, extent)
+        }
+    }
 }
 
 /// The task that does this with sectors of one block, in this mode.

@@ -5,7 +5,7 @@ ghost use Rattle.wb_types.specs.declared.refusal.Refusal.TheVariants.{Memory};
 ghost use Rattle.wb_promise.specs.declared.event.Event.TheVariants.{Start, Step, FaultStep};
 ghost use Rattle.wb_machine.specs.declared.machine.TheConstants.{ACTORS};
 ghost use Rattle.wb_machine.specs.declared.phase.Phase.TheVariants.{Standing};
-ghost use Rattle.wb_machine.specs.Life.{Happens, IsThere, contents_of, shape_of, starts_beside, state_of, wants_target};
+ghost use Rattle.wb_machine.specs.Life.{Happens, IsThere, contents_of, shape_of, starts_beside, state_of, suits_mode, wants_target};
 ghost use Rattle.wb_machine.specs.Serving.{IsPhaseServed};
 ghost use Rattle.wb_machine.specs.Standing.{IsSoundPhase};
 
@@ -20,7 +20,7 @@ use std::alloc::Global;
 use wb_devices::Devices;
 use wb_disk::{CrashChoice, MemDisk};
 use wb_promise::{Job, What};
-use wb_types::{Geometry, Refusal};
+use wb_types::{Geometry, Mode, Refusal};
 
 /// An actor gets a job, if it has none and the job may be started. `Memory` where there is no room for an order; then nothing has
 /// changed.
@@ -70,7 +70,7 @@ fn start_there(
     start_over(geometry, alloc, devices, target, members, actor, job)
 }
 
-/// The same over a target that stands: while somebody suspends it nothing starts.
+/// The same over a target that stands: while somebody suspends it nothing starts, and an invalidation starts in passthrough alone.
 fn start_over(
     geometry: &Geometry,
     alloc: Global,
@@ -96,6 +96,9 @@ fn start_over(
     if is_somebody_suspending(members.as_slice()) {
         return Ok(What::Skipped);
     }
+    if !suits_mode(job, target.desk.mode()) {
+        return Ok(What::Skipped);
+    }
     if !starts_beside(job) {
         return suspend(geometry, alloc, &target.desk, members, actor);
     }
@@ -109,6 +112,16 @@ fn starts_beside(job: &Job) -> bool
     ensures { result ≡ starts_beside job.now }
 {
     !matches!(job, Job::Suspend | Job::Open(_))
+}
+
+/// Whether a target of this mode has such a job: an invalidation is of passthrough alone.
+fn suits_mode(job: &Job, mode: Mode) -> bool
+    ensures { result ≡ suits_mode job.now mode }
+{
+    match job {
+        Job::Invalidate(_) => matches!(mode, Mode::Passthrough),
+        _ => true,
+    }
 }
 
 /// Whether the job is one of a target that stands.

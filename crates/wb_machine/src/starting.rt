@@ -20,8 +20,7 @@ use wb_flow::OpenTask;
 use wb_promise::{Job, What};
 use wb_types::{Geometry, Mode};
 
-/// An actor gets an opening, if it has no task. It starts in write-back and in write-through, and what another actor was opening is given
-/// up; over a target that stands it starts once that has failed and while nobody suspends it, and ends it and what everybody was at.
+/// An actor gets an opening, if it has no task, and what another actor was opening is given up; over a target that stands it starts once that has failed and while nobody suspends it, and ends it and what everybody was at.
 pub(crate) fn open(
     geometry: &Geometry,
     alloc: Global,
@@ -64,12 +63,11 @@ pub(crate) fn open(
     What::Started
 }
 
-/// The mode of an opening, if the job is one that starts: none does in passthrough.
+/// The mode of an opening, if the job is one.
 fn opened_in(job: &Job) -> Option<Mode>
     ensures { result ≡ opened_in job.now }
 {
     match job {
-        Job::Open(Mode::Passthrough) => None,
         Job::Open(mode) => Some(*mode),
         _ => None,
     }

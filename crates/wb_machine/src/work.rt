@@ -13,7 +13,7 @@ enum Kind {
     Commits(CommitTask),
 }
 
-/// What is left of a read, a write, a flush, a suspend or a migration.
+/// What is left of a read, a write, a flush, a suspend, an invalidation or a migration.
 #[derive(Drop)]
 pub struct Work {
     kind: Kind,
@@ -30,7 +30,7 @@ impl Model for Work {
 }
 
 impl Work {
-    /// A read, a write or a migration.
+    /// A read, a write, an invalidation or a migration.
     pub(crate) fn on_block(task: BlockTask) -> Work
         ensures { result ≡ task }
     {

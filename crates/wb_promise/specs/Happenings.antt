@@ -1,5 +1,5 @@
 -- What an event may do in a state.
-use Rattle.std.specs.Prelude.{◌≡◌, ◌≢◌, ◌≤◌, ◌<◌, ◌+◌, ◌-◌, ◌/◌, ◌^◌, ◌&&◌, ◌==◌, ◌⊎◌, ℕ, Bool, true, false, List, [], Option, Some, None, All, Contains, length, map, slice_get, if◌then◌else◌, nat_le}
+use Rattle.std.specs.Prelude.{◌≡◌, ◌≢◌, ◌≤◌, ◌<◌, ◌+◌, ◌-◌, ◌/◌, ◌^◌, ◌&&◌, ◌==◌, ◌⊎◌, ℕ, Bool, true, false, List, [], Option, Some, None, All, Contains, length, map, slice_get, if◌then◌else◌, nat_le, nat_lt}
 use Rattle.wb_types.specs.Limits.{node_count}
 use Rattle.wb_types.specs.declared.extent.Extent.{Extent}
 use Rattle.wb_types.specs.declared.geometry.Geometry.{Geometry}
@@ -35,7 +35,7 @@ use Rattle.wb_tree.specs.Edits.{IsChangedAt}
 use Rattle.wb_desk.specs.Desks.{DeskState, MayReserve, holdings}
 use Rattle.wb_desk.specs.Entries.{MayMap, entry_of, mapped}
 use Rattle.wb_desk.specs.Commits.{IsBeginRefused, commit_begun}
-use Rattle.wb_tasks.specs.Tables.{TaskJob, Reading, Writing, Migrating, OnBlock, Flushing, Suspending, Opening, BlockRange, whole_block}
+use Rattle.wb_tasks.specs.Tables.{BlockJob, TaskJob, Reading, Writing, Displacing, Invalidating, Migrating, OnBlock, Flushing, Suspending, Opening, BlockRange, whole_block}
 use Rattle.wb_tasks.specs.declared.step.Migration.{Migration}
 use Rattle.wb_tasks.specs.declared.step.Migration.TheVariants.{Promote, Demote, Clean}
 use Rattle.wb_tasks.specs.Plan.{Plan, want, got_of, device_of}
@@ -55,9 +55,10 @@ use Rattle.wb_devices.specs.Moving.{device_in}
 use Rattle.wb_stage.specs.Asking.{DidRelease, DidUnmap, HasBegunWith}
 use Rattle.wb_devices.specs.Committing.{goes_on}
 use Rattle.wb_stage.specs.Stages.{is_all_done}
-use Rattle.wb_devices.specs.Opened.{HasCome, got_of_refusal}
+use Rattle.wb_devices.specs.Opened.{got_of_refusal}
+use Rattle.wb_devices.specs.Clean.{HasComeIn}
 use Rattle.wb_promise.specs.declared.job.Job.{Job}
-use Rattle.wb_promise.specs.declared.job.Job.TheVariants.{Read, Write, Flush, Suspend, Open, Migrate, Replace}
+use Rattle.wb_promise.specs.declared.job.Job.TheVariants.{Read, Write, Flush, Suspend, Open, Invalidate, Migrate, Replace}
 use Rattle.wb_promise.specs.declared.event.Event.{Event}
 use Rattle.wb_promise.specs.declared.event.Event.TheVariants.{Start, Step, FaultStep, Stop}
 use Rattle.wb_promise.specs.declared.event.What.{What}
@@ -95,6 +96,7 @@ extent_of (Write extent content) = extent
 extent_of Flush = record { first = 0; count = 0 }
 extent_of Suspend = record { first = 0; count = 0 }
 extent_of (Open mode) = record { first = 0; count = 0 }
+extent_of (Invalidate block) = record { first = 0; count = 0 }
 extent_of (Migrate migration block) = record { first = 0; count = 0 }
 extent_of (Replace old new) = record { first = 0; count = 0 }
 
@@ -111,6 +113,10 @@ block_range shape mode extent cut = record {
 abbrev pub migrated_range : Shape → OBlock → List Extent → BlockRange
 migrated_range shape block cut = record { mode = Writeback; block_sectors = block_size shape; block = block; extents = cut }
 
+-- a whole block that leaves the cache without a copy, of which no sector is moved
+abbrev pub invalidated_range : Shape → OBlock → BlockRange
+invalidated_range shape block = record { mode = Passthrough; block_sectors = block_size shape; block = block; extents = [] }
+
 -- the order under which a block is migrated so
 abbrev pub order_for : Migration → OBlock → Order
 order_for (Promote cache) block = PromoteOrder block cache
@@ -121,14 +127,20 @@ order_for Clean block = CleanOrder block
 abbrev pub blocks_left : List Order → List OBlock
 blocks_left orders = map first_of orders
 
+-- a write takes its block out of the cache first, by the desk, in passthrough
+abbrev pub write_job : Mode → BlockRange → BlockJob
+write_job Passthrough part = Displacing part
+write_job mode part = Writing part
+
 -- The task of a job, whose sectors are cut so, or which looks at the seals of these blocks, over a target of this mode. A flush serves the
 -- replacements that wait for it; a replacement begins with the demotion of the block that leaves.
 abbrev pub task_job : Shape → Mode → List Order → Job → List Extent → List OBlock → TaskJob
 task_job shape mode awaiting (Read extent) cut looks = OnBlock (Reading (block_range shape mode extent cut))
-task_job shape mode awaiting (Write extent content) cut looks = OnBlock (Writing (block_range shape mode extent cut))
+task_job shape mode awaiting (Write extent content) cut looks = OnBlock (write_job mode (block_range shape mode extent cut))
 task_job shape mode awaiting Flush cut looks = Flushing (blocks_left awaiting) (node_count shape.geometry.cache_blocks)
 task_job shape mode awaiting Suspend cut looks = Suspending looks (node_count shape.geometry.cache_blocks)
 task_job shape mode awaiting (Open opened_in) cut looks = Opening shape.geometry.meta_sectors
+task_job shape mode awaiting (Invalidate block) cut looks = OnBlock (Invalidating (invalidated_range shape block))
 task_job shape mode awaiting (Migrate migration block) cut looks = OnBlock (Migrating migration (migrated_range shape block cut))
 task_job shape mode awaiting (Replace old new) cut looks = OnBlock (Migrating Demote (migrated_range shape old cut))
 
@@ -155,6 +167,7 @@ job_refusal shape (Write extent content) = extent_refusal shape extent
 job_refusal shape Flush = None
 job_refusal shape Suspend = None
 job_refusal shape (Open mode) = None
+job_refusal shape (Invalidate block) = if nat_lt block.0 shape.geometry.origin_blocks then None else Some Range
 job_refusal shape (Migrate migration block) = None
 job_refusal shape (Replace old new) = None
 
@@ -174,10 +187,11 @@ AtWork w a on = OnTask w a (λ x job s. on job s)
 abbrev pub HasTask : {P A : Type 0} → State P A → ℕ → Type 0
 HasTask w a = AtWork w a (λ job s. Unit {0})
 
--- A job is not started where this holds: an opening where a target stands that has not failed, or in a mode in which none is
--- opened yet; any other where no target stands.
+-- A job is not started where this holds: an opening where a target stands that has not failed; an invalidation where none stands in passthrough;
+-- any other where no target stands.
 abbrev pub IsOutOfPlace : {P A : Type 0} → Phase P A → Job → Type 0
-IsOutOfPlace phase (Open mode) = OfTarget phase (λ t. t.words.fail ≡ 0) ⊎ (mode ≡ Passthrough)
+IsOutOfPlace phase (Open mode) = OfTarget phase (λ t. t.words.fail ≡ 0)
+IsOutOfPlace phase (Invalidate block) = ¬ OfTarget phase (λ t. t.desk.mode ≡ Passthrough)
 IsOutOfPlace phase job = ¬ OfTarget phase (λ t. Unit {0})
 
 -- somebody suspends the target
@@ -240,14 +254,14 @@ abbrev pub HasGeneration : Option RunningCommit → Type 0
 HasGeneration None = Unit {0}
 HasGeneration (Some commit) = commit.image.root.generation < 2 ^ 64
 
--- An opening has read one sector more. Its reading goes on, and all is read, or it is refused: for what stands there, for want
--- of memory, for a root of another geometry, or since no generation is left.
-abbrev pub DoesRead : {P A : Type 0} → Geometry → ℕ → ReadSteps A → List History → Option RunningCommit → Got → Chosen P A → Type 0
-DoesRead {P} {A} geometry left was device commit got (Reaches after commit') = (got ≢ Fault)
-    × (((now : ReadSteps A) × ReadingGoesOn was device now × AreStepsOn (length device) now × HasCome geometry left now commit got after commit'
+-- An opening in this mode has read one sector more. Its reading goes on, and all is read, or it is refused: for what stands there, for want
+-- of memory, for a root of another geometry, since no generation is left, or in passthrough where the metadata were not left clean.
+abbrev pub DoesRead : {P A : Type 0} → Mode → Geometry → ℕ → ReadSteps A → List History → Option RunningCommit → Got → Chosen P A → Type 0
+DoesRead {P} {A} mode geometry left was device commit got (Reaches after commit') = (got ≢ Fault)
+    × (((now : ReadSteps A) × ReadingGoesOn was device now × AreStepsOn (length device) now × HasComeIn mode geometry left now commit got after commit'
     × (sectors_read now ≡ sectors_read was + 1) × HasGeneration commit')
     ⊎ ((refusal : Refusal) × IsOfReading refusal × StopsBy was device refusal × (got ≡ got_of_refusal refusal) × (after ≡ None) × (commit' ≡ commit)))
-DoesRead geometry left was device commit got chosen = ⊥
+DoesRead mode geometry left was device commit got chosen = ⊥
 
 -- each node of an image has all its words
 abbrev pub AreWhole : Image → Type 0
@@ -283,8 +297,8 @@ DoesOpen phase commit (Opened policy) = OfReading phase (λ mode reading. IsDone
 DoesOpen phase commit chosen = ⊥
 
 -- What a step gives, what a read was given, one content a sector, and what was free at it. A read, write or migration moves sectors
--- of a device on which blocks stand. A migration asks the desk to map its block, to unmap it, or to give up its order; a flush to give up
--- the orders that it serves.
+-- of a device on which blocks stand. A migration asks the desk to map its block, to unmap it, or to give up its order; in passthrough a write or an
+-- invalidation to unmap its block; a flush to give up the orders that it serves.
 abbrev pub Gives : {P A : Type 0} → Shape → State P A → Actor → Job → Want → Got → List Bytes → Chosen P A → Type 0
 Gives shape w x job (Cell step) got read chosen = IsPlain read chosen × OfTarget w.phase (λ t. got ≡ got_of (result_of t.words step))
 Gives shape w x (Read extent) (Device (ReadExtent device e)) got read chosen = HoldsBlocks device × (chosen ≡ Plain) × (got ≡ Done) × (length read ≡ e.count) × GivesEach (device_in device w.devices) e.first read
@@ -293,13 +307,15 @@ Gives shape w x (Migrate migration block) (Device (ReadExtent device e)) got rea
 Gives shape w x (Migrate migration block) (Device (WriteExtent device e)) got read chosen = HoldsBlocks device × IsPlain read chosen × (got ≡ Done) × (e.first + e.count ≤ length (device_in device w.devices))
 Gives shape w x (Migrate migration block) (Desk (Map b c)) got read chosen = (read ≡ []) × OfTarget w.phase (λ t. DoesMap b c t.desk got chosen)
 Gives shape w x (Migrate migration block) (Desk (Unmap b)) got read chosen = (read ≡ []) × (got ≡ Done) × OfTarget w.phase (λ t. DoesUnmap b t.desk chosen)
+Gives shape w x (Write extent content) (Desk (Unmap b)) got read chosen = (read ≡ []) × (got ≡ Done) × OfTarget w.phase (λ t. DoesUnmap b t.desk chosen)
+Gives shape w x (Invalidate block) (Desk (Unmap b)) got read chosen = (read ≡ []) × (got ≡ Done) × OfTarget w.phase (λ t. DoesUnmap b t.desk chosen)
 Gives shape w x (Migrate migration block) (Desk (ReleaseOrder b)) got read chosen = (read ≡ []) × (got ≡ Done) × OfTarget w.phase (λ t. DoesRelease x.orders b t.desk chosen)
 Gives shape w x Flush (Desk (ReleaseOrder b)) got read chosen = (read ≡ []) × (got ≡ Done) × OfTarget w.phase (λ t. DoesRelease x.awaiting b t.desk chosen)
 Gives shape w x job (Device (Sync Metadata)) got read chosen = (read ≡ []) × (got ≡ Done) × DoesSync w.phase w.commit w.devices.metadata chosen
 Gives shape w x job (Device (Sync device)) got read chosen = IsPlain read chosen × (got ≡ Done)
 Gives shape w x job (Device (WriteNode number)) got read chosen = (read ≡ []) × (got ≡ Done) × DoesPut w.commit (WriteNode number) w.devices.metadata chosen
 Gives shape w x job (Device WriteRoot) got read chosen = (read ≡ []) × (got ≡ Done) × DoesPut w.commit WriteRoot w.devices.metadata chosen
-Gives shape w x job (Device (ReadMetadata left)) got read chosen = (read ≡ []) × (w.commit ≡ None) × OfReading w.phase (λ mode was. DoesRead shape.geometry left was w.devices.metadata w.commit got chosen)
+Gives shape w x job (Device (ReadMetadata left)) got read chosen = (read ≡ []) × (w.commit ≡ None) × OfReading w.phase (λ mode was. DoesRead mode shape.geometry left was w.devices.metadata w.commit got chosen)
 Gives shape w x Suspend (Desk (BeginCommit clean most)) got read chosen = (read ≡ []) × (clean ≡ true) × OfTarget w.phase (λ t. DoesBegin (Some x.seen) most t.desk got chosen)
 Gives shape w x job (Desk (BeginCommit clean most)) got read chosen = (read ≡ []) × (clean ≡ false) × OfTarget w.phase (λ t. DoesBegin None most t.desk got chosen)
 Gives shape w x job (Desk EndCommit) got read chosen = IsPlain read chosen × (got ≡ Done) × OfTarget w.phase (λ t. is_all_done w.commit ≡ true)
@@ -385,6 +401,7 @@ StartGives shape phase actor (Replace old new) what chosen =
 StartGives shape phase actor job (Refused refusal) Plain = job_refusal shape job ≡ Some refusal
 StartGives shape phase actor Flush Started Plain = Unit {0}
 StartGives shape phase actor (Open mode) Started Plain = Unit {0}
+StartGives shape phase actor (Invalidate block) Started Plain = job_refusal shape (Invalidate block) ≡ None
 StartGives shape phase actor (Read extent) Started (Cut cut) = (extent_refusal shape extent ≡ None) × IsCutInto extent cut
 StartGives shape phase actor (Write extent content) Started (Cut cut) = (extent_refusal shape extent ≡ None) × IsCutInto extent cut
 StartGives shape phase actor job what chosen = ⊥

@@ -2,8 +2,9 @@
 use Rattle.std.specs.Prelude.{◌≡◌, ◌≤◌, ◌+◌, ◌*◌, ◌/◌, ◌%◌, ◌==◌, ℕ, suc, List, [], ◌∷◌, Option, Some, None, All, IsPermutation, Contains, map, length, slice_get, unwrap_or, if◌then◌else◌}
 use Rattle.wb_types.specs.declared.entry.Entry.{Entry}
 use Rattle.wb_types.specs.Extents.{sectors_in, rising}
+use Rattle.wb_types.specs.declared.mode.Mode.TheVariants.{Passthrough}
 use Rattle.wb_types.specs.declared.refusal.Refusal.{Refusal}
-use Rattle.wb_types.specs.declared.refusal.Refusal.TheVariants.{Io, Memory, GenerationEnd}
+use Rattle.wb_types.specs.declared.refusal.Refusal.TheVariants.{Io, NotClean, Memory, GenerationEnd}
 use Rattle.wb_disk.specs.Device.{Content as Bytes, History, entries, newest}
 use Rattle.wb_disk.specs.Crashes.{MayLeave}
 use Rattle.wb_meta.specs.Formats.{IsFormatted}
@@ -80,11 +81,13 @@ pub record ShowsAllowed (n : Notes) (contents : List Bytes) : Type 0 where
   pub all : length contents ≡ length n.histories
   pub each : (at : ℕ) (content : Bytes) → slice_get contents at ≡ Some content → IsAllowedAt n at content
 
--- An opening is refused only where a step of it failed, for want of memory, or since no generation is left.
+-- An opening is refused only where a step of it failed, for want of memory, since no generation is left, or in passthrough, where the metadata were not
+-- left clean.
 abbrev pub MayRefuse : Doing → Refusal → Type 0
 MayRefuse doing (Io device) = Contains doing.failed device
 MayRefuse doing Memory = Unit {0}
 MayRefuse doing GenerationEnd = Unit {0}
+MayRefuse doing NotClean = doing.job ≡ Open Passthrough
 MayRefuse doing refusal = ⊥
 
 -- A read that is finished was given each of its sectors exactly once, and each with the latest write to it. A write

@@ -26,7 +26,7 @@ use Rattle.wb_tasks.specs.declared.step.Want.{Want}
 use Rattle.wb_tasks.specs.declared.step.Want.TheVariants.{Cell}
 use Rattle.wb_link.specs.Tables.{Seal as SealThere, Job as AbstractJob, Flushing as FlushingFor, Finished as AnsweredDone}
 use Rattle.wb_link.specs.World.{Shared, AbstractActor}
-use Rattle.wb_refines.specs.Translation.{script_for, answer_for, number_of}
+use Rattle.wb_refines.specs.Translation.{answer_for, number_of}
 use Rattle.wb_refines.specs.Models.{SealAgrees, WordsAgree, held_of, held_for, SawSeal, SameImages, SameElse}
 
 -- what is shared but the words is the same whatever these are
@@ -39,10 +39,6 @@ same_else s = words_else s s.seals s.fail
 
 pub same_images : (s : Shared) → SameImages s s
 same_images s = (same_else s).images
-
--- the actor that is at this
-abbrev pub at : ℕ → Content → Plan → Card → (ℕ → Content) → AbstractActor
-at size content plan card buffer = record { task = Some (script_for size content plan); held = held_for plan.steps card; order = None; leads = false; buffer = buffer }
 
 pub flag_of : (n : ℕ) (t : Bool) → (n == 0) ≡ t → flag n ≡ cond t false true
 flag_of zero true e = refl

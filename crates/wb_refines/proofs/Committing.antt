@@ -32,21 +32,21 @@ job_is size content true blocks most = refl
 job_is size content false blocks most = refl
 
 -- nodes are nothing in the abstract world
-nodes_are : (size : ℕ) (job : JobThere) (count first : ℕ) (ws vs : List Want) → wants_of size job ((node_writes count first ++ ws) ++ vs) ≡ wants_of size job (ws ++ vs)
+nodes_are : (size : ℕ) (job : JobThere) (count first : ℕ) (ws vs : List Want) → wants_of size None job ((node_writes count first ++ ws) ++ vs) ≡ wants_of size None job (ws ++ vs)
 nodes_are size job zero first ws vs = refl
 nodes_are size job (suc count) first ws vs = nodes_are size job count (first + 1) ws vs
 
-nodes_alone : (size : ℕ) (job : JobThere) (count first : ℕ) (ws : List Want) → wants_of size job (node_writes count first ++ ws) ≡ wants_of size job ws
+nodes_alone : (size : ℕ) (job : JobThere) (count first : ℕ) (ws : List Want) → wants_of size None job (node_writes count first ++ ws) ≡ wants_of size None job ws
 nodes_alone size job zero first ws = refl
 nodes_alone size job (suc count) first ws = nodes_alone size job count (first + 1) ws
 
 -- nor are the orders that it gives up
-releases_are : (size : ℕ) (job : JobThere) (blocks : List OBlock) → wants_of size job (release_orders blocks) ≡ []
+releases_are : (size : ℕ) (job : JobThere) (blocks : List OBlock) → wants_of size None job (release_orders blocks) ≡ []
 releases_are size job [] = refl
 releases_are size job (b ∷ bs) = releases_are size job bs
 
 -- before its commit begins, all of it is left there
-pub acquire_is : (size : ℕ) (job : JobThere) (clean : Bool) (most : ℕ) (steps : List Want) → IsToBegin clean most steps → wants_of size job steps ≡ abstract_acquire job
+pub acquire_is : (size : ℕ) (job : JobThere) (clean : Bool) (most : ℕ) (steps : List Want) → IsToBegin clean most steps → wants_of size None job steps ≡ abstract_acquire job
 acquire_is size job clean most (Desk (BeginCommit marked nodes) ∷ later) b = refl
 acquire_is size job true most (Cell (Look (SealWord block)) ∷ later) b = refl
 acquire_is size job clean most steps b = absurd b
@@ -60,7 +60,7 @@ module _ (size : ℕ) (clean : Bool) (blocks : List OBlock) (most : ℕ) (conten
   asking steps answer leads = record { task = Some (record { job = there; steps = steps; answer = answer }); held = Nothing; order = None; leads = leads; buffer = buffer }
 
   abbrev committer : List Want → Answer → Bool → AbstractActor
-  committer steps answer leads = asking (wants_of size there steps) (answer_for there answer) leads
+  committer steps answer leads = asking (wants_of size None there steps) (answer_for there answer) leads
 
   looks_at : (word : ℕ) (later : List Want) (answer : Answer) → s.fail ≡ flag word →
       CanGoOn size content actors a s (committer (Cell (Look Fail) ∷ later) answer false) s (after (committing clean blocks most (Cell (Look Fail) ∷ later) answer) (Word word)) false
@@ -74,7 +74,7 @@ module _ (size : ℕ) (clean : Bool) (blocks : List OBlock) (most : ℕ) (conten
 -- a fault of whatever step on the metadata
 module _ (size : ℕ) (blocks : List OBlock) (most : ℕ) (content : Content) (actors : List AbstractActor) (a : ℕ) (s : Shared) (buffer : ℕ → Content) where
   abbrev Falls : (clean : Bool) → List Want → AnswerThere → Dev → Type 0
-  Falls clean steps answer device = (written : Bool) × (s.root_written ≡ true → written ≡ true) × CanGoOn size content actors a s (asking size clean blocks most content actors a s buffer (wants_of size (job_for size content (commit_task clean blocks most)) steps) answer true) (record s { root_written = written }) (committing clean blocks most (Cell SetFailed ∷ []) (Refuses (Io device))) true
+  Falls clean steps answer device = (written : Bool) × (s.root_written ≡ true → written ≡ true) × CanGoOn size content actors a s (asking size clean blocks most content actors a s buffer (wants_of size None (job_for size content (commit_task clean blocks most)) steps) answer true) (record s { root_written = written }) (committing clean blocks most (Cell SetFailed ∷ []) (Refuses (Io device))) true
 
   on_metadata : (clean : Bool) (steps : List Want) (answer : AnswerThere) (device : Dev) → IsOnMetadata clean steps → Falls clean steps answer device
   on_metadata clean (Device (WriteNode number) ∷ later) answer d m = on_metadata clean later answer d m

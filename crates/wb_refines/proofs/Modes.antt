@@ -1,4 +1,4 @@
--- A write is alike in both modes that cache, but for where it puts each extent.
+-- A read or a write is alike in all modes, but for where it takes or puts each extent.
 use Rattle.std.proofs.Common.{◌≡◌, ◌≢◌, ℕ, Bool, false, List, [], ◌∷◌, Option, None, refl}
 use Rattle.wb_types.specs.declared.mode.Mode.{Mode}
 use Rattle.wb_types.specs.declared.mode.Mode.TheVariants.{Writeback, Writethrough, Passthrough}
@@ -8,9 +8,9 @@ use Rattle.wb_disk.specs.Device.{Content}
 use Rattle.wb_tasks.specs.Plan.{deferring}
 use Rattle.wb_tasks.specs.declared.step.Answer.{Answer}
 use Rattle.wb_tasks.specs.declared.step.Answer.TheVariants.{Refused as Refuses}
-use Rattle.wb_link.specs.Tables.{Job, Own, Look_seal, Set_failed, Busy as AnsweredBusy, abstract_acquire, abstract_work, breaking}
+use Rattle.wb_link.specs.Tables.{Job, Own, Share, Leave, Look_seal, abstract_release, Set_failed, Busy as AnsweredBusy, abstract_acquire, abstract_work, breaking}
 use Rattle.wb_link.specs.World.{World, Shared, AllWithin, AllDistinct, MayStart, job_alone, abstract_contents_for, abstract_order_of, abstract_reserved}
-use Rattle.wb_refines.specs.Translation.{writing_in, block_in, answer_for}
+use Rattle.wb_refines.specs.Translation.{reading_in, writing_in, block_in, answer_for}
 
 module _ (block : ℕ) (os : List (List ℕ)) (content : Content) where
   abbrev it : Mode → Job
@@ -63,12 +63,66 @@ module _ (block : ℕ) (os : List (List ℕ)) (content : Content) where
   reserves_in Writethrough s = refl
   reserves_in Passthrough s = refl
 
-  pub starts_in : (mode : Mode) (size : ℕ) (w : World) → mode ≢ Passthrough → w.shared.mode ≡ mode → AllWithin size os → AllDistinct os → MayStart size w (it mode)
-  starts_in Writeback size w caches is within distinct = (within, is)
-  starts_in Writethrough size w caches is within distinct = (within, distinct, is)
-  starts_in Passthrough size w caches is within distinct = absurd (caches refl)
+  pub starts_in : (mode : Mode) (size : ℕ) (w : World) → w.shared.mode ≡ mode → AllWithin size os → AllDistinct os → MayStart size w (it mode)
+  starts_in Writeback size w is within distinct = (within, is)
+  starts_in Writethrough size w is within distinct = (within, distinct, is)
+  starts_in Passthrough size w is within distinct = (within, is)
 
--- and it is deferred in neither
+module _ (block : ℕ) (os : List (List ℕ)) where
+  abbrev this : Mode → Job
+  this mode = reading_in mode block os
+
+  pub read_acquires : (mode : Mode) → abstract_acquire (this mode) ≡ Share block ∷ Look_seal block ∷ []
+  read_acquires Writeback = refl
+  read_acquires Writethrough = refl
+  read_acquires Passthrough = refl
+
+  pub read_breaks : (mode : Mode) → breaking (this mode) ≡ Set_failed ∷ []
+  read_breaks Writeback = refl
+  read_breaks Writethrough = refl
+  read_breaks Passthrough = refl
+
+  pub read_releases : (mode : Mode) → abstract_release (this mode) ≡ Leave block ∷ []
+  read_releases Writeback = refl
+  read_releases Writethrough = refl
+  read_releases Passthrough = refl
+
+  pub read_among : (mode : Mode) → job_alone (this mode) ≡ false
+  read_among Writeback = refl
+  read_among Writethrough = refl
+  read_among Passthrough = refl
+
+  pub read_busy : (mode : Mode) → AnsweredBusy ≡ answer_for (this mode) (Refuses Busy)
+  read_busy Writeback = refl
+  read_busy Writethrough = refl
+  read_busy Passthrough = refl
+
+  pub read_any : (mode : Mode) (d e : Bool) → abstract_work (this mode) (record { location = None; dirty = d }) ≡ abstract_work (this mode) (record { location = None; dirty = e })
+  read_any Writeback d e = refl
+  read_any Writethrough d e = refl
+  read_any Passthrough d e = refl
+
+  pub block_read : (mode : Mode) → block_in (this mode) ≡ block
+  block_read Writeback = refl
+  block_read Writethrough = refl
+  block_read Passthrough = refl
+
+  pub read_order : (mode : Mode) → abstract_order_of (this mode) ≡ None
+  read_order Writeback = refl
+  read_order Writethrough = refl
+  read_order Passthrough = refl
+
+  pub read_reserves : (mode : Mode) (s : Shared) → abstract_reserved s (this mode) ≡ s
+  read_reserves Writeback s = refl
+  read_reserves Writethrough s = refl
+  read_reserves Passthrough s = refl
+
+  pub read_starts : (mode : Mode) (size : ℕ) (w : World) → w.shared.mode ≡ mode → AllWithin size os → MayStart size w (this mode)
+  read_starts Writeback size w is within = within
+  read_starts Writethrough size w is within = within
+  read_starts Passthrough size w is within = (within, is)
+
+-- and a write that need not displace its block is not deferred
 pub undeferred_in : (mode : Mode) → mode ≢ Passthrough → (place : Option CBlock) (answer : Answer) → deferring mode place answer ≡ answer
 undeferred_in Writeback caches place answer = refl
 undeferred_in Writethrough caches place answer = refl

@@ -1,5 +1,7 @@
 -- Each step of a task on an extent is followed.
-use Rattle.std.proofs.Common.{◌≡◌, ◌≤◌, ◌+◌, ◌*◌, ◌%◌, ◌∙◌, ℕ, Bool, true, false, List, ◌∷◌, Some, None, refl, sym, ap, subst, arith, length, map}
+use Rattle.std.proofs.Common.{◌≡◌, ◌≤◌, ◌+◌, ◌*◌, ◌%◌, ◌∙◌, ℕ, Bool, true, false, List, ◌∷◌, Some, None, refl, sym, ap, subst, arith, length, map, Option}
+use Rattle.wb_tasks.specs.declared.step.DeskStep.TheVariants.{Map, Unmap, ReleaseOrder, BeginCommit, EndCommit}
+use Rattle.wb_types.specs.declared.number.CBlock.{CBlock}
 use Rattle.wb_types.specs.declared.extent.Extent.{Extent}
 use Rattle.wb_types.specs.declared.mode.Dev.{Dev}
 use Rattle.wb_types.specs.Extents.{rising}
@@ -10,21 +12,40 @@ use Rattle.wb_tasks.specs.Tables.{BlockJob}
 use Rattle.wb_tasks.specs.declared.step.Answer.{Answer}
 use Rattle.wb_tasks.specs.declared.step.DeviceStep.{DeviceStep}
 use Rattle.wb_tasks.specs.declared.step.Want.{Want}
-use Rattle.wb_tasks.specs.declared.step.Want.TheVariants.{Device}
+use Rattle.wb_tasks.specs.declared.step.Want.TheVariants.{Device, Cell, Desk, End}
 use Rattle.wb_link.specs.World.{Shared, AbstractActor, newest_at, abstract_contents_for, put_where}
 use Rattle.wb_refines.specs.Translation.{script_for, location_at, offsets_in}
-use Rattle.wb_refines.specs.Models.{IsAt, plan_of}
+use Rattle.wb_refines.specs.Models.{IsAt, plan_of, UnmapNothing, MayUnmap}
 use Rattle.wb_refines.specs.Data.{row, IsSide, IsInBlock, ExtentsFollowed}
 use Rattle.wb_refines.proofs.Cells.{IsPlain, held_plain, saw_plain}
 use Rattle.wb_refines.proofs.Extents.{alike_self, reads_newest, put_where_is, where_beside, same_beside}
 
+-- what unmaps nothing, but from a cache block, does not do so later
+pub unmaps_later : (place : Option CBlock) (next : Want) (later : List Want) → MayUnmap place (next ∷ later) → MayUnmap place later
+unmaps_later (Some c) next later m = tt
+unmaps_later None (Desk (Unmap block)) later m = absurd m
+unmaps_later None (Desk (Map block place)) later m = m
+unmaps_later None (Desk (ReleaseOrder block)) later m = m
+unmaps_later None (Desk (BeginCommit clean most)) later m = m
+unmaps_later None (Desk EndCommit) later m = m
+unmaps_later None (Cell step) later m = m
+unmaps_later None (Device step) later m = m
+unmaps_later None (End answer) later m = m
+
+-- nor does what unmaps nothing at all
+pub unmaps_none : (place : Option CBlock) (steps : List Want) → UnmapNothing steps → MayUnmap place steps
+unmaps_none None steps n = n
+unmaps_none (Some c) steps n = tt
+
 -- a request that has moved an extent goes on with what is left of it
-pub goes_on_at : (size : ℕ) (content : Content) (job : BlockJob) (step : DeviceStep) (later : List Want) (answer : Answer) (card : Card) (y : AbstractActor) (buffer : ℕ → Content) → IsPlain later → IsAt size content (plan_of job (Device step ∷ later) answer) card y →
-    IsAt size content (plan_of job later answer) card (record y { task = Some (script_for size content (plan_of job later answer)); buffer = buffer })
+pub goes_on_at : (size : ℕ) (content : Content) (job : BlockJob) (step : DeviceStep) (later : List Want) (answer : Answer) (card : Card) (y : AbstractActor) (buffer : ℕ → Content) → IsPlain later → (is : IsAt size content (plan_of job (Device step ∷ later) answer) card y) →
+    IsAt size content (plan_of job later answer) card (record y { task = Some (script_for size content is.place (plan_of job later answer)); buffer = buffer })
 goes_on_at size content job step later answer card y buffer plain is = record {
+  place = is.place;
   buffer = buffer;
-  is = ap (λ (v : AbstractActor). record v { task = Some (script_for size content (plan_of job later answer)); buffer = buffer }) is.is ∙ (λ i. record { task = Some (script_for size content (plan_of job later answer)); held = sym (held_plain later card plain) i; order = None; leads = false; buffer = buffer });
+  is = ap (λ (v : AbstractActor). record v { task = Some (script_for size content is.place (plan_of job later answer)); buffer = buffer }) is.is ∙ (λ i. record { task = Some (script_for size content is.place (plan_of job later answer)); held = sym (held_plain later card plain) i; order = None; leads = false; buffer = buffer });
   saw = saw_plain (plan_of job later answer) later card plain;
+  unmaps = unmaps_later is.place (Device step) later is.unmaps;
 }
 
 module _ (size : ℕ) (blank : Content) (s : Shared) (block : ℕ) (device : Dev) (e : Extent) (list : List History) (inside : IsInBlock size block device e) (i : IsSide size blank (location_at size device e) list s) where

@@ -1,6 +1,5 @@
--- Reads, writes and migrations play their roles.
+-- Reads, writes, invalidations and migrations play their roles.
 use Rattle.std.proofs.Common.{◌≡◌, ◌≢◌, ◌<◌, ◌∙◌, ℕ, Bool, false, List, [], ◌∷◌, Option, Some, None, refl, sym, ap, subst}
-use Rattle.wb_types.specs.declared.mode.Mode.TheVariants.{Passthrough}
 use Rattle.wb_types.specs.declared.number.CBlock.{CBlock}
 use Rattle.wb_types.specs.declared.refusal.Refusal.{Refusal}
 use Rattle.wb_types.specs.declared.refusal.Refusal.TheVariants.{Busy}
@@ -11,21 +10,25 @@ use Rattle.wb_tasks.specs.Tables.{BlockJob, TaskJob, BlockRange, Reading, Writin
 use Rattle.wb_tasks.specs.Ready.{block_of}
 use Rattle.wb_tasks.specs.Plan.{Plan, answer_seeing}
 use Rattle.wb_tasks.specs.declared.step.Answer.{Answer}
+use Rattle.wb_types.specs.declared.number.OBlock.{OBlock}
+use Rattle.wb_words.specs.declared.word.Word.TheVariants.{Number, Seal as SealWord}
+use Rattle.wb_words.specs.declared.step.CellStep.TheVariants.{Look}
 use Rattle.wb_tasks.specs.declared.step.Want.{Want}
+use Rattle.wb_tasks.specs.declared.step.Want.TheVariants.{Cell}
 use Rattle.wb_tasks.specs.declared.step.Answer.TheVariants.{Refused as Refuses}
 use Rattle.wb_tasks.specs.declared.step.Migration.{Migration}
 use Rattle.wb_tasks.specs.declared.step.Migration.TheVariants.{Promote, Demote, Clean}
 use Rattle.wb_link.specs.Tables.{Order, Job as AbstractJob, Seal as SealThere, Answer as AbstractAnswer, Finished as AnsweredDone, abstract_work as work_there, Look_seal, Set_failed, abstract_acquire, breaking, Busy as AnsweredBusy}
 use Rattle.wb_link.specs.World.{AbstractActor, job_alone}
 use Rattle.wb_refines.specs.Translation.{number_of, offsets, job_for, answer_for, wants_of}
-use Rattle.wb_refines.specs.Models.{SealAgrees, IsRequest, IsAt, held_for, plan_of}
+use Rattle.wb_refines.specs.Models.{SealAgrees, IsRequest, IsAt, held_for, plan_of, MayUnmap}
 use Rattle.wb_refines.specs.Roles.{acting, IsAs, Plays, request_role, RequestCellsFollowed, claim}
 use Rattle.wb_refines.specs.Migrations.{job_under, order_on, Fills, IsWhere}
 use Rattle.wb_refines.specs.Carried.{migration_role, MigrationCellsFollowed}
 use Rattle.wb_refines.proofs.Cells.{refused_undone}
 use Rattle.wb_refines.proofs.Followed.{cell_steps_followed}
-use Rattle.wb_refines.proofs.Modes.{acquires_in, breaks_in, among_in, busy_in, any_in, undeferred_in}
-use Rattle.wb_refines.proofs.Tables.{read_work, write_work}
+use Rattle.wb_refines.proofs.Modes.{acquires_in, breaks_in, among_in, busy_in, any_in, undeferred_in, read_acquires, read_breaks, read_among, read_busy, read_any}
+use Rattle.wb_refines.proofs.Tables.{read_work, write_work, displacing_work, invalidating_work}
 use Rattle.wb_refines.proofs.Migrating.{works}
 
 -- A job's work hangs on no more of a seal than agrees, where it hangs on the dirty bit of a mapped block alone.
@@ -39,29 +42,40 @@ undone : (job : AbstractJob) (refusal : Refusal) (answer : AbstractAnswer) → a
 undone job refusal answer is e = refused_undone job refusal (sym is ∙ e)
 
 -- a request that is at this is so in its role, and the other way round
-pub as_request : (size : ℕ) (content : Content) (job : BlockJob) (steps : List Want) (answer : Answer) (card : Card) (y : AbstractActor) → IsAt size content (plan_of job steps answer) card y → IsAs (request_role size content job) (plan_of job steps answer) card y
+pub as_request : (size : ℕ) (content : Content) (job : BlockJob) (steps : List Want) (answer : Answer) (card : Card) (y : AbstractActor) → (i : IsAt size content (plan_of job steps answer) card y) → IsAs (request_role size content i.place job) (plan_of job steps answer) card y
 as_request size content job steps answer card y i = record { answer = answer_for (job_for size content (OnBlock job)) answer; buffer = i.buffer; is = i.is; alike = refl; saw = i.saw }
 
-pub at_request : (size : ℕ) (content : Content) (job : BlockJob) (plan : Plan) (card : Card) (y : AbstractActor) → plan.job ≡ OnBlock job → IsAs (request_role size content job) plan card y → IsAt size content plan card y
-at_request size content job plan card y e i = subst (λ (k : TaskJob). IsAt size content (record { job = k; steps = plan.steps; answer = plan.answer }) card y) (sym e)
-    (by (subst (λ (k : TaskJob). IsAs (request_role size content job) (record { job = k; steps = plan.steps; answer = plan.answer }) card y) e i))
+pub at_request : (size : ℕ) (content : Content) (place : Option CBlock) (job : BlockJob) (plan : Plan) (card : Card) (y : AbstractActor) → plan.job ≡ OnBlock job → MayUnmap place plan.steps → IsAs (request_role size content place job) plan card y → IsAt size content plan card y
+at_request size content place job plan card y e unmaps i = subst (λ (k : TaskJob). IsAt size content (record { job = k; steps = plan.steps; answer = plan.answer }) card y) (sym e)
+    (by (subst (λ (k : TaskJob). IsAs (request_role size content place job) (record { job = k; steps = plan.steps; answer = plan.answer }) card y) e i))
   where
-    by : IsAs (request_role size content job) (plan_of job plan.steps plan.answer) card y → IsAt size content (plan_of job plan.steps plan.answer) card y
-    by i = record { buffer = i.buffer; is = i.is ∙ ap (λ (t : AbstractAnswer). acting (request_role size content job) (wants_of size (job_for size content (OnBlock job)) plan.steps) t (held_for plan.steps card) i.buffer) i.alike; saw = i.saw }
+    by : IsAs (request_role size content place job) (plan_of job plan.steps plan.answer) card y → IsAt size content (plan_of job plan.steps plan.answer) card y
+    by i = record { place = place; buffer = i.buffer; is = i.is ∙ ap (λ (t : AbstractAnswer). acting (request_role size content place job) (wants_of size place (job_for size content (OnBlock job)) plan.steps) t (held_for plan.steps card) i.buffer) i.alike; saw = i.saw; unmaps = unmaps }
+
+-- Before the number of its block is looked at, any place is the one at which it is.
+pub placed : (size : ℕ) (content : Content) (place : Option CBlock) (job : BlockJob) (block : OBlock) (later : List Want) (answer : Answer) (card : Card) (y : AbstractActor) → IsAt size content (plan_of job (Cell (Look (Number block)) ∷ later) answer) card y →
+    IsAs (request_role size content place job) (plan_of job (Cell (Look (Number block)) ∷ later) answer) card y
+placed size content place job block later answer card y i = record { answer = answer_for (job_for size content (OnBlock job)) answer; buffer = i.buffer; is = i.is; alike = refl; saw = i.saw }
+
+-- So it is where its seal is looked at.
+pub placed_seal : (size : ℕ) (content : Content) (place : Option CBlock) (job : BlockJob) (block : OBlock) (later : List Want) (answer : Answer) (card : Card) (y : AbstractActor) → IsAt size content (plan_of job (Cell (Look (SealWord block)) ∷ later) answer) card y →
+    IsAs (request_role size content place job) (plan_of job (Cell (Look (SealWord block)) ∷ later) answer) card y
+placed_seal size content place job block later answer card y i = record { answer = answer_for (job_for size content (OnBlock job)) answer; buffer = i.buffer; is = i.is; alike = refl; saw = i.saw }
 
 -- So a request plays its part, where its work is this by a seal, and hangs on the dirty bit of a mapped block alone.
-module _ (size : ℕ) (content : Content) (job : BlockJob) (sized : size ≡ (range_of job).block_sectors) where
+module _ (size : ℕ) (content : Content) (place : Option CBlock) (job : BlockJob) (sized : size ≡ (range_of job).block_sectors) where
   abbrev there : ℕ → AbstractJob
   there n = job_for n content (OnBlock job)
 
   request_plays : abstract_acquire (there size) ≡ claim (access_of job) (block_of job) ∷ Look_seal (block_of job).0 ∷ [] → breaking (there size) ≡ Set_failed ∷ [] → job_alone (there size) ≡ false → AnsweredBusy ≡ answer_for (there size) (Refuses Busy) → ((d e : Bool) → work_there (there size) (record { location = None; dirty = d }) ≡ work_there (there size) (record { location = None; dirty = e })) →
-      ((word : ℕ) (answer : Answer) → answer_seeing (OnBlock job) word answer ≡ answer) → ((place : Option CBlock) (dirty : Bool) → wants_of (range_of job).block_sectors (there (range_of job).block_sectors) (work job place dirty) ≡ work_there (there (range_of job).block_sectors) (record { location = number_of place; dirty = dirty })) → Plays (request_role size content job) job
+      ((word : ℕ) (answer : Answer) → answer_seeing (OnBlock job) word answer ≡ answer) → ((place : Option CBlock) (dirty : Bool) → wants_of (range_of job).block_sectors place (there (range_of job).block_sectors) (work job place dirty) ≡ work_there (there (range_of job).block_sectors) (record { location = number_of place; dirty = dirty })) → Plays (request_role size content place job) job
   request_plays begins breaks among busy any undeferred is = record {
     begins = begins;
     steps = λ step later. refl;
     ends = refl;
     works = λ word seal f a. same_work (there size) (place_in word) (dirty_in word) seal (λ d. any d (dirty_in word)) a.location a.dirty
-        ∙ subst (λ (n : ℕ). work_there (there n) (record { location = number_of (place_in word); dirty = dirty_in word }) ≡ wants_of n (there n) (work job (place_in word) (dirty_in word))) (sym sized) (sym (is (place_in word) (dirty_in word)));
+        ∙ subst (λ (n : ℕ). work_there (there n) (record { location = number_of (place_in word); dirty = dirty_in word }) ≡ wants_of n place (there n) (work job (place_in word) (dirty_in word))) (sym sized)
+        (subst (λ (p : Option CBlock). work_there (there (range_of job).block_sectors) (record { location = number_of (place_in word); dirty = dirty_in word }) ≡ wants_of (range_of job).block_sectors p (there (range_of job).block_sectors) (work job (place_in word) (dirty_in word))) f (sym (is (place_in word) (dirty_in word))));
     undeferred = undeferred;
     breaks = breaks;
     among_others = among;
@@ -70,13 +84,14 @@ module _ (size : ℕ) (content : Content) (job : BlockJob) (sized : size ≡ (ra
     undone = undone (there size);
   }
 
-pub requests_play : (size : ℕ) (content : Content) (job : BlockJob) → IsRequest job → (range_of job).mode ≢ Passthrough → 0 < size → size ≡ (range_of job).block_sectors → Plays (request_role size content job) job
-requests_play size content (Reading part) r caches some e = request_plays size content (Reading part) e refl refl refl refl (λ d e. refl) (λ word answer. refl) (read_work part (subst (λ v. 0 < v) e some) caches content)
-requests_play size content (Writing part) r caches some e = let b = part.block.0 in let os = offsets size part.extents in request_plays size content (Writing part) e (acquires_in b os content part.mode) (breaks_in b os content part.mode) (among_in b os content part.mode) (busy_in b os content part.mode) (any_in b os content part.mode)
-    (λ word answer. undeferred_in part.mode caches (place_in word) answer) (write_work part (subst (λ v. 0 < v) e some) caches content)
-requests_play size content (Displacing part) r caches some e = absurd r
-requests_play size content (Invalidating part) r caches some e = absurd r
-requests_play size content (Migrating migration part) r caches some e = absurd r
+pub requests_play : (size : ℕ) (content : Content) (place : Option CBlock) (job : BlockJob) → IsRequest job → 0 < size → size ≡ (range_of job).block_sectors → Plays (request_role size content place job) job
+requests_play size content place (Reading part) r some e = let b = part.block.0 in let os = offsets size part.extents in request_plays size content place (Reading part) e (read_acquires b os part.mode) (read_breaks b os part.mode) (read_among b os part.mode) (read_busy b os part.mode) (read_any b os part.mode)
+    (λ word answer. refl) (read_work part (subst (λ v. 0 < v) e some) content)
+requests_play size content place (Writing part) r some e = let b = part.block.0 in let os = offsets size part.extents in request_plays size content place (Writing part) e (acquires_in b os content part.mode) (breaks_in b os content part.mode) (among_in b os content part.mode) (busy_in b os content part.mode) (any_in b os content part.mode)
+    (λ word answer. undeferred_in part.mode r (place_in word) answer) (write_work part (subst (λ v. 0 < v) e some) r content)
+requests_play size content place (Displacing part) r some e = request_plays size content place (Displacing part) e refl refl refl refl (λ d e. refl) (λ word answer. refl) (displacing_work part (subst (λ v. 0 < v) e some) content)
+requests_play size content place (Invalidating part) r some e = request_plays size content place (Invalidating part) e refl refl refl refl (λ d e. refl) (λ word answer. refl) (invalidating_work part (subst (λ v. 0 < v) e some) content)
+requests_play size content place (Migrating migration part) r some e = absurd r
 
 -- what a migration's work is hangs on no more of the seal than agrees
 same_there : (migration : Migration) (order : Order) (os : List (List ℕ)) (c : CBlock) (seen : ℕ) (seal : SealThere) → IsWhere migration c (place_in seen) → SealAgrees seen seal → work_there (job_under order os migration) seal ≡ work_there (job_under order os migration) (record { location = number_of (place_in seen); dirty = dirty_in seen })
@@ -107,7 +122,7 @@ migrations_play part c next migration kept some fills = let its = parts part c n
 
 -- so their steps on the words are followed
 pub request_cells_followed : RequestCellsFollowed
-request_cells_followed size content job request caches some sized = cell_steps_followed (request_role size content job) job (requests_play size content job request caches some sized)
+request_cells_followed size content place job request some sized = cell_steps_followed (request_role size content place job) job (requests_play size content place job request some sized)
 
 pub migration_cells_followed : MigrationCellsFollowed
 migration_cells_followed part c next migration kept some fills = cell_steps_followed (migration_role part c next migration kept) (Migrating migration part) (migrations_play part c next migration kept some fills)

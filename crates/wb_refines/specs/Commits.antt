@@ -47,7 +47,7 @@ committing clean blocks most steps answer = record { job = commit_task clean blo
 -- An abstract actor is at what is left of it, and leads the commit or doesn't.
 pub record IsCommitting (size : ℕ) (content : Content) (plan : Plan) (leads : Bool) (y : AbstractActor) : Type 0 where
   pub buffer : ℕ → Content
-  pub is : y ≡ record { task = Some (script_for size content plan); held = Nothing; order = None; leads = leads; buffer = buffer }
+  pub is : y ≡ record { task = Some (script_for size content None plan); held = Nothing; order = None; leads = leads; buffer = buffer }
 
 -- An abstract actor can go on so that this is shared then, and is at what is left.
 pub record CanGoOn (size : ℕ) (content : Content) (actors : List AbstractActor) (a : ℕ) (s : Shared) (y : AbstractActor) (t : Shared) (plan : Plan) (leads : Bool) : Type 0 where

@@ -1,7 +1,9 @@
 -- When what is shared, and an actor with a task that reads or writes a block, is what an abstract world has.
-use Rattle.std.specs.Prelude.{Bool, ◌≡◌, ◌≢◌, ◌⊎◌, ◌<◌, ℕ, true, false, List, [], ◌∷◌, Some, None, slice_get}
+use Rattle.std.specs.Prelude.{Bool, ◌≡◌, ◌≢◌, ◌⊎◌, ◌<◌, ℕ, true, false, List, [], ◌∷◌, Option, Some, None, slice_get}
+use Rattle.wb_tasks.specs.declared.step.DeskStep.TheVariants.{Unmap}
 use Rattle.wb_types.specs.declared.number.OBlock.{OBlock}
 use Rattle.wb_types.specs.declared.number.CBlock.{CBlock}
+use Rattle.wb_types.specs.declared.mode.Mode.TheVariants.{Passthrough}
 use Rattle.wb_types.specs.declared.refusal.Refusal.{Refusal}
 use Rattle.wb_disk.specs.Device.{Content}
 use Rattle.wb_words.specs.declared.word.Access.TheVariants.{Shared as Sharing, Owned}
@@ -13,21 +15,21 @@ use Rattle.wb_words.specs.declared.card.Hold.TheVariants.{Nothing as HoldsNothin
 use Rattle.wb_words.specs.declared.card.Card.{Card}
 use Rattle.wb_words.specs.SharedWords.{Words, word_at, place_in, dirty_in, flag, seal_word}
 use Rattle.wb_words.specs.Cards.{owners, sharers}
-use Rattle.wb_tasks.specs.Tables.{BlockJob, Reading, Writing, OnBlock}
+use Rattle.wb_tasks.specs.Tables.{BlockJob, Writing, Migrating, OnBlock}
 use Rattle.wb_tasks.specs.Plan.{Plan, work_of}
 use Rattle.wb_tasks.specs.declared.step.Answer.{Answer}
 use Rattle.wb_tasks.specs.declared.step.Want.{Want}
-use Rattle.wb_tasks.specs.declared.step.Want.TheVariants.{Cell}
+use Rattle.wb_tasks.specs.declared.step.Want.TheVariants.{Cell, Desk}
 use Rattle.wb_tasks.specs.declared.step.Answer.TheVariants.{Done as Finished, Refused as Refuses}
 use Rattle.wb_link.specs.Tables.{Seal, Script, Finished as AnsweredDone}
 use Rattle.wb_link.specs.World.{job_alone, Shared, Held, Nothing, Shares, Owns, AbstractActor}
 use Rattle.wb_refines.specs.Translation.{number_of, script_for}
 
--- a read or a write
+-- a read, a write in a mode that caches, one that may displace its block, or an invalidation
 abbrev pub IsRequest : BlockJob → Type 0
-IsRequest (Reading part) = Unit {0}
-IsRequest (Writing part) = Unit {0}
-IsRequest job = ⊥
+IsRequest (Writing part) = part.mode ≢ Passthrough
+IsRequest (Migrating migration part) = ⊥
+IsRequest job = Unit {0}
 
 -- what is left of a job on a block
 abbrev pub plan_of : BlockJob → List Want → Answer → Plan
@@ -61,11 +63,23 @@ SawSeal plan (Cell (Look (Number block)) ∷ later) card = (seal : ℕ) × (card
 SawSeal plan (Cell SetFailed ∷ later) card = (refusal : Refusal) × (plan.answer ≡ Refuses refusal)
 SawSeal plan steps card = Unit {0}
 
--- An abstract actor is at what is left of this task.
+-- A block leaves the cache by these steps only where it was seen in a cache block.
+abbrev pub UnmapNothing : List Want → Type 0
+UnmapNothing [] = Unit {0}
+UnmapNothing (Desk (Unmap block) ∷ later) = ⊥
+UnmapNothing (next ∷ later) = UnmapNothing later
+
+abbrev pub MayUnmap : Option CBlock → List Want → Type 0
+MayUnmap None steps = UnmapNothing steps
+MayUnmap (Some c) steps = Unit {0}
+
+-- An abstract actor is at what is left of this task, whose block is at this place, once it was seen.
 pub record IsAt (size : ℕ) (content : Content) (plan : Plan) (card : Card) (y : AbstractActor) : Type 0 where
+  pub place : Option CBlock
   pub buffer : ℕ → Content
-  pub is : y ≡ record { task = Some (script_for size content plan); held = held_for plan.steps card; order = None; leads = false; buffer = buffer }
+  pub is : y ≡ record { task = Some (script_for size content place plan); held = held_for plan.steps card; order = None; leads = false; buffer = buffer }
   pub saw : SawSeal plan plan.steps card
+  pub unmaps : MayUnmap place plan.steps
 
 -- nothing is left, but perhaps a block to give back
 abbrev pub OnlyParts : List Want → Type 0

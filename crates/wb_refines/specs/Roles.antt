@@ -1,11 +1,11 @@
 -- The part that a job on a block plays in an abstract world, and when its steps on the shared words are followed there.
 use Rattle.std.specs.Prelude.{◌≡◌, ◌≢◌, ◌⊎◌, ◌<◌, ℕ, false, List, [], ◌∷◌, Option, Some, None, slice_get}
-use Rattle.wb_types.specs.declared.mode.Mode.TheVariants.{Passthrough}
+use Rattle.wb_types.specs.declared.number.CBlock.{CBlock}
 use Rattle.wb_types.specs.declared.number.OBlock.{OBlock}
 use Rattle.wb_types.specs.declared.refusal.Refusal.{Refusal}
 use Rattle.wb_types.specs.declared.refusal.Refusal.TheVariants.{Busy, Failed}
 use Rattle.wb_disk.specs.Device.{Content}
-use Rattle.wb_words.specs.SharedWords.{Words, flag}
+use Rattle.wb_words.specs.SharedWords.{Words, flag, place_in}
 use Rattle.wb_words.specs.Rule.{LockRule}
 use Rattle.wb_words.specs.Effects.{result_of, words_after, card_after}
 use Rattle.wb_words.specs.declared.card.Card.{Card}
@@ -67,14 +67,14 @@ pub record Plays (role : Role) (job : BlockJob) : Type 0 where
   pub busy : role.alike (Refuses Busy) AnsweredBusy
   pub undone : (refusal : Refusal) (answer : AbstractAnswer) → role.alike (Refuses refusal) answer → answer ≢ AnsweredDone
 
--- the role of a read, or of a write of this content
-abbrev pub request_role : ℕ → Content → BlockJob → Role
-request_role size content job = record {
+-- the role of a read, of a write of this content, or of an invalidation, whose block is to be found at this place
+abbrev pub request_role : ℕ → Content → Option CBlock → BlockJob → Role
+request_role size content place job = record {
   job = job_for size content (OnBlock job);
-  wants = wants_of size (job_for size content (OnBlock job));
+  wants = wants_of size place (job_for size content (OnBlock job));
   order = None;
   alike = λ answer there. there ≡ answer_for (job_for size content (OnBlock job)) answer;
-  finds = λ seal. Unit {0};
+  finds = λ seal. place_in seal ≡ place;
 }
 
 -- What an actor did on the words, which are these now, the abstract actor can do too, and both are at the same then.
@@ -100,6 +100,6 @@ StepsFollowed role job = (blocks : ℕ) (words : Words) (cards : List Card) (act
     Suits blocks (plan_of job (Cell step ∷ later) answer) card → IsAs role (plan_of job (Cell step ∷ later) answer) card y →
     DoesToo role actors a s y (words_after words step) (after (plan_of job (Cell step ∷ later) answer) (got_of (result_of words step))) (card_after words step card)
 
--- of a read or write in a mode that caches
+-- of a read, a write or an invalidation
 abbrev pub RequestCellsFollowed : Type 0
-RequestCellsFollowed = (size : ℕ) (content : Content) (job : BlockJob) → IsRequest job → (range_of job).mode ≢ Passthrough → 0 < size → size ≡ (range_of job).block_sectors → StepsFollowed (request_role size content job) job
+RequestCellsFollowed = (size : ℕ) (content : Content) (place : Option CBlock) (job : BlockJob) → IsRequest job → 0 < size → size ≡ (range_of job).block_sectors → StepsFollowed (request_role size content place job) job

@@ -31,7 +31,7 @@ use Rattle.wb_tasks.specs.declared.step.Want.TheVariants.{Cell, Device, Desk, En
 use Rattle.wb_devices.specs.declared.devices.Devices.{Devices}
 use Rattle.wb_devices.specs.Moving.{device_in}
 use Rattle.wb_promise.specs.declared.job.Job.{Job}
-use Rattle.wb_promise.specs.declared.job.Job.TheVariants.{Read, Write, Flush, Suspend, Open, Migrate, Replace}
+use Rattle.wb_promise.specs.declared.job.Job.TheVariants.{Read, Write, Flush, Suspend, Open, Invalidate, Migrate, Replace}
 use Rattle.wb_promise.specs.States.{Phase, Stands, Gone, Opens}
 use Rattle.wb_promise.specs.Happenings.{MayFailAt, MayStop, MayOrder, MayFollow, KeepsMigration, KeepsReplacement, IsOutOfPlace, order_for}
 use Rattle.wb_runs.proofs.Spelling.{Decided, two_of, at_most}
@@ -127,20 +127,17 @@ is_passthrough Passthrough = inl refl
 
 pub out_of_place : {P A : Type 0} (phase : Phase P A) (job : Job) → Decided (IsOutOfPlace phase job)
 out_of_place (Stands t) (Open mode) = elim (cases_eq t.words.fail 0) [
-  | inl fine ↦ inl (inl fine)
-  | inr failed ↦ elim (is_passthrough mode) [
-    | inl past ↦ inl (inr past)
-    | inr other ↦ inr (λ o. elim o [ inl f ↦ failed f | inr n ↦ other n ])
-  ]
+  | inl fine ↦ inl fine
+  | inr failed ↦ inr failed
 ]
-out_of_place Gone (Open mode) = elim (is_passthrough mode) [
-  | inl past ↦ inl (inr past)
-  | inr other ↦ inr (λ o. elim o [ inl f ↦ f | inr n ↦ other n ])
+out_of_place Gone (Open mode) = inr (λ o. o)
+out_of_place (Opens m r) (Open mode) = inr (λ o. o)
+out_of_place (Stands t) (Invalidate block) = elim (is_passthrough t.desk.mode) [
+  | inl past ↦ inr (λ o. o past)
+  | inr other ↦ inl other
 ]
-out_of_place (Opens m r) (Open mode) = elim (is_passthrough mode) [
-  | inl past ↦ inl (inr past)
-  | inr other ↦ inr (λ o. elim o [ inl f ↦ f | inr n ↦ other n ])
-]
+out_of_place Gone (Invalidate block) = inl (λ f. f)
+out_of_place (Opens m r) (Invalidate block) = inl (λ f. f)
 out_of_place (Stands t) (Read extent) = inr (λ o. o tt)
 out_of_place (Stands t) (Write extent content) = inr (λ o. o tt)
 out_of_place (Stands t) Flush = inr (λ o. o tt)

@@ -7,6 +7,7 @@ use Rattle.wb_types.specs.Extents.{sectors_in, sectors_of, IsCutInto}
 use Rattle.wb_types.specs.declared.mode.Dev.{Dev}
 use Rattle.wb_types.specs.declared.mode.Mode.{Mode}
 use Rattle.wb_types.specs.declared.mode.Mode.TheVariants.{Writeback, Writethrough, Passthrough}
+use Rattle.wb_types.specs.declared.number.OBlock.{OBlock}
 use Rattle.wb_types.specs.declared.refusal.Refusal.TheVariants.{Failed, Busy, Worn}
 use Rattle.wb_words.specs.declared.word.Word.TheVariants.{Cell as LockWord, Seal as SealWord, Number, Count as CountWord, Fail}
 use Rattle.wb_words.specs.declared.word.Access.TheVariants.{Shared, Owned}
@@ -23,13 +24,14 @@ use Rattle.wb_tasks.specs.declared.step.Answer.{Answer}
 use Rattle.wb_tasks.specs.declared.step.Answer.TheVariants.{Done as Finished, Refused as Refuses}
 use Rattle.wb_tasks.specs.declared.step.DeviceStep.TheVariants.{Read as ReadExtent, Write as WriteExtent}
 use Rattle.wb_tasks.specs.declared.step.Want.{Want}
+use Rattle.wb_tasks.specs.declared.step.DeskStep.TheVariants.{Unmap}
 use Rattle.wb_tasks.specs.declared.step.Want.TheVariants.{Cell, Device, Desk, End}
 use Rattle.std.proofs.Math.Nat.{mul-add-mod_self_right, mod-mod}
 use Rattle.wb_types.proofs.Lists.{Contains-first, Contains-behind}
 use Rattle.wb_types.specs.declared.number.CBlock.{CBlock}
 use Rattle.wb_words.specs.SharedWords.{place_in, dirty_in}
 use Rattle.wb_promise.specs.States.{Shape, block_size}
-use Rattle.wb_promise.specs.Happenings.{block_range}
+use Rattle.wb_promise.specs.Happenings.{block_range, write_job}
 use Rattle.wb_promise.specs.Clerk.{is_entered, sector_for}
 use Rattle.wb_runs.proofs.Extents.{MayStart, AllWithin, cut_own}
 use Rattle.wb_runs.proofs.Plans.{plan_of}
@@ -135,21 +137,22 @@ pub read_moves : (shape : Shape) (mode : Mode) (whole : Extent) (cut : List Exte
     homes shape whole (extents_left mode (work_of (OnBlock (Reading (block_range shape mode whole cut))) seal)) ≡ cut
 read_moves shape mode whole cut m i seal f = reads_home shape whole mode (block_range shape mode whole cut) refl (place_read mode (place_in seal)) cut _ (cut_own shape whole cut m i) (read_end mode (place_read mode (place_in seal)) (block_range shape mode whole cut))
 
-pub write_moves : (shape : Shape) (mode : Mode) (whole : Extent) (cut : List Extent) → MayStart shape whole → AllWithin whole cut → (seal : ℕ) → answer_seeing (OnBlock (Writing (block_range shape mode whole cut))) seal Finished ≡ Finished →
-    homes shape whole (extents_left mode (work_of (OnBlock (Writing (block_range shape mode whole cut))) seal)) ≡ cut
-write_moves shape mode whole cut m i seal f = by_place mode (place_in seal) (dirty_in seal) f
+pub write_moves : (shape : Shape) (mode : Mode) (whole : Extent) (cut : List Extent) → MayStart shape whole → AllWithin whole cut → (seal : ℕ) → answer_seeing (OnBlock (write_job mode (block_range shape mode whole cut))) seal Finished ≡ Finished →
+    homes shape whole (extents_left mode (work_of (OnBlock (write_job mode (block_range shape mode whole cut))) seal)) ≡ cut
+write_moves shape mode whole cut m i seal f = by_place mode (place_in seal) (dirty_in seal)
   where
     all : (mode : Mode) (place : Option CBlock) → deferring mode place Finished ≡ Finished → homes shape whole (extents_left mode (writes (block_range shape mode whole cut) (places_written mode place) cut ++ Cell (Finish (block_range shape mode whole cut).block) ∷ write_count place ∷ Cell (Release Owned (block_range shape mode whole cut).block) ∷ [])) ≡ cut
     all mode place f = writes_home shape whole (block_range shape mode whole cut) refl mode place cut _ f (cut_own shape whole cut m i) (write_end mode place (block_range shape mode whole cut))
 
-    -- a seal before the first moves nothing
-    by_place : (mode : Mode) (place : Option CBlock) (dirty : Bool) → deferring mode place Finished ≡ Finished → homes shape whole (extents_left mode (work (Writing (block_range shape mode whole cut)) place dirty)) ≡ cut
-    by_place Writeback None dirty f = all Writeback None f
-    by_place Writeback (Some c) true f = all Writeback (Some c) f
-    by_place Writeback (Some c) false f = all Writeback (Some c) f
-    by_place Writethrough place dirty f = all Writethrough place f
-    by_place Passthrough None dirty f = all Passthrough None f
-    by_place Passthrough (Some c) dirty f = absurd (cc)
+    -- a seal before the first moves nothing, nor does the desk that unmaps a block
+    by_place : (mode : Mode) (place : Option CBlock) (dirty : Bool) → homes shape whole (extents_left mode (work (write_job mode (block_range shape mode whole cut)) place dirty)) ≡ cut
+    by_place Writeback None dirty = all Writeback None refl
+    by_place Writeback (Some c) true = all Writeback (Some c) refl
+    by_place Writeback (Some c) false = all Writeback (Some c) refl
+    by_place Writethrough None dirty = all Writethrough None refl
+    by_place Writethrough (Some c) dirty = all Writethrough (Some c) refl
+    by_place Passthrough None dirty = all Passthrough None refl
+    by_place Passthrough (Some c) dirty = writes_home shape whole (block_range shape Passthrough whole cut) refl Passthrough None cut _ refl (cut_own shape whole cut m i) (write_end Passthrough (Some c) (block_range shape Passthrough whole cut))
 
 -- a refused task is answered otherwise
 undone : (P : Type 0) (refusal : _) → Refuses refusal ≡ Finished → P
@@ -226,3 +229,7 @@ module _ (shape : Shape) (mode : Mode) (whole : Extent) (part : BlockRange) (cut
       by_entry true c = begun_covers shape mode whole ws (moved ++ sectors_in (home shape whole e)) (rest_begun job h.1.0 ws h.1.1.1)
           (subst (λ (xs : List ℕ). IsPermutation (sectors_in whole) xs) (sym (append_assoc moved (sectors_in (home shape whole e)) (sectors_of (homes shape whole (extents_left mode ws))))) c)
       by_entry false c = begun_covers shape mode whole ws moved (rest_begun job h.1.0 ws h.1.1.1) c
+
+  -- the desk that unmaps a block moves none
+  pub desk_covers : (job : BlockJob) (block : OBlock) (ws : List Want) → Has job card (Desk (Unmap block) ∷ ws) → Covers shape mode whole (Desk (Unmap block) ∷ ws) moved → Covers shape mode whole ws moved
+  desk_covers job block ws h c = begun_covers shape mode whole ws moved (rest_begun job h.1.0 ws h.1.1.1) c

@@ -3,18 +3,20 @@ use Rattle.std.proofs.Common.{◌≡◌, ◌≤◌, ◌<◌, ◌+◌, ◌-◌, �
 use Rattle.std.proofs.Common.{subst, Contains}
 use Rattle.std.proofs.lemmas.List.Elements.{Contains-append_cases}
 use Rattle.wb_types.proofs.Lists.{Contains-one}
-use Rattle.std.specs.Prelude.{All, nat_le, if◌then◌else◌}
+use Rattle.std.specs.Prelude.{All, nat_le, nat_lt, if◌then◌else◌}
 use Rattle.std.specs.List.{AllByRecursion}
 use Rattle.std.proofs.lemmas.Nat.{le-div}
 use Rattle.std.proofs.lemmas.List.Sorted.{All-permutation}
 use Rattle.std.proofs.lemmas.List.Elements.{recursion_from_All}
 use Rattle.std.proofs.Math.Nat.{div-mul-le_self, div-add-mod}
 use Rattle.wb_types.specs.declared.extent.Extent.{Extent}
+use Rattle.wb_types.specs.declared.number.OBlock.{OBlock}
 use Rattle.wb_types.specs.Extents.{rising, sectors_in, sectors_of, IsCutInto}
-use Rattle.std.proofs.lemmas.Bool.{eqb-true, leb-true}
+use Rattle.std.proofs.lemmas.Bool.{eqb-true, leb-true, ltb-true}
 use Rattle.wb_types.specs.declared.refusal.Refusal.TheVariants.{Range, Crosses}
+use Rattle.wb_promise.specs.declared.job.Job.TheVariants.{Invalidate}
 use Rattle.wb_promise.specs.States.{Shape, sector_count}
-use Rattle.wb_promise.specs.Happenings.{extent_refusal, is_in_one_block}
+use Rattle.wb_promise.specs.Happenings.{job_refusal, extent_refusal, is_in_one_block}
 use Rattle.wb_promise.specs.Clerk.{sector_for}
 
 -- an extent of some sectors, and not an empty one
@@ -41,6 +43,13 @@ may_start shape extent e = go (nat_le 1 extent.count) (nat_le (extent.first + ex
   go true true false f g h e = absurd (cc)
   go true false c f g h e = absurd (cc)
   go false b c f g h e = absurd (cc)
+
+-- an invalidation starts on a block of the origin
+pub block_there : (shape : Shape) (block : OBlock) → job_refusal shape (Invalidate block) ≡ None → block.0 < shape.geometry.origin_blocks
+block_there shape block e = go (nat_lt block.0 shape.geometry.origin_blocks) refl e where
+  go : (t : Bool) → nat_lt block.0 shape.geometry.origin_blocks ≡ t → (if t then None else Some Range) ≡ None → block.0 < shape.geometry.origin_blocks
+  go true f e = ltb-true _ _ f
+  go false f e = absurd (cc)
 
 pub some_sectors : (shape : Shape) (extent : Extent) → MayStart shape extent → 0 < shape.geometry.block
 some_sectors shape extent m = go shape.geometry.block refl where

@@ -20,17 +20,17 @@ use Rattle.wb_policy.specs.declared.order.Order.TheVariants.{Replace as ReplaceO
 use Rattle.wb_desk.specs.Desks.{DeskState}
 use Rattle.wb_tasks.specs.Plan.{Plan, want}
 use Rattle.wb_tasks.specs.Ready.{HoldsBlocks, IsOwnStep}
-use Rattle.wb_tasks.specs.Tables.{BlockJob, Reading, Writing, Migrating, OnBlock, whole_block}
+use Rattle.wb_tasks.specs.Tables.{BlockJob, Reading, Invalidating, Migrating, OnBlock, whole_block}
 use Rattle.wb_tasks.specs.declared.step.Got.TheVariants.{Fault}
 use Rattle.wb_devices.specs.Moving.{device_in}
 use Rattle.wb_promise.specs.declared.job.Job.{Job}
-use Rattle.wb_promise.specs.declared.job.Job.TheVariants.{Read, Write, Flush, Open, Migrate, Replace, Suspend}
+use Rattle.wb_promise.specs.declared.job.Job.TheVariants.{Read, Write, Flush, Open, Migrate, Replace, Suspend, Invalidate}
 use Rattle.wb_promise.specs.declared.event.Event.{Event}
 use Rattle.wb_promise.specs.declared.event.Event.TheVariants.{Start, Step, FaultStep, Stop}
 use Rattle.wb_promise.specs.declared.event.What.{What}
 use Rattle.wb_promise.specs.declared.event.What.TheVariants.{Skipped, Refused, Started, Stepped, Stopped}
 use Rattle.wb_promise.specs.States.{Shape, State, Actor, Target, Phase, Stands, Gone, Opens, OfTarget, mode_of, block_size, start}
-use Rattle.wb_promise.specs.Happenings.{Chosen, Plain, Cut, Orders, Happening, OfSome, OnTask, MayFailAt, DoesNotApply, Gives, Falters, KeepsMigration, KeepsReplacement, MayOrder, MigrationStarts, extent_refusal, block_range, orders_in, order_for, StartsAs, Looks, AreMapped, IsIdle}
+use Rattle.wb_promise.specs.Happenings.{Chosen, Plain, Cut, Orders, Happening, OfSome, OnTask, MayFailAt, DoesNotApply, Gives, Falters, KeepsMigration, KeepsReplacement, MayOrder, MigrationStarts, job_refusal, extent_refusal, block_range, write_job, orders_in, order_for, StartsAs, Looks, AreMapped, IsIdle}
 use Rattle.wb_promise.specs.Effects.{after_all, IsRun}
 use Rattle.wb_runs.specs.Progress.{GivesSomething}
 use Rattle.wb_runs.specs.Holding.{TaskSuits}
@@ -38,13 +38,14 @@ use Rattle.wb_runs.specs.Inside.{StepInside, TaskInside, StaysInside, size_on}
 use Rattle.wb_runs.specs.Progress.{HasHappening, IsFree}
 use Rattle.wb_runs.proofs.Metadata.{AtDesk, AtOpening, MetadataKept}
 use Rattle.wb_runs.proofs.Claims.{JobClaim, TaskClaim, Noted, noted_of}
-use Rattle.wb_runs.proofs.Linking.{IsOpeningJob, IsServed, InPhase, TaskHere}
+use Rattle.wb_runs.proofs.Linking.{TaskHere}
+use Rattle.wb_runs.proofs.Opening.{IsOpeningJob, IsServed, InPhase}
 use Rattle.wb_runs.proofs.InsideRuns.{run_inside}
 use Rattle.wb_runs.proofs.Making.{desk_begins}
 use Rattle.wb_runs.proofs.Applying.{may_stop, may_fail_at, out_of_place, may_order, may_replace, keeps_migration, keeps_replacement}
 use Rattle.wb_runs.proofs.Spelling.{Decided}
 use Rattle.wb_runs.proofs.Points.{FlushJob, FlushTask, OpenJob, OpenTask, Going, Flushes, Suspends}
-use Rattle.wb_runs.proofs.Giving.{CanGive, CanFalter, read_gives, write_gives, migration_gives, block_falters, flush_gives, flush_falters, open_gives, open_falters}
+use Rattle.wb_runs.proofs.Giving.{CanGive, CanFalter, read_gives, write_gives, invalidation_gives, migration_gives, block_falters, flush_gives, flush_falters, open_gives, open_falters}
 use Rattle.wb_runs.proofs.Progressing.{Kept, run_kept, own_step}
 use Rattle.wb_types.specs.declared.entry.Entry.{Entry}
 use Rattle.wb_types.specs.declared.number.OBlock.{OBlock}
@@ -123,6 +124,7 @@ is_suspend (Read extent) = inr (λ e. absurd (cc))
 is_suspend (Write extent content) = inr (λ e. absurd (cc))
 is_suspend Flush = inr (λ e. absurd (cc))
 is_suspend (Open mode) = inr (λ e. absurd (cc))
+is_suspend (Invalidate block) = inr (λ e. absurd (cc))
 is_suspend (Migrate migration block) = inr (λ e. absurd (cc))
 is_suspend (Replace old new) = inr (λ e. absurd (cc))
 
@@ -171,7 +173,7 @@ module _ (P A : Type 0) (shape : Shape) (policy : P) (first : ReadSteps A) (begi
 
     by_phase : (Can : Phase P A → Job → Plan → Type 0) →
         ((t : Target P) → AtDesk shape.geometry kept.base.known.images t.desk w.commit w.devices.metadata → (leader : ℕ) → IsServed k.job → FlushJob w.commit (a ≡ leader) k.job k.plan → Can (Stands t) k.job k.plan) →
-        ((mode : Mode) (reading : Option (ReadSteps A)) → AtOpening shape.geometry kept.base.known.images reading w.commit w.devices.metadata → IsOpeningJob k.job → OpenJob reading w.commit k.job k.plan → Can (Opens mode reading) k.job k.plan) →
+        ((mode : Mode) (reading : Option (ReadSteps A)) → AtOpening shape.geometry kept.base.known.images reading w.commit w.devices.metadata → IsOpeningJob mode k.job → OpenJob reading w.commit k.job k.plan → Can (Opens mode reading) k.job k.plan) →
         Can w.phase k.job k.plan
     by_phase Can stands opens = cases w.phase kept.base.known.known kept.goes here
       where
@@ -185,7 +187,8 @@ module _ (P A : Type 0) (shape : Shape) (policy : P) (first : ReadSteps A) (begi
       where
         stands : (t : Target P) → AtDesk shape.geometry kept.base.known.images t.desk w.commit w.devices.metadata → (leader : ℕ) → (job : Job) → IsServed job → FlushJob w.commit (a ≡ leader) job k.plan → JobClaim shape (mode_of w.phase) job k.plan claim.doing → CanGive {P = P} {A = A} shape (At (Stands t)) k.actor job (want k.plan)
         stands t known leader (Read extent) s f c = read_gives P A shape w.devices w.commit w.actors k.actor t known.is.kept sizes extent (block_range shape (mode_of w.phase) extent c.cut) (want k.plan) (own (Reading (block_range shape (mode_of w.phase) extent c.cut)) c.is_job) inside
-        stands t known leader (Write extent content) s f c = write_gives P A shape w.devices w.commit w.actors k.actor t known.is.kept sizes extent content (block_range shape (mode_of w.phase) extent c.cut) (want k.plan) (own (Writing (block_range shape (mode_of w.phase) extent c.cut)) c.is_job) inside
+        stands t known leader (Write extent content) s f c = write_gives P A shape w.devices w.commit w.actors k.actor t known.is.kept sizes known.is.sound (mode_of w.phase) extent content (block_range shape (mode_of w.phase) extent c.cut) (want k.plan) (own (write_job (mode_of w.phase) (block_range shape (mode_of w.phase) extent c.cut)) c.is_job) inside
+        stands t known leader (Invalidate block) s f c = invalidation_gives P A shape w.devices w.commit w.actors k.actor t known.is.kept sizes known.is.sound block f.0 (want k.plan) (own (Invalidating f.0) f.1)
         stands t known leader (Migrate migration block) s f c = migration_gives P A shape w.devices w.commit w.actors k.actor t known.is.kept sizes known.is.sound migration block f.0 (want k.plan) (own (Migrating migration f.0) f.1) inside
         stands t known leader Flush s f c = subst (λ (p : Plan). CanGive {P = P} {A = A} shape (At (Stands t)) k.actor Flush (want p)) (sym f.is)
             (flush_gives P A shape w.devices w.commit w.actors k.actor t kept.base.known.images known f.answer (Flushes f.blocks f.most) f.point f.of f.at)
@@ -194,13 +197,14 @@ module _ (P A : Type 0) (shape : Shape) (policy : P) (first : ReadSteps A) (begi
         stands t known leader (Open mode) s f c = absurd s
         stands t known leader (Replace old new) s f c = absurd f
 
-        opens : (mode : Mode) (reading : Option (ReadSteps A)) → AtOpening shape.geometry kept.base.known.images reading w.commit w.devices.metadata → (job : Job) → IsOpeningJob job → OpenJob reading w.commit job k.plan → CanGive {P = P} {A = A} shape (At (Opens mode reading)) k.actor job (want k.plan)
+        opens : (mode : Mode) (reading : Option (ReadSteps A)) → AtOpening shape.geometry kept.base.known.images reading w.commit w.devices.metadata → (job : Job) → IsOpeningJob mode job → OpenJob reading w.commit job k.plan → CanGive {P = P} {A = A} shape (At (Opens mode reading)) k.actor job (want k.plan)
         opens mode reading known (Open m') o f = subst (λ (p : Plan). CanGive {P = P} {A = A} shape (At (Opens mode reading)) k.actor (Open m') (want p)) (sym f.is)
             (open_gives P A shape w.devices w.commit w.actors k.actor mode m' reading kept.base.known.images known f.sectors policy first begins f.point f.at)
         opens mode reading known (Read extent) o f = absurd o
         opens mode reading known (Write extent content) o f = absurd o
         opens mode reading known Flush o f = absurd o
         opens mode reading known Suspend o f = absurd o
+        opens mode reading known (Invalidate block) o f = absurd o
         opens mode reading known (Migrate migration block) o f = absurd o
         opens mode reading known (Replace old new) o f = absurd o
 
@@ -209,7 +213,8 @@ module _ (P A : Type 0) (shape : Shape) (policy : P) (first : ReadSteps A) (begi
       where
         stands : (t : Target P) → AtDesk shape.geometry kept.base.known.images t.desk w.commit w.devices.metadata → (leader : ℕ) → (job : Job) → IsServed job → FlushJob w.commit (a ≡ leader) job k.plan → JobClaim shape (mode_of w.phase) job k.plan claim.doing → CanFalter {P = P} {A = A} (At (Stands t)) choice (want k.plan)
         stands t known leader (Read extent) s f c = block_falters P A shape w.devices w.commit w.actors k.actor t (Reading (block_range shape (mode_of w.phase) extent c.cut)) choice (want k.plan) (own (Reading (block_range shape (mode_of w.phase) extent c.cut)) c.is_job) m
-        stands t known leader (Write extent content) s f c = block_falters P A shape w.devices w.commit w.actors k.actor t (Writing (block_range shape (mode_of w.phase) extent c.cut)) choice (want k.plan) (own (Writing (block_range shape (mode_of w.phase) extent c.cut)) c.is_job) m
+        stands t known leader (Write extent content) s f c = block_falters P A shape w.devices w.commit w.actors k.actor t (write_job (mode_of w.phase) (block_range shape (mode_of w.phase) extent c.cut)) choice (want k.plan) (own (write_job (mode_of w.phase) (block_range shape (mode_of w.phase) extent c.cut)) c.is_job) m
+        stands t known leader (Invalidate block) s f c = block_falters P A shape w.devices w.commit w.actors k.actor t (Invalidating f.0) choice (want k.plan) (own (Invalidating f.0) f.1) m
         stands t known leader (Migrate migration block) s f c = block_falters P A shape w.devices w.commit w.actors k.actor t (Migrating migration f.0) choice (want k.plan) (own (Migrating migration f.0) f.1) m
         stands t known leader Flush s f c = subst (λ (p : Plan). CanFalter {P = P} {A = A} (At (Stands t)) choice (want p)) (sym f.is)
             (flush_falters P A shape w.devices w.commit w.actors k.actor t kept.base.known.images known f.answer (Flushes f.blocks f.most) choice f.point f.at (subst (λ (p : Plan). MayFailAt w.devices choice (want p)) f.is m))
@@ -218,13 +223,14 @@ module _ (P A : Type 0) (shape : Shape) (policy : P) (first : ReadSteps A) (begi
         stands t known leader (Open mode) s f c = absurd s
         stands t known leader (Replace old new) s f c = absurd f
 
-        opens : (mode : Mode) (reading : Option (ReadSteps A)) → AtOpening shape.geometry kept.base.known.images reading w.commit w.devices.metadata → (job : Job) → IsOpeningJob job → OpenJob reading w.commit job k.plan → CanFalter {P = P} {A = A} (At (Opens mode reading)) choice (want k.plan)
+        opens : (mode : Mode) (reading : Option (ReadSteps A)) → AtOpening shape.geometry kept.base.known.images reading w.commit w.devices.metadata → (job : Job) → IsOpeningJob mode job → OpenJob reading w.commit job k.plan → CanFalter {P = P} {A = A} (At (Opens mode reading)) choice (want k.plan)
         opens mode reading known (Open m') o f = subst (λ (p : Plan). CanFalter {P = P} {A = A} (At (Opens mode reading)) choice (want p)) (sym f.is)
             (open_falters P A shape w.devices w.commit w.actors k.actor mode m' reading kept.base.known.images known f.sectors policy first begins choice f.point f.at (subst (λ (p : Plan). MayFailAt w.devices choice (want p)) f.is m))
         opens mode reading known (Read extent) o f = absurd o
         opens mode reading known (Write extent content) o f = absurd o
         opens mode reading known Flush o f = absurd o
         opens mode reading known Suspend o f = absurd o
+        opens mode reading known (Invalidate block) o f = absurd o
         opens mode reading known (Migrate migration block) o f = absurd o
         opens mode reading known (Replace old new) o f = absurd o
 
@@ -297,6 +303,11 @@ module _ (P A : Type 0) (shape : Shape) (policy : P) (first : ReadSteps A) (begi
       by_phase idle Gone e = absurd (applies (inr (inr (inr (λ o. subst (λ (p : Phase P A). OfTarget p (λ t. Unit {0})) e o)))))
       by_phase idle (Opens mode reading) e = absurd (applies (inr (inr (inr (λ o. subst (λ (p : Phase P A). OfTarget p (λ t. Unit {0})) e o)))))
   starts w a (Open mode) applies = record { what = Started; read = []; chosen = Plain; may = (refl, applies, tt) }
+  starts w a (Invalidate block) applies = by_refusal (job_refusal shape (Invalidate block)) refl
+    where
+      by_refusal : (o : Option Refusal) → job_refusal shape (Invalidate block) ≡ o → HasHappening shape w (Start a (Invalidate block))
+      by_refusal (Some r) e = record { what = Refused r; read = []; chosen = Plain; may = (refl, applies, e) }
+      by_refusal None e = record { what = Started; read = []; chosen = Plain; may = (refl, applies, e) }
   starts w a (Migrate migration block) applies = let kept = orders_in (slice_get w.actors a) in
       block_starts w a (Migrate migration block) applies (λ p. applies (inr (inr (inr p)))) (whole_block (block_size shape) block) (λ desk. KeepsMigration desk kept migration block) (λ desk. keeps_migration desk kept migration block)
       (λ cache. order_for migration block) (λ desk. may_order desk migration block) (λ what chosen s. s)

@@ -30,7 +30,7 @@ use Rattle.wb_policy.specs.declared.order.Order.{Order}
 use Rattle.wb_desk.specs.Calls.{released}
 use Rattle.wb_desk.specs.Desks.{DeskState, DeskInvariant}
 use Rattle.wb_desk.proofs.Kept.{found_at, takes_there}
-use Rattle.wb_stage.specs.Asking.{IsGivenUp, DidRelease, order_of}
+use Rattle.wb_stage.specs.Asking.{IsGivenUp, DidUnmap, DidRelease, order_of}
 use Rattle.wb_words.specs.Effects.{result_of}
 use Rattle.wb_tasks.specs.Ready.{HoldsBlocks, IsOwnStep, source_of, target_of}
 use Rattle.wb_tasks.specs.Tables.{BlockRange, BlockJob, Reading, Writing, Displacing, Invalidating, Migrating, OnBlock, Opening}
@@ -50,15 +50,16 @@ use Rattle.wb_devices.specs.declared.running.RunningCommit.{RunningCommit}
 use Rattle.wb_devices.specs.Committing.{goes_on, is_coming}
 use Rattle.wb_devices.specs.Moving.{device_in}
 use Rattle.wb_promise.specs.declared.job.Job.{Job}
-use Rattle.wb_promise.specs.declared.job.Job.TheVariants.{Read, Write, Open, Migrate}
+use Rattle.wb_promise.specs.declared.job.Job.TheVariants.{Read, Write, Open, Migrate, Invalidate}
 use Rattle.wb_promise.specs.States.{Shape, State, Actor, Target, Stands, Opens, OfReading}
-use Rattle.wb_promise.specs.Happenings.{Chosen, Plain, Begins, Puts, Asks, Opened, OfSome, LandedOr, sector_put, DoesBegin, DoesPut, FailsPut, Gives, Falters}
+use Rattle.wb_promise.specs.Happenings.{Chosen, Plain, Begins, Puts, Asks, Opened, OfSome, LandedOr, sector_put, DoesBegin, DoesPut, FailsPut, Gives, Falters, write_job}
 use Rattle.wb_runs.specs.Inside.{StepInside, size_on}
 use Rattle.wb_runs.proofs.Images.{Images}
 use Rattle.wb_runs.proofs.Spelled.{IsSmall, node_spelling, spelled_node}
 use Rattle.wb_runs.proofs.Rooted.{Fits, comes_next, rooted, root_does}
 use Rattle.wb_runs.proofs.Underway.{Underway}
 use Rattle.wb_runs.proofs.Metadata.{AtDesk, AtOpening, unknowing}
+use Rattle.wb_runs.proofs.Passing.{WritesOwn, write_own}
 use Rattle.wb_runs.proofs.Desks.{is_live, can_unmap}
 use Rattle.wb_runs.proofs.Plans.{plan_of}
 use Rattle.wb_runs.proofs.Readings.{generation_fits, can_read}
@@ -254,16 +255,38 @@ module _ (P A : Type 0) (shape : Shape) (devices : Devices (List History)) (comm
       read_gives extent part (Device WriteRoot) i s = absurd i
       read_gives extent part (Desk step) i s = absurd i
 
-      pub write_gives : (extent : Extent) (content : Bytes) (part : BlockRange) (next : Want) → IsOwnStep (OnBlock (Writing part)) next → StepInside shape next → CanGive shape w x (Write extent content) next
-      write_gives extent content part (Cell step) i s = cell_gives (Write extent content) step
-      write_gives extent content part (Device (WriteExtent d e)) i s = record { got = Done; read = []; chosen = Plain; gives = (i, (refl, refl), refl, omega (arith, s, sizes d i)) }
-      write_gives extent content part (End answer) i s = record { got = Done; read = []; chosen = Plain; gives = ((refl, refl), refl) }
-      write_gives extent content part (Device (ReadExtent d e)) i s = absurd i
-      write_gives extent content part (Device (Sync d)) i s = absurd i
-      write_gives extent content part (Device (ReadMetadata k)) i s = absurd i
-      write_gives extent content part (Device (WriteNode k)) i s = absurd i
-      write_gives extent content part (Device WriteRoot) i s = absurd i
-      write_gives extent content part (Desk step) i s = absurd i
+      -- the desk takes a block out of the cache
+      unmaps : (job : Job) (block : OBlock) → IsSound t.desk.tree → ((new : DeskState P) → DidUnmap (λ policy b. new.policy) block t.desk new → Gives shape w x job (Desk (Unmap block)) Done [] (Asks new)) → CanGive shape w x job (Desk (Unmap block))
+      unmaps job block sound gives = let r = can_unmap t.desk block kept sound in record { got = Done; read = []; chosen = Asks r.0; gives = gives r.0 r.1 }
+
+      -- what a write in this mode does
+      pub write_gives : IsSound t.desk.tree → (mode : Mode) (extent : Extent) (content : Bytes) (part : BlockRange) (next : Want) → IsOwnStep (OnBlock (write_job mode part)) next → StepInside shape next → CanGive shape w x (Write extent content) next
+      write_gives sound mode extent content part next i s = by_next next (write_own mode part next i) s
+        where
+          by_next : (next : Want) → WritesOwn next → StepInside shape next → CanGive shape w x (Write extent content) next
+          by_next (Cell step) i s = cell_gives (Write extent content) step
+          by_next (Device (WriteExtent d e)) i s = record { got = Done; read = []; chosen = Plain; gives = (i, (refl, refl), refl, omega (arith, s, sizes d i)) }
+          by_next (Desk (Unmap block)) i s = unmaps (Write extent content) block sound (λ new did. (refl, refl, did))
+          by_next (End answer) i s = record { got = Done; read = []; chosen = Plain; gives = ((refl, refl), refl) }
+          by_next (Device (ReadExtent d e)) i s = absurd i
+          by_next (Device (Sync d)) i s = absurd i
+          by_next (Device (ReadMetadata k)) i s = absurd i
+          by_next (Device (WriteNode k)) i s = absurd i
+          by_next (Device WriteRoot) i s = absurd i
+          by_next (Desk (Map block place)) i s = absurd i
+          by_next (Desk (ReleaseOrder block)) i s = absurd i
+          by_next (Desk (BeginCommit clean most)) i s = absurd i
+          by_next (Desk EndCommit) i s = absurd i
+
+      pub invalidation_gives : IsSound t.desk.tree → (block : OBlock) (part : BlockRange) (next : Want) → IsOwnStep (OnBlock (Invalidating part)) next → CanGive shape w x (Invalidate block) next
+      invalidation_gives sound block part (Cell step) i = cell_gives (Invalidate block) step
+      invalidation_gives sound block part (Desk (Unmap b)) i = unmaps (Invalidate block) b sound (λ new did. (refl, refl, did))
+      invalidation_gives sound block part (End answer) i = record { got = Done; read = []; chosen = Plain; gives = ((refl, refl), refl) }
+      invalidation_gives sound block part (Desk (Map b place)) i = absurd i
+      invalidation_gives sound block part (Desk (ReleaseOrder b)) i = absurd i
+      invalidation_gives sound block part (Desk (BeginCommit clean most)) i = absurd i
+      invalidation_gives sound block part (Desk EndCommit) i = absurd i
+      invalidation_gives sound block part (Device step) i = absurd i
 
       -- a migration's step; where a promotion asks for its entry there may be no memory for that
       pub migration_gives : IsSound t.desk.tree → (migration : Migration) (block : OBlock) (part : BlockRange) (next : Want) → IsOwnStep (OnBlock (Migrating migration part)) next → StepInside shape next → CanGive shape w x (Migrate migration block) next
@@ -271,7 +294,7 @@ module _ (P A : Type 0) (shape : Shape) (devices : Devices (List History)) (comm
       migration_gives sound migration block part (Device (ReadExtent d e)) i s = let h = subst HoldsBlocks (sym i) (source_holds migration) in record { got = Done; read = []; chosen = Plain; gives = (h, (refl, refl), refl, omega (arith, s, sizes d h)) }
       migration_gives sound migration block part (Device (WriteExtent d e)) i s = let h = subst HoldsBlocks (sym i) (target_holds migration) in record { got = Done; read = []; chosen = Plain; gives = (h, (refl, refl), refl, omega (arith, s, sizes d h)) }
       migration_gives sound migration block part (Desk (Map b place)) i s = record { got = GotRefused Memory; read = []; chosen = Plain; gives = (refl, refl) }
-      migration_gives sound migration block part (Desk (Unmap b)) i s = let r = can_unmap t.desk b kept sound in record { got = Done; read = []; chosen = Asks r.0; gives = (refl, refl, r.1) }
+      migration_gives sound migration block part (Desk (Unmap b)) i s = unmaps (Migrate migration block) b sound (λ new did. (refl, refl, did))
       migration_gives sound migration block part (Desk (ReleaseOrder b)) i s = let r = releases t.desk x.orders b kept in record { got = Done; read = []; chosen = Asks r.0; gives = (refl, refl, r.1) }
       migration_gives sound migration block part (End answer) i s = record { got = Done; read = []; chosen = Plain; gives = ((refl, refl), refl) }
       migration_gives sound migration block part (Desk (BeginCommit clean most)) i s = absurd i
@@ -409,7 +432,7 @@ module _ (P A : Type 0) (shape : Shape) (devices : Devices (List History)) (comm
     reads_on : (left : ℕ) (r : Option (ReadSteps A)) (c : Option RunningCommit) → c ≡ None → AtOpening shape.geometry images r c devices.metadata → OfSome r (λ was. sectors_read was ≡ 0 → 1 ≤ left) →
         CanGive {P = P} {A = A} shape (record { devices = devices; commit = c; phase = Opens mode r; actors = actors }) x (Open m') (Device (ReadMetadata left))
     reads_on left (Some was) None e k o = let some : 1 ≤ length devices.metadata = omega (arith, k.found.read.size, shape.geometry.within.meta_from) in
-        let r = can_read P A shape.geometry devices.metadata images left was k o some in record { got = r.got; read = []; chosen = r.chosen; gives = (refl, refl, r.does) }
+        let r = can_read P A mode shape.geometry devices.metadata images left was k o some in record { got = r.got; read = []; chosen = r.chosen; gives = (refl, refl, r.does) }
     reads_on left None c e k o = absurd o
     reads_on left r (Some c) e k o = absurd (cc)
 

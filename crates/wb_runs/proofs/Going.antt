@@ -4,7 +4,7 @@ use Rattle.std.proofs.lemmas.Option.{slice_get_cases, slice_get_past}
 use Rattle.wb_types.specs.declared.mode.Mode.{Mode}
 use Rattle.wb_types.specs.declared.mode.Dev.TheVariants.{Metadata, Cache, Origin}
 use Rattle.wb_types.specs.declared.refusal.Refusal.{Refusal}
-use Rattle.wb_types.specs.declared.refusal.Refusal.TheVariants.{Busy, Failed, Io}
+use Rattle.wb_types.specs.declared.refusal.Refusal.TheVariants.{Busy, Failed, NotClean, Io}
 use Rattle.wb_disk.specs.Device.{Content as Bytes, History}
 use Rattle.wb_disk.specs.Crash.{Choice}
 use Rattle.wb_types.specs.declared.number.OBlock.{OBlock}
@@ -272,9 +272,12 @@ module _ (P A : Type 0) (shape : Shape) (mode m' : Mode) (reading : Option (Read
         (record { sectors = n; point = AtCache; is = refl; at = (refl, k) })
     syncs_first None e k g ch d = absurd d
 
-    reads : (left : ℕ) (was : ReadSteps A) → commit ≡ None → (ch : Chosen P A) → DoesRead shape.geometry left was w.devices.metadata commit got ch →
+    reads : (left : ℕ) (was : ReadSteps A) → commit ≡ None → (ch : Chosen P A) → DoesRead mode shape.geometry left was w.devices.metadata commit got ch →
         OpenAt (reading_then (Some was) (want (O (AtRead left))) got ch) (commit_then {P = P} {A = A} (Opens mode (Some was)) commit (want (O (AtRead left))) got ch) (after (O (AtRead left)) got)
-    reads left was e (Reaches r c) (fine, inl more) = by_got got fine more.3
+    reads left was e (Reaches r c) (fine, inl more) = elim more.3 [
+      | inl in_time ↦ by_got got fine in_time.0
+      | inr unclean ↦ subst (λ (x : Got). OpenAt r c (after (O (AtRead left)) x)) (sym unclean.1) (refuses r c NotClean _ refl)
+    ]
       where
         by_got : (got : Got) → (got ≢ Fault) → HasCome shape.geometry left more.0 commit got r c → OpenAt r c (after (O (AtRead left)) got)
         by_got More f h = record {
@@ -294,7 +297,7 @@ module _ (P A : Type 0) (shape : Shape) (mode m' : Mode) (reading : Option (Read
         by_refusal refusal h = subst (λ (x : Got). OpenAt r c (after (O (AtRead left)) x)) (sym h) (refuses r c refusal _ refl)
     reads left was e ch g = absurd g
 
-    on_reading : (left : ℕ) (r : Option (ReadSteps A)) → commit ≡ None → Rattle.wb_promise.specs.States.OfReading {P = P} {A = A} (Opens mode r) (λ mode was. DoesRead shape.geometry left was w.devices.metadata commit got chosen) →
+    on_reading : (left : ℕ) (r : Option (ReadSteps A)) → commit ≡ None → Rattle.wb_promise.specs.States.OfReading {P = P} {A = A} (Opens mode r) (λ mode was. DoesRead mode shape.geometry left was w.devices.metadata commit got chosen) →
         OpenAt (reading_then r (want (O (AtRead left))) got chosen) (commit_then {P = P} {A = A} (Opens mode r) commit (want (O (AtRead left))) got chosen) (after (O (AtRead left)) got)
     on_reading left (Some was) e g = reads left was e chosen g
     on_reading left None e g = absurd g

@@ -6,8 +6,7 @@ use Rattle.std.proofs.Math.Nat.{div-add-mod, mod-lt}
 use Rattle.wb_types.specs.Extents.{IsCutInto}
 use Rattle.wb_types.specs.declared.extent.Extent.{Extent}
 use Rattle.wb_types.specs.declared.mode.Mode.{Mode}
-use Rattle.wb_types.specs.declared.mode.Mode.{Mode}
-use Rattle.wb_types.specs.declared.mode.Mode.TheVariants.{Writeback}
+use Rattle.wb_types.specs.declared.mode.Mode.TheVariants.{Writeback, Writethrough, Passthrough}
 use Rattle.wb_types.specs.declared.mode.Dev.{Dev}
 use Rattle.wb_types.specs.declared.mode.Dev.TheVariants.{Metadata, Cache, Origin}
 use Rattle.wb_types.specs.declared.number.OBlock.{OBlock}
@@ -24,7 +23,7 @@ use Rattle.wb_words.specs.Effects.{result_of}
 use Rattle.wb_meta.specs.Formats.{IsFormatted}
 use Rattle.wb_meta.specs.declared.read_steps.ReadSteps.{ReadSteps}
 use Rattle.wb_meta.specs.declared.read_steps.ReadSteps.TheVariants.{Begun, FirstSlotRead, RootFound, Done as AllRead}
-use Rattle.wb_tasks.specs.Tables.{TaskJob, whole_block}
+use Rattle.wb_tasks.specs.Tables.{TaskJob, OnBlock, whole_block}
 use Rattle.wb_tasks.specs.Plan.{Plan, want, table, got_of, device_of}
 use Rattle.wb_tasks.specs.Ready.{HoldsBlocks}
 use Rattle.wb_tasks.proofs.Readiness.{job_stays}
@@ -40,13 +39,13 @@ use Rattle.wb_devices.specs.declared.devices.Devices.{Devices}
 use Rattle.wb_devices.specs.declared.running.RunningCommit.{RunningCommit}
 use Rattle.wb_devices.specs.Moving.{device_in}
 use Rattle.wb_promise.specs.declared.job.Job.{Job}
-use Rattle.wb_promise.specs.declared.job.Job.TheVariants.{Read, Write, Flush, Suspend, Open, Migrate, Replace}
+use Rattle.wb_promise.specs.declared.job.Job.TheVariants.{Read, Write, Flush, Suspend, Open, Migrate, Replace, Invalidate}
 use Rattle.wb_promise.specs.declared.event.Event.{Event}
 use Rattle.wb_promise.specs.declared.event.Event.TheVariants.{Start, Step, FaultStep, Stop}
 use Rattle.wb_promise.specs.declared.event.What.{What}
 use Rattle.wb_promise.specs.declared.event.What.TheVariants.{Skipped, Refused, Started, Stepped, Stopped}
 use Rattle.wb_promise.specs.States.{Shape, State, Actor, Phase, Stands, Gone, Opens, OfTarget, mode_of, resting, with_device, block_size, sector_count, cache_sector_count, start}
-use Rattle.wb_promise.specs.Happenings.{Chosen, Plain, Cut, Orders, Opened, Happening, OfSome, Gives, Falters, MayFailAt, StartGives, MayBe, orders_in, order_for, task_job, begun_as, StartsAs, Looks}
+use Rattle.wb_promise.specs.Happenings.{Chosen, Plain, Cut, Orders, Opened, Happening, OfSome, Gives, Falters, MayFailAt, StartGives, MayBe, orders_in, order_for, block_range, write_job, task_job, begun_as, StartsAs, Looks}
 use Rattle.wb_promise.specs.Effects.{put_by, contents_for, device_done, device_failed, devices_then, commit_then, phase_then, phase_opened, phase_given, task_then, actor_then, cut_of, stepped, with_actor, cleared, given, started, job_of, all_resting, after_what, after_happening, after_all, IsRun, looks_of}
 use Rattle.wb_promise.specs.Clerk.{Notes, formatted}
 use Rattle.wb_promise.specs.Headline.{note_happening}
@@ -156,6 +155,7 @@ module _ (P A : Type 0) (shape : Shape) where
   plain_read w actor got read chosen (Write x c) d e g = absurd g
   plain_read w actor got read chosen Flush d e g = absurd g
   plain_read w actor got read chosen Suspend d e g = absurd g
+  plain_read w actor got read chosen (Invalidate block) d e g = absurd g
   plain_read w actor got read chosen (Open mode) d e g = absurd g
   plain_read w actor got read chosen (Migrate migration block) d e g = g.1.1
   plain_read w actor got read chosen (Replace old new) d e g = absurd g
@@ -196,6 +196,7 @@ module _ (P A : Type 0) (shape : Shape) where
   cell_given w actor got read chosen (Write x c) step g = g.1
   cell_given w actor got read chosen Flush step g = g.1
   cell_given w actor got read chosen Suspend step g = g.1
+  cell_given w actor got read chosen (Invalidate block) step g = g.1
   cell_given w actor got read chosen (Open mode) step g = g.1
   cell_given w actor got read chosen (Migrate migration block) step g = g.1
   cell_given w actor got read chosen (Replace old new) step g = g.1
@@ -318,6 +319,7 @@ module _ (P A : Type 0) (shape : Shape) where
   same_seals (Stands t) (Write extent content) chosen s = s
   same_seals (Stands t) Flush chosen s = s
   same_seals (Stands t) Suspend chosen s = s
+  same_seals (Stands t) (Invalidate block) chosen s = s
   same_seals (Stands t) (Open mode) chosen s = s
   same_seals Gone job chosen s = s
   same_seals (Opens mode reading) job chosen s = s
@@ -344,11 +346,17 @@ module _ (P A : Type 0) (shape : Shape) where
   table_inside : (w : State P A) (n : Notes) (a : ℕ) (job : Job) (chosen : Chosen P A) → Base P A shape w n → StartsAs shape w a job Started chosen →
       (mode : Mode) (awaiting : List Order) → PlanInside shape (Some (begun_as job, table (task_job shape mode awaiting job (cut_of chosen) (looks_of chosen))))
   table_inside w n a (Read extent) (Cut cut) b g mode awaiting = (part_inside shape mode extent (record { 0 = extent.first / block_size shape }) cut (may_start shape extent g.0) g.1, (tt, (tt, tt)))
-  table_inside w n a (Write extent content) (Cut cut) b g mode awaiting = (part_inside shape mode extent (record { 0 = extent.first / block_size shape }) cut (may_start shape extent g.0) g.1, (tt, (tt, tt)))
+  table_inside w n a (Write extent content) (Cut cut) b g mode awaiting = by_mode mode
+    where
+      by_mode : (mode : Mode) → PlanInside shape (Some (Write extent content, table (OnBlock (write_job mode (block_range shape mode extent cut)))))
+      by_mode Writeback = (part_inside shape Writeback extent (record { 0 = extent.first / block_size shape }) cut (may_start shape extent g.0) g.1, (tt, (tt, tt)))
+      by_mode Writethrough = (part_inside shape Writethrough extent (record { 0 = extent.first / block_size shape }) cut (may_start shape extent g.0) g.1, (tt, (tt, tt)))
+      by_mode Passthrough = (part_inside shape Passthrough extent (record { 0 = extent.first / block_size shape }) cut (may_start shape extent g.0) g.1, (tt, (tt, tt)))
   table_inside w n a Flush chosen b g mode awaiting = (tt, (tt, (tt, tt)))
   table_inside w n a Suspend (Looks looks) b g mode awaiting = (tt, (tt, looks_inside shape looks (Rattle.wb_types.specs.Limits.node_count shape.geometry.cache_blocks)))
   table_inside w n a Suspend chosen b g mode awaiting = absurd g
   table_inside w n a (Open opened_in) chosen b g mode awaiting = (tt, (tt, (tt, (tt, (tt, (tt, (tt, tt)))))))
+  table_inside w n a (Invalidate block) chosen b g mode awaiting = (tt, (tt, (tt, tt)))
   table_inside w n a (Migrate migration block) chosen b g mode awaiting =
       let kept = orders_of_actor w a (slice_get w.actors a) (λ x e order m. b.used.orders a x e order (in_orders x order m)) in
       let inside = migration_inside migration block (order_inside P A shape b.known.images w.phase w.commit w.devices.metadata (slice_get w.actors a) migration block chosen b.known.known kept g) in
@@ -369,6 +377,7 @@ module _ (P A : Type 0) (shape : Shape) where
   clear w (Write extent content) i = i
   clear w Flush i = i
   clear w Suspend i = i
+  clear w (Invalidate block) i = i
   clear w (Migrate migration block) i = i
   clear w (Replace old new) i = i
 

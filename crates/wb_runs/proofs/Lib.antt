@@ -22,6 +22,7 @@ mod Refusing
 pub mod Covering
 pub mod SoFar
 pub mod Opening
+pub mod Passing
 pub mod Claims
 pub mod Linking
 pub mod LinkedRuns

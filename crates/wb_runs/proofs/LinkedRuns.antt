@@ -21,7 +21,7 @@ use Rattle.wb_tasks.specs.declared.step.Want.TheVariants.{Cell, Device, Desk, En
 use Rattle.wb_tasks.specs.declared.step.Got.{Got}
 use Rattle.wb_tasks.specs.declared.step.Got.TheVariants.{Fault}
 use Rattle.wb_promise.specs.declared.job.Job.{Job}
-use Rattle.wb_promise.specs.declared.job.Job.TheVariants.{Read, Write, Flush, Suspend, Open, Migrate, Replace}
+use Rattle.wb_promise.specs.declared.job.Job.TheVariants.{Read, Write, Flush, Suspend, Open, Migrate, Replace, Invalidate}
 use Rattle.wb_promise.specs.declared.event.Event.{Event}
 use Rattle.wb_promise.specs.declared.event.Event.TheVariants.{Start, Step, FaultStep, Stop}
 use Rattle.wb_promise.specs.declared.event.What.{What}
@@ -38,10 +38,12 @@ use Rattle.wb_runs.proofs.Lists.{rests, there_rests, free}
 use Rattle.wb_runs.proofs.MetadataRuns.{IsKnown, known_after, known_at_start}
 use Rattle.wb_runs.proofs.Opening.{open_refuses}
 use Rattle.wb_runs.proofs.Modes.{IsAnswer, mode_stays, mode_faults, mode_given}
+use Rattle.wb_runs.proofs.Passing.{target_stands}
 use Rattle.wb_runs.proofs.Claims.{JobClaim, NotedClaim, TaskClaim, AllClaim, Noted, claim_set, noted_of, read_ends, write_ends}
 use Rattle.wb_runs.proofs.Ruling.{each_set}
 use Rattle.wb_runs.proofs.Using.{UsedRightly, used_what, used_start}
-use Rattle.wb_runs.proofs.Linking.{IsOpeningJob, IsServed, InPhase, TaskHere, IsTask, AtPhase, Linked, others_stay, claims_on, claims_failed}
+use Rattle.wb_runs.proofs.Opening.{IsOpeningJob, IsServed, InPhase}
+use Rattle.wb_runs.proofs.Linking.{TaskHere, IsTask, AtPhase, Linked, others_stay, claims_on, claims_failed}
 
 all_none : (doings : List (Option Doing)) (b : ℕ) (o : Option Doing) → slice_get doings b ≡ Some o → slice_get (nobody doings) b ≡ Some None
 all_none [] b o e = absurd (cc)
@@ -150,6 +152,7 @@ module _ (P A : Type 0) (shape : Shape) where
       by_job (Write extent content) s = set_other n.doings a b None o
       by_job Flush s = set_other n.doings a b None o
       by_job Suspend s = set_other n.doings a b None o
+      by_job (Invalidate block) s = set_other n.doings a b None o
       by_job (Migrate migration block) s = set_other n.doings a b None o
       by_job (Replace old new) s = set_other n.doings a b None o
       by_job (Open opened_in) s = absurd s
@@ -163,6 +166,7 @@ module _ (P A : Type 0) (shape : Shape) where
       by_job (Write extent content) s = set_there n.doings a (Some doing) None e
       by_job Flush s = set_there n.doings a (Some doing) None e
       by_job Suspend s = set_there n.doings a (Some doing) None e
+      by_job (Invalidate block) s = set_there n.doings a (Some doing) None e
       by_job (Migrate migration block) s = set_there n.doings a (Some doing) None e
       by_job (Replace old new) s = set_there n.doings a (Some doing) None e
       by_job (Open opened_in) s = absurd s
@@ -237,12 +241,13 @@ module _ (P A : Type 0) (shape : Shape) where
         let o = opening job (subst (λ (q : Phase P A). InPhase q job) p (subst (λ (t : Option (Job × Plan)). TaskHere w.phase t) xt (l.here a x e))) in
         opens_end mode reading alone.0 alone.1 o.0 o.1
       where
-        opening : (q : Job) → IsOpeningJob q → (mode' : Mode) × (q ≡ Open mode')
+        opening : (q : Job) → IsOpeningJob mode q → (mode' : Mode) × (q ≡ Open mode')
         opening (Open mode') i = (mode', refl)
         opening (Read extent) i = absurd i
         opening (Write extent content) i = absurd i
         opening Flush i = absurd i
         opening Suspend i = absurd i
+        opening (Invalidate block) i = absurd i
         opening (Migrate migration block) i = absurd i
         opening (Replace old new) i = absurd i
 
@@ -261,16 +266,19 @@ module _ (P A : Type 0) (shape : Shape) where
         let d = noted_for x job plan e xt in
         subst (λ (o : Option (Option Doing)). Linked shape (phase_then shape w.phase next got chosen) (slice_set w.actors a (actor_then shape w.phase w.devices x next got)) (noted_step shape (mode_of w.phase) shown n a o next got read)) (sym d.is) (by_next d next h g)
       where
+        here : InPhase w.phase job
+        here = subst (λ (t : Option (Job × Plan)). TaskHere w.phase t) xt (l.here a x e)
+
         by_next : (d : Noted shape (mode_of w.phase) job plan (slice_get n.doings a)) (next : Want) → next ≡ want plan → Gives shape w x job next got read chosen → Linked shape (phase_then shape w.phase next got chosen) (slice_set w.actors a (actor_then shape w.phase w.devices x next got)) (noted_step shape (mode_of w.phase) shown n a (Some (Some d.doing)) next got read)
         by_next d (Cell step) h g = goes_on w n l a x e (Cell step) got chosen (noted_step shape (mode_of w.phase) shown n a (Some (Some d.doing)) (Cell step) got read) (λ z. z) (mode_stays P A shape w x job (Cell step) got read chosen (λ z. z) g) (λ b o. refl)
             (subst (λ (t : Option (Job × Plan)). TaskClaim shape (mode_of w.phase) (task_then t (Cell step) got) (slice_get (noted_step shape (mode_of w.phase) shown n a (Some (Some d.doing)) (Cell step) got read).doings a)) (sym xt)
-            (claims_on P A shape w n known.images known.known a x d.doing d.is plan (suits_for x job plan e xt) (mode_of w.phase) shown job (Cell step) got read chosen tt d.job_is d.claim h g))
+            (claims_on P A shape w n known.images known.known a x d.doing d.is plan (suits_for x job plan e xt) (mode_of w.phase) shown job (Cell step) got read chosen tt d.job_is d.claim h g here))
         by_next d (Device step) h g = goes_on w n l a x e (Device step) got chosen (noted_step shape (mode_of w.phase) shown n a (Some (Some d.doing)) (Device step) got read) (λ z. z) (mode_stays P A shape w x job (Device step) got read chosen (λ z. z) g) (others_stay shape (mode_of w.phase) shown n a d.doing step got read)
             (subst (λ (t : Option (Job × Plan)). TaskClaim shape (mode_of w.phase) (task_then t (Device step) got) (slice_get (noted_step shape (mode_of w.phase) shown n a (Some (Some d.doing)) (Device step) got read).doings a)) (sym xt)
-            (claims_on P A shape w n known.images known.known a x d.doing d.is plan (suits_for x job plan e xt) (mode_of w.phase) shown job (Device step) got read chosen tt d.job_is d.claim h g))
+            (claims_on P A shape w n known.images known.known a x d.doing d.is plan (suits_for x job plan e xt) (mode_of w.phase) shown job (Device step) got read chosen tt d.job_is d.claim h g here))
         by_next d (Desk step) h g = goes_on w n l a x e (Desk step) got chosen (noted_step shape (mode_of w.phase) shown n a (Some (Some d.doing)) (Desk step) got read) (λ z. z) (mode_stays P A shape w x job (Desk step) got read chosen (λ z. z) g) (λ b o. refl)
             (subst (λ (t : Option (Job × Plan)). TaskClaim shape (mode_of w.phase) (task_then t (Desk step) got) (slice_get (noted_step shape (mode_of w.phase) shown n a (Some (Some d.doing)) (Desk step) got read).doings a)) (sym xt)
-            (claims_on P A shape w n known.images known.known a x d.doing d.is plan (suits_for x job plan e xt) (mode_of w.phase) shown job (Desk step) got read chosen tt d.job_is d.claim h g))
+            (claims_on P A shape w n known.images known.known a x d.doing d.is plan (suits_for x job plan e xt) (mode_of w.phase) shown job (Desk step) got read chosen tt d.job_is d.claim h g here))
         by_next d (End answer) h g = answers shown w n l a x e job plan xt answer got read chosen d w.phase refl
 
     one_faults : (x : Actor) (job : Job) (plan : Plan) (step : DeviceStep) (read : List Bytes) (chosen : Chosen P A) → slice_get w.actors a ≡ Some x → x.task ≡ Some (job, plan) → Device step ≡ want plan →
@@ -336,6 +344,7 @@ module _ (P A : Type 0) (shape : Shape) where
   same_here (Stands t) (Write extent content) chosen (Some task) h = h
   same_here (Stands t) Flush chosen (Some task) h = h
   same_here (Stands t) Suspend chosen (Some task) h = h
+  same_here (Stands t) (Invalidate block) chosen (Some task) h = h
   same_here (Stands t) (Open mode) chosen (Some task) h = h
   same_here Gone job chosen (Some task) h = h
   same_here (Opens mode reading) job chosen (Some task) h = h
@@ -365,6 +374,7 @@ module _ (P A : Type 0) (shape : Shape) where
   same_alone t (Write extent content) chosen actors = tt
   same_alone t Flush chosen actors = tt
   same_alone t Suspend chosen actors = tt
+  same_alone t (Invalidate block) chosen actors = tt
   same_alone t (Open mode) chosen actors = tt
 
   abbrev Started_so : List Bytes → State P A → Notes → ℕ → Job → Chosen P A → Option Actor → Type 0
@@ -409,7 +419,7 @@ module _ (P A : Type 0) (shape : Shape) where
               | inr o ↦ let was = old b z (sym (set_other (all_resting w.actors) a b y o) ∙ g) in
                   subst (λ (t : Option (Job × Plan)). TaskClaim shape Writeback t (slice_get (slice_set (nobody n.doings) a (Some m)) b)) (sym was.0) (set_other (nobody n.doings) a b (Some m) o ∙ was.1)
             ];
-            here = each_set (all_resting w.actors) a x y (λ (z : Actor). TaskHere {P = P} {A = A} (Opens mode None) z.task) f tt (λ b z g. subst (λ (t : Option (Job × Plan)). TaskHere {P = P} {A = A} (Opens mode None) t) (sym (old b z g).0) tt);
+            here = each_set (all_resting w.actors) a x y (λ (z : Actor). TaskHere {P = P} {A = A} (Opens mode None) z.task) f refl (λ b z g. subst (λ (t : Option (Job × Plan)). TaskHere {P = P} {A = A} (Opens mode None) t) (sym (old b z g).0) tt);
             alone = (
               a,
               λ b z g i. elim (cases_eq b a) [
@@ -435,6 +445,10 @@ module _ (P A : Type 0) (shape : Shape) where
       subst (λ (o : Option Actor). Started_so shown w n a Suspend (Looks looks) o) (sym f.1)
       (served_starts w.phase w.actors n a f.0 (given {P = P} {A = A} shape (mode_of w.phase) f.0 Suspend (Looks looks)) Suspend _ (Looks looks) l f.1 f.2 refl tt tt (λ p. applies (inr (inr (inr p)))))
   starts shown w n a Suspend chosen l applies gives = absurd gives
+  starts shown w n a (Invalidate block) chosen l applies gives =
+      let f = free P A w a (Invalidate block) applies in
+      subst (λ (o : Option Actor). Started_so shown w n a (Invalidate block) chosen o) (sym f.1)
+      (served_starts w.phase w.actors n a f.0 (given shape (mode_of w.phase) f.0 (Invalidate block) chosen) (Invalidate block) _ chosen l f.1 f.2 refl tt tt (λ p. applies (inr (inr (inr (λ o. p (target_stands w.phase o)))))))
   starts shown w n a (Migrate migration block) chosen l applies gives =
       let f = free P A w a (Migrate migration block) applies in
       subst (λ (o : Option Actor). Started_so shown w n a (Migrate migration block) chosen o) (sym f.1)
@@ -509,6 +523,7 @@ module _ (P A : Type 0) (shape : Shape) where
   refused_by mode (Write extent content) plan doing refusal c e = tt
   refused_by mode Flush plan doing refusal c e = tt
   refused_by mode Suspend plan doing refusal c e = tt
+  refused_by mode (Invalidate block) plan doing refusal c e = tt
   refused_by mode (Migrate migration block) plan doing refusal c e = tt
   refused_by mode (Replace old new) plan doing refusal c e = tt
 

@@ -10,42 +10,30 @@ use Rattle.wb_disk.specs.Device.{Content as Bytes}
 use Rattle.wb_words.specs.SharedWords.{Words}
 use Rattle.wb_words.specs.declared.step.CellStep.{CellStep}
 use Rattle.wb_words.specs.Effects.{result_of}
-use Rattle.wb_tasks.specs.Tables.{BlockJob, Reading as ReadingPart, Writing as WritingPart, OnBlock, TaskJob}
+use Rattle.wb_tasks.specs.Tables.{BlockJob, Reading as ReadingPart, OnBlock, TaskJob}
 use Rattle.wb_tasks.specs.Plan.{Plan, want, after, got_of}
 use Rattle.wb_tasks.specs.Ready.{Suits, IsOwnStep}
 use Rattle.wb_tasks.proofs.Readiness.{is_own_step}
 use Rattle.wb_tasks.specs.declared.step.DeviceStep.{DeviceStep}
 use Rattle.wb_tasks.specs.declared.step.DeviceStep.TheVariants.{Read as ReadExtent, Write as WriteExtent, Sync, ReadMetadata, WriteNode, WriteRoot}
 use Rattle.wb_tasks.specs.declared.step.DeskStep.{DeskStep}
+use Rattle.wb_tasks.specs.declared.step.DeskStep.TheVariants.{Map, Unmap, ReleaseOrder, BeginCommit, EndCommit}
 use Rattle.wb_tasks.specs.declared.step.Want.{Want}
 use Rattle.wb_tasks.specs.declared.step.Want.TheVariants.{Cell, Device, Desk, End}
 use Rattle.wb_tasks.specs.declared.step.Got.{Got}
 use Rattle.wb_tasks.specs.declared.step.Got.TheVariants.{Done, Fault}
 use Rattle.wb_promise.specs.declared.job.Job.{Job}
-use Rattle.wb_promise.specs.declared.job.Job.TheVariants.{Read, Write, Flush, Suspend, Open, Migrate, Replace}
+use Rattle.wb_promise.specs.declared.job.Job.TheVariants.{Read, Write, Flush, Suspend, Open, Invalidate, Migrate, Replace}
 use Rattle.wb_promise.specs.States.{Shape, State, Actor, Phase, Stands, Gone, Opens, OfTarget, mode_of}
-use Rattle.wb_promise.specs.Happenings.{Chosen, Gives, block_range}
+use Rattle.wb_promise.specs.Happenings.{Chosen, Gives, block_range, write_job}
 use Rattle.wb_promise.specs.Effects.{task_then}
 use Rattle.wb_promise.specs.Clerk.{Notes, Doing, Entering, put, failing, write_note, device_note, noted_step, enter_each, entering, is_entered, sector_for}
 use Rattle.wb_contents.proofs.Lists.{set_other, set_there}
 use Rattle.wb_runs.proofs.Images.{Images}
 use Rattle.wb_runs.proofs.Metadata.{MetadataKept}
-use Rattle.wb_runs.proofs.Opening.{Comes, Causes, IsOpenNext, open_next, open_on, failing_same, still_refuses, fault_why, reading_comes, reading_why}
-use Rattle.wb_runs.proofs.Claims.{JobClaim, NotedClaim, TaskClaim, AllClaim, entered_at, read_words, write_words, read_extent, write_extent, read_fails, write_fails}
-
-abbrev pub IsOpeningJob : Job → Type 0
-IsOpeningJob (Open mode) = Unit {0}
-IsOpeningJob job = ⊥
-
--- requests, flushes and migrations are at work where a target stands, openings where one is at work
-abbrev pub IsServed : Job → Type 0
-IsServed (Open mode) = ⊥
-IsServed job = Unit {0}
-
-abbrev pub InPhase : {P A : Type 0} → Phase P A → Job → Type 0
-InPhase (Stands t) job = IsServed job
-InPhase (Opens mode r) job = IsOpeningJob job
-InPhase Gone job = ⊥
+use Rattle.wb_runs.proofs.Opening.{InPhase, Comes, Causes, IsOpenNext, open_next, open_on, failing_same, still_refuses, fault_why, reading_comes, reading_why}
+use Rattle.wb_runs.proofs.Passing.{WritesOwn, write_own}
+use Rattle.wb_runs.proofs.Claims.{JobClaim, NotedClaim, TaskClaim, AllClaim, entered_at, read_words, write_words, read_extent, write_extent, write_unmaps, read_fails, write_fails}
 
 abbrev pub TaskHere : {P A : Type 0} → Phase P A → Option (Job × Plan) → Type 0
 TaskHere phase None = Unit {0}
@@ -108,6 +96,7 @@ module _ (shape : Shape) (mode : Mode) (shown : List Bytes) (n : Notes) (a : ℕ
       nothing (Write extent content) z m mid = absurd z
       nothing Flush z m mid = refl
       nothing Suspend z m mid = refl
+      nothing (Invalidate block) z m mid = refl
       nothing (Open opened_in) z m mid = refl
       nothing (Migrate migration block) z m mid = refl
       nothing (Replace old new) z m mid = refl
@@ -176,6 +165,9 @@ module _ (P A : Type 0) (shape : Shape) where
     own : (part : BlockJob) (next : Want) → plan.job ≡ OnBlock part → next ≡ want plan → IsOwnStep (OnBlock part) next
     own part next j h = subst (λ (v : Want). IsOwnStep (OnBlock part) v) (sym h) (subst (λ (q : TaskJob). IsOwnStep q (want plan)) j (is_own_step shape.geometry.origin_blocks plan x.card suits))
 
+    write_owns : (extent : Extent) (cut : List Extent) (next : Want) → plan.job ≡ OnBlock (write_job mode (block_range shape mode extent cut)) → next ≡ want plan → WritesOwn next
+    write_owns extent cut next j h = write_own mode (block_range shape mode extent cut) next (own (write_job mode (block_range shape mode extent cut)) next j h)
+
     abbrev Then_of : Job → Want → Got → List Bytes → Type 0
     Then_of job next got read = TaskClaim shape mode (task_then (Some (job, plan)) next got) (slice_get (noted_step shape mode shown n a (Some (Some doing)) next got read).doings a)
 
@@ -203,17 +195,23 @@ module _ (P A : Type 0) (shape : Shape) where
         subst (λ (v : Got). Then_of (Write extent content) (Cell step) v read) (sym t.1) (plain_words shape mode shown n a x doing noted (Write extent content) plan j step _ read (write_words shape mode plan x suits extent content doing t.0 step h c))
     write_goes extent content (Device (WriteExtent d ex)) got read chosen z j c h g = subst (λ (v : Got). Then_of (Write extent content) (Device (WriteExtent d ex)) v read) (sym g.2) (extent_written shape mode shown n a x doing noted plan suits extent ex content d some_words read j h c)
     write_goes extent content (Device (ReadExtent d ex)) got read chosen z j c h g = absurd g
-    write_goes extent content (Device (Sync d)) got read chosen z j c h g = absurd (own (WritingPart (block_range shape mode extent c.cut)) (Device (Sync d)) c.is_job h)
-    write_goes extent content (Device (ReadMetadata k)) got read chosen z j c h g = absurd (own (WritingPart (block_range shape mode extent c.cut)) (Device (ReadMetadata k)) c.is_job h)
-    write_goes extent content (Device (WriteNode k)) got read chosen z j c h g = absurd (own (WritingPart (block_range shape mode extent c.cut)) (Device (WriteNode k)) c.is_job h)
-    write_goes extent content (Device WriteRoot) got read chosen z j c h g = absurd (own (WritingPart (block_range shape mode extent c.cut)) (Device WriteRoot) c.is_job h)
-    write_goes extent content (Desk step) got read chosen z j c h g = absurd (own (WritingPart (block_range shape mode extent c.cut)) (Desk step) c.is_job h)
+    write_goes extent content (Device (Sync d)) got read chosen z j c h g = absurd (write_owns extent c.cut (Device (Sync d)) c.is_job h)
+    write_goes extent content (Device (ReadMetadata k)) got read chosen z j c h g = absurd (write_owns extent c.cut (Device (ReadMetadata k)) c.is_job h)
+    write_goes extent content (Device (WriteNode k)) got read chosen z j c h g = absurd (write_owns extent c.cut (Device (WriteNode k)) c.is_job h)
+    write_goes extent content (Device WriteRoot) got read chosen z j c h g = absurd (write_owns extent c.cut (Device WriteRoot) c.is_job h)
+    write_goes extent content (Desk (Unmap block)) got read chosen z j c h g =
+        subst (λ (v : Got). Then_of (Write extent content) (Desk (Unmap block)) v read) (sym g.1) (plain_desk shape mode shown n a x doing noted (Write extent content) plan j (Unmap block) Done read (write_unmaps shape mode plan x suits extent content block doing some_words h c))
+    write_goes extent content (Desk (Map block place)) got read chosen z j c h g = absurd (write_owns extent c.cut (Desk (Map block place)) c.is_job h)
+    write_goes extent content (Desk (ReleaseOrder block)) got read chosen z j c h g = absurd (write_owns extent c.cut (Desk (ReleaseOrder block)) c.is_job h)
+    write_goes extent content (Desk (BeginCommit clean most)) got read chosen z j c h g = absurd (write_owns extent c.cut (Desk (BeginCommit clean most)) c.is_job h)
+    write_goes extent content (Desk EndCommit) got read chosen z j c h g = absurd (write_owns extent c.cut (Desk EndCommit) c.is_job h)
     write_goes extent content (End answer) got read chosen z j c h g = absurd z
 
-    -- of a flush and a migration nothing is claimed
+    -- of a flush, an invalidation and a migration nothing is claimed
     abbrev IsUnclaimed : Job → Type 0
     IsUnclaimed Flush = Unit {0}
     IsUnclaimed Suspend = Unit {0}
+    IsUnclaimed (Invalidate block) = Unit {0}
     IsUnclaimed (Migrate migration block) = Unit {0}
     IsUnclaimed (Replace old new) = Unit {0}
     IsUnclaimed job = ⊥
@@ -225,6 +223,9 @@ module _ (P A : Type 0) (shape : Shape) where
     unclaimed Suspend (Cell step) got read u z j = plain_words shape mode shown n a x doing noted Suspend plan j step got read tt
     unclaimed Suspend (Device step) got read u z j = plain_device shape mode shown n a x doing noted Suspend plan j step got read tt tt
     unclaimed Suspend (Desk step) got read u z j = plain_desk shape mode shown n a x doing noted Suspend plan j step got read tt
+    unclaimed (Invalidate block) (Cell step) got read u z j = plain_words shape mode shown n a x doing noted (Invalidate block) plan j step got read tt
+    unclaimed (Invalidate block) (Device step) got read u z j = plain_device shape mode shown n a x doing noted (Invalidate block) plan j step got read tt tt
+    unclaimed (Invalidate block) (Desk step) got read u z j = plain_desk shape mode shown n a x doing noted (Invalidate block) plan j step got read tt
     unclaimed (Migrate migration block) (Cell step) got read u z j = plain_words shape mode shown n a x doing noted (Migrate migration block) plan j step got read tt
     unclaimed (Migrate migration block) (Device step) got read u z j = plain_device shape mode shown n a x doing noted (Migrate migration block) plan j step got read tt tt
     unclaimed (Migrate migration block) (Desk step) got read u z j = plain_desk shape mode shown n a x doing noted (Migrate migration block) plan j step got read tt
@@ -236,8 +237,8 @@ module _ (P A : Type 0) (shape : Shape) where
     unclaimed (Write extent content) next got read u z j = absurd u
     unclaimed (Open opened_in) next got read u z j = absurd u
 
-    open_goes : (opened_in : Mode) (next : Want) (got : Got) (read : List Bytes) (chosen : Chosen P A) → NoAnswer next → doing.job ≡ Open opened_in → JobClaim shape mode (Open opened_in) plan doing → next ≡ want plan → Gives shape w x (Open opened_in) next got read chosen → Then_of (Open opened_in) next got read
-    open_goes opened_in next got read chosen z j c h g = by_next next z (subst (λ (v : Want). IsOpenNext v) (sym h) (open_next plan doing c)) h g
+    open_goes : (opened_in : Mode) (next : Want) (got : Got) (read : List Bytes) (chosen : Chosen P A) → NoAnswer next → doing.job ≡ Open opened_in → JobClaim shape mode (Open opened_in) plan doing → next ≡ want plan → Gives shape w x (Open opened_in) next got read chosen → InPhase w.phase (Open opened_in) → Then_of (Open opened_in) next got read
+    open_goes opened_in next got read chosen z j c h g at = by_next next z (subst (λ (v : Want). IsOpenNext v) (sym h) (open_next plan doing c)) h g
       where
         on : (step : DeviceStep) → Device step ≡ want plan → Comes got → ((refusal : Refusal) → Causes step got refusal → Rattle.wb_promise.specs.Headline.MayRefuse (failing doing step got) refusal) → Then_of (Open opened_in) (Device step) got read
         on step h comes why = plain_device shape mode shown n a x doing noted (Open opened_in) plan j step got read tt (open_on plan doing (failing doing step got) step got c h comes (still_refuses doing step got) why)
@@ -250,7 +251,7 @@ module _ (P A : Type 0) (shape : Shape) where
         by_next (Device (Sync Cache)) z i h g = on (Sync Cache) h (subst Comes (sym g.1) tt) (done (Sync Cache) g.1)
         by_next (Device (Sync Origin)) z i h g = on (Sync Origin) h (subst Comes (sym g.1) tt) (done (Sync Origin) g.1)
         by_next (Device WriteRoot) z i h g = on WriteRoot h (subst Comes (sym g.1) tt) (done WriteRoot g.1)
-        by_next (Device (ReadMetadata left)) z i h g = on (ReadMetadata left) h (reading_comes P A shape images w.devices.metadata doing left w.phase w.commit got chosen g.2) (reading_why P A shape images w.devices.metadata doing left w.phase w.commit got chosen known g.1 g.2)
+        by_next (Device (ReadMetadata left)) z i h g = on (ReadMetadata left) h (reading_comes P A shape images w.devices.metadata doing left w.phase w.commit got chosen g.2) (reading_why P A shape images w.devices.metadata doing left w.phase w.commit got chosen known g.1 g.2 (subst (λ (q : Job). InPhase w.phase q) (sym j) at))
         by_next (End answer) z i h g = absurd z
         by_next (Cell step) z i h g = absurd i
         by_next (Desk step) z i h g = absurd i
@@ -259,14 +260,15 @@ module _ (P A : Type 0) (shape : Shape) where
         by_next (Device (WriteNode k)) z i h g = absurd i
 
     -- a step of any job that is no answer
-    pub claims_on : (job : Job) (next : Want) (got : Got) (read : List Bytes) (chosen : Chosen P A) → NoAnswer next → doing.job ≡ job → JobClaim shape mode job plan doing → next ≡ want plan → Gives shape w x job next got read chosen → Then_of job next got read
-    claims_on (Read extent) next got read chosen z j c h g = read_goes extent next got read chosen z j c h g
-    claims_on (Write extent content) next got read chosen z j c h g = write_goes extent content next got read chosen z j c h g
-    claims_on Flush next got read chosen z j c h g = unclaimed Flush next got read tt z j
-    claims_on Suspend next got read chosen z j c h g = unclaimed Suspend next got read tt z j
-    claims_on (Open opened_in) next got read chosen z j c h g = open_goes opened_in next got read chosen z j c h g
-    claims_on (Migrate migration block) next got read chosen z j c h g = unclaimed (Migrate migration block) next got read tt z j
-    claims_on (Replace old new) next got read chosen z j c h g = unclaimed (Replace old new) next got read tt z j
+    pub claims_on : (job : Job) (next : Want) (got : Got) (read : List Bytes) (chosen : Chosen P A) → NoAnswer next → doing.job ≡ job → JobClaim shape mode job plan doing → next ≡ want plan → Gives shape w x job next got read chosen → InPhase w.phase job → Then_of job next got read
+    claims_on (Read extent) next got read chosen z j c h g at = read_goes extent next got read chosen z j c h g
+    claims_on (Write extent content) next got read chosen z j c h g at = write_goes extent content next got read chosen z j c h g
+    claims_on Flush next got read chosen z j c h g at = unclaimed Flush next got read tt z j
+    claims_on Suspend next got read chosen z j c h g at = unclaimed Suspend next got read tt z j
+    claims_on (Open opened_in) next got read chosen z j c h g at = open_goes opened_in next got read chosen z j c h g at
+    claims_on (Invalidate block) next got read chosen z j c h g at = unclaimed (Invalidate block) next got read tt z j
+    claims_on (Migrate migration block) next got read chosen z j c h g at = unclaimed (Migrate migration block) next got read tt z j
+    claims_on (Replace old new) next got read chosen z j c h g at = unclaimed (Replace old new) next got read tt z j
 
     -- one that fails
     pub claims_failed : (job : Job) (step : DeviceStep) (read : List Bytes) → doing.job ≡ job → JobClaim shape mode job plan doing → Device step ≡ want plan → Then_of job (Device step) Fault read
@@ -279,9 +281,9 @@ module _ (P A : Type 0) (shape : Shape) where
         by_step (ReadMetadata k) h o = absurd o
         by_step (WriteNode k) h o = absurd o
         by_step WriteRoot h o = absurd o
-    claims_failed (Write extent content) step read j c h = by_step step h (own (WritingPart (block_range shape mode extent c.cut)) (Device step) c.is_job h)
+    claims_failed (Write extent content) step read j c h = by_step step h (write_owns extent c.cut (Device step) c.is_job h)
       where
-        by_step : (step : DeviceStep) → Device step ≡ want plan → IsOwnStep (OnBlock (WritingPart (block_range shape mode extent c.cut))) (Device step) → Then_of (Write extent content) (Device step) Fault read
+        by_step : (step : DeviceStep) → Device step ≡ want plan → WritesOwn (Device step) → Then_of (Write extent content) (Device step) Fault read
         by_step (WriteExtent d ex) h o = write_faults shape mode shown n a x doing noted plan suits extent ex content d read j h c
         by_step (ReadExtent d ex) h o = absurd o
         by_step (Sync d) h o = absurd o
@@ -290,6 +292,7 @@ module _ (P A : Type 0) (shape : Shape) where
         by_step WriteRoot h o = absurd o
     claims_failed Flush step read j c h = unclaimed Flush (Device step) Fault read tt tt j
     claims_failed Suspend step read j c h = unclaimed Suspend (Device step) Fault read tt tt j
+    claims_failed (Invalidate block) step read j c h = unclaimed (Invalidate block) (Device step) Fault read tt tt j
     claims_failed (Migrate migration block) step read j c h = unclaimed (Migrate migration block) (Device step) Fault read tt tt j
     claims_failed (Replace old new) step read j c h = unclaimed (Replace old new) (Device step) Fault read tt tt j
     claims_failed (Open opened_in) step read j c h = plain_device shape mode shown n a x doing noted (Open opened_in) plan j step Fault read tt (open_on plan doing (failing doing step Fault) step Fault c h tt (still_refuses doing step Fault) (fault_why doing step))

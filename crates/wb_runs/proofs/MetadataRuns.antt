@@ -14,7 +14,7 @@ use Rattle.wb_tasks.specs.declared.step.Got.{Got}
 use Rattle.wb_tasks.specs.declared.step.Got.TheVariants.{Fault}
 use Rattle.wb_meta.specs.Roots.{AreOneOf}
 use Rattle.wb_promise.specs.declared.job.Job.{Job}
-use Rattle.wb_promise.specs.declared.job.Job.TheVariants.{Read, Write, Flush, Suspend, Open, Migrate, Replace}
+use Rattle.wb_promise.specs.declared.job.Job.TheVariants.{Read, Write, Flush, Suspend, Open, Migrate, Replace, Invalidate}
 use Rattle.wb_promise.specs.declared.event.Event.{Event}
 use Rattle.wb_promise.specs.declared.event.Event.TheVariants.{Start, Step, FaultStep, Stop}
 use Rattle.wb_promise.specs.declared.event.What.{What}
@@ -80,6 +80,7 @@ module _ (P A : Type 0) (shape : Shape) where
   ordered i (Stands t) commit m actor (Write extent content) chosen k g = k
   ordered i (Stands t) commit m actor Flush chosen k g = k
   ordered i (Stands t) commit m actor Suspend chosen k g = k
+  ordered i (Stands t) commit m actor (Invalidate block) chosen k g = k
   ordered i (Stands t) commit m actor (Open mode) chosen k g = k
   ordered i Gone commit m actor job chosen k g = k
   ordered i (Opens mode reading) commit m actor job chosen k g = k
@@ -115,6 +116,11 @@ module _ (P A : Type 0) (shape : Shape) where
       by_start_over : (o : Option Actor) → Knows i (with_actor w o (λ x. record w { phase = phase_given w.phase Suspend chosen; actors = slice_set w.actors a (given shape (mode_of w.phase) x Suspend chosen) }))
       by_start_over None = same i w k
       by_start_over (Some x) = stays (λ now. MetadataKept shape.geometry now (phase_given w.phase Suspend chosen) w.commit w.devices.metadata) i (suspend_ordered i w.phase w.commit w.devices.metadata chosen k)
+  by_start i w a (Invalidate block) chosen k g = by_start_over (slice_get w.actors a)
+    where
+      by_start_over : (o : Option Actor) → Knows i (with_actor w o (λ x. record w { phase = phase_given w.phase (Invalidate block) chosen; actors = slice_set w.actors a (given shape (mode_of w.phase) x (Invalidate block) chosen) }))
+      by_start_over None = same i w k
+      by_start_over (Some x) = stays (λ now. MetadataKept shape.geometry now (phase_given w.phase (Invalidate block) chosen) w.commit w.devices.metadata) i (ordered i w.phase w.commit w.devices.metadata (slice_get w.actors a) (Invalidate block) chosen k g)
   by_start i w a (Migrate migration block) chosen k g = by_start_over (slice_get w.actors a)
     where
       by_start_over : (o : Option Actor) → Knows i (with_actor w o (λ x. record w { phase = phase_given w.phase (Migrate migration block) chosen; actors = slice_set w.actors a (given shape (mode_of w.phase) x (Migrate migration block) chosen) }))

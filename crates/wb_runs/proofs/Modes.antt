@@ -14,7 +14,7 @@ use Rattle.wb_tasks.specs.declared.step.Want.TheVariants.{Cell, Device, Desk, En
 use Rattle.wb_tasks.specs.declared.step.Got.{Got}
 use Rattle.wb_tasks.specs.declared.step.Got.TheVariants.{Done, Refused as GotRefused}
 use Rattle.wb_promise.specs.declared.job.Job.{Job}
-use Rattle.wb_promise.specs.declared.job.Job.TheVariants.{Flush, Migrate, Replace}
+use Rattle.wb_promise.specs.declared.job.Job.TheVariants.{Flush, Migrate, Replace, Invalidate, Write}
 use Rattle.wb_promise.specs.States.{Shape, State, Actor, Phase, Stands, Gone, Opens, OfTarget, mode_of}
 use Rattle.wb_promise.specs.Happenings.{Chosen, Plain, Orders, Commits, Asks, Gives, DoesMap, DoesUnmap, DoesRelease}
 use Rattle.wb_promise.specs.Effects.{desk_then, begun_desk, phase_then, phase_given}
@@ -89,6 +89,8 @@ module _ (P A : Type 0) where
   by_desk shape w x job EndCommit got read chosen g = by_end w.phase chosen
   by_desk shape w x (Migrate migration block) (Map b c) got read chosen g = by_map w.phase b c got chosen g.1
   by_desk shape w x (Migrate migration block) (Unmap b) got read chosen g = by_unmap w.phase b chosen g.2
+  by_desk shape w x (Write extent content) (Unmap b) got read chosen g = by_unmap w.phase b chosen g.2
+  by_desk shape w x (Invalidate block) (Unmap b) got read chosen g = by_unmap w.phase b chosen g.2
   by_desk shape w x (Migrate migration block) (ReleaseOrder b) got read chosen g = by_release w.phase x.orders b chosen g.2
   by_desk shape w x Flush (ReleaseOrder b) got read chosen g = by_release w.phase x.awaiting b chosen g.2
   by_desk shape w x job step got read chosen g = absurd g

@@ -1,7 +1,8 @@
 -- What is left of the task of an opening, and why it is to be refused, where it is.
-use Rattle.std.proofs.Common.{◌≡◌, ◌≢◌, ◌∙◌, ◌⊎◌, inl, inr, ℕ, List, [], ◌∷◌, Option, Some, None, refl, sym, ap, subst}
+use Rattle.std.proofs.Common.{◌≡◌, ◌≢◌, ◌∙◌, inl, inr, ℕ, List, [], ◌∷◌, Option, Some, None, refl, sym, ap, subst}
+use Rattle.wb_types.specs.declared.mode.Mode.{Mode}
 use Rattle.wb_types.specs.declared.refusal.Refusal.{Refusal}
-use Rattle.wb_types.specs.declared.refusal.Refusal.TheVariants.{Io, Memory, GenerationEnd}
+use Rattle.wb_types.specs.declared.refusal.Refusal.TheVariants.{Io, NotClean, Memory, GenerationEnd}
 use Rattle.wb_types.proofs.Lists.{Contains-first, Contains-behind}
 use Rattle.wb_disk.specs.Device.{History}
 use Rattle.wb_meta.specs.declared.read_steps.ReadSteps.{ReadSteps}
@@ -16,6 +17,8 @@ use Rattle.wb_tasks.specs.declared.step.Got.{Got}
 use Rattle.wb_tasks.specs.declared.step.Got.TheVariants.{Done, Fault, Refused as GotRefused, More}
 use Rattle.wb_devices.specs.declared.running.RunningCommit.{RunningCommit}
 use Rattle.wb_devices.specs.Opened.{HasCome, got_of_refusal}
+use Rattle.wb_promise.specs.declared.job.Job.{Job}
+use Rattle.wb_promise.specs.declared.job.Job.TheVariants.{Read, Write, Flush, Suspend, Open, Invalidate, Migrate, Replace}
 use Rattle.wb_promise.specs.States.{Shape, Phase, Stands, Gone, Opens, OfReading}
 use Rattle.wb_promise.specs.Happenings.{Chosen, Reaches, DoesRead}
 use Rattle.wb_promise.specs.Clerk.{Doing, failing}
@@ -23,7 +26,7 @@ use Rattle.wb_promise.specs.Headline.{MayRefuse}
 use Rattle.wb_runs.proofs.Plans.{plan_of}
 use Rattle.wb_runs.proofs.Images.{Images}
 use Rattle.wb_runs.proofs.Metadata.{MetadataKept, HasReached, AtOpening}
-use Rattle.wb_runs.proofs.Refusing.{refused_for}
+use Rattle.wb_runs.proofs.Refusing.{Cause, refused_for}
 
 abbrev pub OpensOnly : List Want → Type 0
 OpensOnly [] = Unit {0}
@@ -128,6 +131,7 @@ pub still_refuses : (doing : Doing) (step : DeviceStep) (got : Got) (refusal : R
 still_refuses doing step Fault (Io device) m = Contains-behind (device_of step) doing.failed device m
 still_refuses doing step Fault Memory m = m
 still_refuses doing step Fault GenerationEnd m = m
+still_refuses doing step Fault NotClean m = m
 still_refuses doing step Fault refusal m = absurd m
 still_refuses doing step got refusal m = m
 
@@ -135,9 +139,23 @@ still_refuses doing step got refusal m = m
 pub fault_why : (doing : Doing) (step : DeviceStep) (refusal : Refusal) → Causes step Fault refusal → MayRefuse (failing doing step Fault) refusal
 fault_why doing step refusal c = subst (λ (r : Refusal). MayRefuse (failing doing step Fault) r) (sym c) (Contains-first (device_of step) doing.failed)
 
+-- requests, flushes and migrations are at work where a target stands, openings where one is at work, in its mode
+abbrev pub IsServed : Job → Type 0
+IsServed (Open mode) = ⊥
+IsServed job = Unit {0}
+
+abbrev pub IsOpeningJob : Mode → Job → Type 0
+IsOpeningJob mode (Open opened) = opened ≡ mode
+IsOpeningJob mode job = ⊥
+
+abbrev pub InPhase : {P A : Type 0} → Phase P A → Job → Type 0
+InPhase (Stands t) job = IsServed job
+InPhase (Opens mode r) job = IsOpeningJob mode job
+InPhase Gone job = ⊥
+
 module _ (P A : Type 0) (shape : Shape) (images : Images) (device : List History) (doing : Doing) (left : ℕ) where
-  reads_come : (was : ReadSteps A) (commit : Option RunningCommit) (got : Got) (chosen : Chosen P A) → DoesRead shape.geometry left was device commit got chosen → Comes got
-  reads_come was commit got (Reaches after' c) (fine, inl more) = by_got got fine more.3
+  reads_come : (mode : Mode) (was : ReadSteps A) (commit : Option RunningCommit) (got : Got) (chosen : Chosen P A) → DoesRead mode shape.geometry left was device commit got chosen → Comes got
+  reads_come mode was commit got (Reaches after' c) (fine, inl more) = elim more.3 [ inl in_time ↦ by_got got fine in_time.0 | inr unclean ↦ subst Comes (sym unclean.1) tt ]
     where
       by_got : (got : Got) → (got ≢ Fault) → HasCome shape.geometry left more.0 commit got after' c → Comes got
       by_got Done f h = tt
@@ -145,41 +163,52 @@ module _ (P A : Type 0) (shape : Shape) (images : Images) (device : List History
       by_got (GotRefused r) f h = tt
       by_got Fault f h = tt
       by_got got f h = absurd h
-  reads_come was commit got (Reaches after' c) (fine, inr more) = by_refusal more.0 more.3
+  reads_come mode was commit got (Reaches after' c) (fine, inr more) = by_refusal more.0 more.3
     where
       by_refusal : (r : Refusal) → got ≡ got_of_refusal r → Comes got
       by_refusal (Io d) h = subst Comes (sym h) tt
       by_refusal r h = subst Comes (sym h) tt
-  reads_come was commit got chosen g = absurd g
+  reads_come mode was commit got chosen g = absurd g
 
-  pub reading_comes : (phase : Phase P A) (commit : Option RunningCommit) (got : Got) (chosen : Chosen P A) → OfReading phase (λ mode was. DoesRead shape.geometry left was device commit got chosen) → Comes got
-  reading_comes (Opens mode (Some was)) commit got chosen g = reads_come was commit got chosen g
+  pub reading_comes : (phase : Phase P A) (commit : Option RunningCommit) (got : Got) (chosen : Chosen P A) → OfReading phase (λ mode was. DoesRead mode shape.geometry left was device commit got chosen) → Comes got
+  reading_comes (Opens mode (Some was)) commit got chosen g = reads_come mode was commit got chosen g
   reading_comes (Opens mode None) commit got chosen g = absurd g
   reading_comes (Stands t) commit got chosen g = absurd g
   reading_comes Gone commit got chosen g = absurd g
 
-  no_fault : (was : ReadSteps A) (chosen : Chosen P A) → DoesRead shape.geometry left was device None Fault chosen → ⊥
-  no_fault was (Reaches r d) g = g.0 refl
-  no_fault was chosen g = g
+  no_fault : (mode : Mode) (was : ReadSteps A) (chosen : Chosen P A) → DoesRead mode shape.geometry left was device None Fault chosen → ⊥
+  no_fault mode was (Reaches r d) g = g.0 refl
+  no_fault mode was chosen g = g
 
-  -- a reading is refused for want of memory or of generations
-  pub reading_why : (phase : Phase P A) (commit : Option RunningCommit) (got : Got) (chosen : Chosen P A) → MetadataKept shape.geometry images phase commit device → commit ≡ None → OfReading phase (λ mode was. DoesRead shape.geometry left was device commit got chosen) →
-      (refusal : Refusal) → Causes (ReadMetadata left) got refusal → MayRefuse (failing doing (ReadMetadata left) got) refusal
-  reading_why (Opens mode (Some was)) commit got chosen known e g refusal c = by_got got (subst (λ (x : Option RunningCommit). DoesRead shape.geometry left was device x got chosen) e g) c
+  -- a reading is refused for want of memory or of generations, or since what was read was not left clean
+  pub reading_why : (phase : Phase P A) (commit : Option RunningCommit) (got : Got) (chosen : Chosen P A) → MetadataKept shape.geometry images phase commit device → commit ≡ None → OfReading phase (λ mode was. DoesRead mode shape.geometry left was device commit got chosen) →
+      InPhase phase doing.job → (refusal : Refusal) → Causes (ReadMetadata left) got refusal → MayRefuse (failing doing (ReadMetadata left) got) refusal
+  reading_why (Opens mode (Some was)) commit got chosen known e g at refusal c = by_got got (subst (λ (x : Option RunningCommit). DoesRead mode shape.geometry left was device x got chosen) e g) c
     where
       reached : HasReached shape.geometry images was device
       reached = subst (λ (x : Option RunningCommit). AtOpening shape.geometry images (Some was) x device) e known
 
-      by_cause : (r : Refusal) → (r ≡ Memory) ⊎ (r ≡ GenerationEnd) → MayRefuse doing r
-      by_cause r (inl m) = subst (λ (x : Refusal). MayRefuse doing x) (sym m) tt
-      by_cause r (inr n) = subst (λ (x : Refusal). MayRefuse doing x) (sym n) tt
+      opens_in : (job : Job) → IsOpeningJob mode job → job ≡ Open mode
+      opens_in (Open opened) i = ap (λ (m : Mode). Open m) i
+      opens_in (Read extent) i = absurd i
+      opens_in (Write extent content) i = absurd i
+      opens_in Flush i = absurd i
+      opens_in Suspend i = absurd i
+      opens_in (Invalidate block) i = absurd i
+      opens_in (Migrate migration block) i = absurd i
+      opens_in (Replace old new) i = absurd i
 
-      by_got : (got : Got) → DoesRead shape.geometry left was device None got chosen → Causes (ReadMetadata left) got refusal → MayRefuse (failing doing (ReadMetadata left) got) refusal
-      by_got (GotRefused because) d c = subst (λ (x : Refusal). MayRefuse doing x) (sym c) (by_cause because (refused_for P A shape.geometry images device was left because chosen reached d))
-      by_got Fault d c = absurd (no_fault was chosen d)
+      by_cause : (r : Refusal) → Cause mode r → MayRefuse doing r
+      by_cause r (inl m) = subst (λ (x : Refusal). MayRefuse doing x) (sym m) tt
+      by_cause r (inr (inl n)) = subst (λ (x : Refusal). MayRefuse doing x) (sym n) tt
+      by_cause r (inr (inr past)) = subst (λ (x : Refusal). MayRefuse doing x) (sym past.1) (opens_in doing.job at ∙ ap (λ (m : Mode). Open m) past.0)
+
+      by_got : (got : Got) → DoesRead mode shape.geometry left was device None got chosen → Causes (ReadMetadata left) got refusal → MayRefuse (failing doing (ReadMetadata left) got) refusal
+      by_got (GotRefused because) d c = subst (λ (x : Refusal). MayRefuse doing x) (sym c) (by_cause because (refused_for P A shape.geometry images device was mode left because chosen reached d))
+      by_got Fault d c = absurd (no_fault mode was chosen d)
       by_got Done d c = absurd c
       by_got More d c = absurd c
       by_got got d c = absurd c
-  reading_why (Opens mode None) commit got chosen known e g refusal c = absurd g
-  reading_why (Stands t) commit got chosen known e g refusal c = absurd g
-  reading_why Gone commit got chosen known e g refusal c = absurd g
+  reading_why (Opens mode None) commit got chosen known e g at refusal c = absurd g
+  reading_why (Stands t) commit got chosen known e g at refusal c = absurd g
+  reading_why Gone commit got chosen known e g at refusal c = absurd g

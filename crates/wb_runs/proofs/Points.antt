@@ -8,7 +8,7 @@ use Rattle.wb_meta.specs.Reads.{sectors_read}
 use Rattle.wb_meta.specs.declared.read_steps.ReadSteps.{ReadSteps}
 use Rattle.wb_meta.specs.declared.commit_steps.CommitSteps.{CommitSteps}
 use Rattle.wb_meta.specs.declared.commit_steps.CommitSteps.TheVariants.{NodesWritten, NodesSynced, RootWritten, Done as Committed}
-use Rattle.wb_tasks.specs.Tables.{BlockRange, Migrating, OnBlock, TaskJob, Flushing, Suspending, Opening}
+use Rattle.wb_tasks.specs.Tables.{BlockRange, Invalidating, Migrating, OnBlock, TaskJob, Flushing, Suspending, Opening}
 use Rattle.wb_tasks.specs.Plan.{Plan, node_writes, release_orders, seal_looks}
 use Rattle.wb_tasks.specs.Points.{OpenPoint, AtFirst, AtCache, AtOrigin, AtRead, AtRoot, AtRootSync, AtEnd, AtRefusal, open_left, open_answer}
 use Rattle.wb_tasks.specs.declared.step.Migration.{Migration}
@@ -19,7 +19,7 @@ use Rattle.wb_tasks.specs.declared.step.Want.{Want}
 use Rattle.wb_tasks.specs.declared.step.Want.TheVariants.{Cell, Device, Desk}
 use Rattle.wb_devices.specs.declared.running.RunningCommit.{RunningCommit}
 use Rattle.wb_promise.specs.declared.job.Job.{Job}
-use Rattle.wb_promise.specs.declared.job.Job.TheVariants.{Flush, Suspend, Open, Migrate, Replace}
+use Rattle.wb_promise.specs.declared.job.Job.TheVariants.{Flush, Suspend, Open, Migrate, Replace, Invalidate}
 use Rattle.wb_promise.specs.States.{Actor, Phase, Stands, Gone, Opens}
 use Rattle.wb_promise.specs.Happenings.{OfSome}
 use Rattle.wb_runs.proofs.Plans.{plan_of}
@@ -129,11 +129,16 @@ pub record FlushAt (Makes : List OBlock → ℕ → CommitJob) (commit : Option 
 abbrev pub Migrates : Migration → Plan → Type 0
 Migrates migration plan = (part : BlockRange) × (plan.job ≡ OnBlock (Migrating migration part))
 
+-- a task invalidates so
+abbrev pub Invalidates : Plan → Type 0
+Invalidates plan = (part : BlockRange) × (plan.job ≡ OnBlock (Invalidating part))
+
 -- nobody is at a replacement: it begins with the demotion of the block that leaves
 abbrev pub FlushJob : Option RunningCommit → Type 0 → Job → Plan → Type 0
 FlushJob commit IsLeader Flush plan = FlushAt Flushes commit IsLeader plan
 FlushJob commit IsLeader Suspend plan = FlushAt Suspends commit IsLeader plan
 FlushJob commit IsLeader (Migrate migration block) plan = Migrates migration plan
+FlushJob commit IsLeader (Invalidate block) plan = Invalidates plan
 FlushJob commit IsLeader (Replace old new) plan = ⊥
 FlushJob commit IsLeader job plan = Unit {0}
 
@@ -170,7 +175,7 @@ OpenTask reading commit (Some task) = OpenJob reading commit task.0 task.1
 
 -- ---- all of them
 
--- where every flush and opening stands, and that each migration's task migrates; one flush alone leads the commit
+-- where every flush and opening stands, and that each migration's task migrates, and each invalidation's invalidates; one flush alone leads the commit
 abbrev pub Going : {P A : Type 0} → Phase P A → Option RunningCommit → List Actor → Type 0
 Going (Stands t) commit actors = (leader : ℕ) × ((b : ℕ) (x : Actor) → slice_get actors b ≡ Some x → FlushTask commit (b ≡ leader) x.task)
 Going Gone commit actors = Unit {0}

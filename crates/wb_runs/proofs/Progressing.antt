@@ -23,13 +23,13 @@ use Rattle.wb_tasks.specs.declared.step.Got.TheVariants.{Fault}
 use Rattle.wb_devices.specs.declared.devices.Devices.{Devices}
 use Rattle.wb_devices.specs.declared.running.RunningCommit.{RunningCommit}
 use Rattle.wb_promise.specs.declared.job.Job.{Job}
-use Rattle.wb_promise.specs.declared.job.Job.TheVariants.{Read, Write, Flush, Open, Migrate, Replace, Suspend}
+use Rattle.wb_promise.specs.declared.job.Job.TheVariants.{Read, Write, Flush, Open, Migrate, Replace, Suspend, Invalidate}
 use Rattle.wb_promise.specs.declared.event.Event.{Event}
 use Rattle.wb_promise.specs.declared.event.Event.TheVariants.{Start, Step, FaultStep, Stop}
 use Rattle.wb_promise.specs.declared.event.What.{What}
 use Rattle.wb_promise.specs.declared.event.What.TheVariants.{Skipped, Refused, Started, Stepped, Stopped}
 use Rattle.wb_promise.specs.States.{Shape, State, Actor, Target, Phase, Stands, Gone, Opens, OfTarget, mode_of, resting, start}
-use Rattle.wb_promise.specs.Happenings.{Chosen, Plain, Cut, Orders, Begins, Reaches, Puts, Commits, Asks, Opened, Happening, OfSome, Gives, Falters, MayFailAt, DoesNotApply, MayBe, block_range, migrated_range, blocks_left, task_job, begun_as, Looks}
+use Rattle.wb_promise.specs.Happenings.{Chosen, Plain, Cut, Orders, Begins, Reaches, Puts, Commits, Asks, Opened, Happening, OfSome, Gives, Falters, MayFailAt, DoesNotApply, MayBe, block_range, invalidated_range, migrated_range, blocks_left, task_job, begun_as, Looks, write_job}
 use Rattle.wb_promise.specs.Effects.{device_done, device_failed, commit_then, reading_then, task_then, phase_then, phase_opened, phase_given, actor_then, stepped, with_actor, cleared, given, started, job_of, cut_of, after_what, after_happening, after_all, IsRun, looks_of}
 use Rattle.wb_promise.specs.Clerk.{Notes, formatted}
 use Rattle.wb_promise.specs.Headline.{note_happening}
@@ -39,11 +39,13 @@ use Rattle.wb_runs.proofs.Lists.{rests, free}
 use Rattle.wb_runs.proofs.Images.{Images}
 use Rattle.wb_runs.proofs.Metadata.{AtDesk, MetadataKept}
 use Rattle.wb_runs.proofs.Claims.{TaskClaim, Noted, noted_of}
-use Rattle.wb_runs.proofs.Linking.{IsOpeningJob, IsServed, TaskHere, IsTask, Linked}
+use Rattle.wb_runs.proofs.Opening.{IsOpeningJob, IsServed}
+use Rattle.wb_runs.proofs.Linking.{TaskHere, IsTask, Linked}
 use Rattle.wb_runs.proofs.LinkedRuns.{Base, base_after, base_start}
 use Rattle.wb_runs.proofs.Plans.{plan_of}
 use Rattle.wb_tasks.specs.Points.{AtFirst}
 use Rattle.wb_runs.proofs.Points.{ToLook, FlushAt, FlushJob, FlushTask, OpenAt, OpenTask, Going, CommitJob, Flushes, Suspends, task_of, doing_of, commit_left, FlushPoint, IsOf, AtFlush, IsLeading}
+use Rattle.wb_runs.proofs.Passing.{target_stands}
 use Rattle.wb_runs.proofs.Going.{Moved, flush_moves, flush_fails, open_moves, open_fails}
 use Rattle.wb_types.specs.declared.number.OBlock.{OBlock}
 use Rattle.wb_tasks.specs.declared.step.Answer.{Answer}
@@ -57,6 +59,7 @@ lifted commit commit' L L' (Some (Suspend, plan)) f k = f Suspends plan k
 lifted commit commit' L L' (Some (Read extent, plan)) f k = tt
 lifted commit commit' L L' (Some (Write extent content, plan)) f k = tt
 lifted commit commit' L L' (Some (Open mode, plan)) f k = tt
+lifted commit commit' L L' (Some (Invalidate block, plan)) f k = k
 lifted commit commit' L L' (Some (Migrate migration block, plan)) f k = k
 lifted commit commit' L L' (Some (Replace old new, plan)) f k = absurd k
 
@@ -194,6 +197,9 @@ module _ (P A : Type 0) (shape : Shape) where
     block_task (Open mode) plan (Cell step) got o k f = tt
     block_task (Open mode) plan (Device step) got o k f = tt
     block_task (Open mode) plan (Desk step) got o k f = tt
+    block_task (Invalidate block) plan (Cell step) got o k f = (k.0, job_stays plan got ∙ k.1)
+    block_task (Invalidate block) plan (Device step) got o k f = (k.0, job_stays plan got ∙ k.1)
+    block_task (Invalidate block) plan (Desk step) got o k f = (k.0, job_stays plan got ∙ k.1)
     block_task (Migrate migration block) plan (Cell step) got o k f = (k.0, job_stays plan got ∙ k.1)
     block_task (Migrate migration block) plan (Device step) got o k f = (k.0, job_stays plan got ∙ k.1)
     block_task (Migrate migration block) plan (Desk step) got o k f = (k.0, job_stays plan got ∙ k.1)
@@ -238,7 +244,8 @@ module _ (P A : Type 0) (shape : Shape) where
 
     stands_done : (job : Job) (plan : Plan) (next : Want) (got : Got) (read : List Bytes) (chosen : Chosen P A) → x.task ≡ Some (job, plan) → next ≡ want plan → Gives shape w x job next got read chosen → Then next got chosen
     stands_done (Read extent) plan next got read chosen xt h g = let c = (claim (Read extent) plan xt).claim in block_goes (Read extent) plan next got chosen (Reading (block_range shape t.desk.mode extent c.cut), c.is_job) tt xt h
-    stands_done (Write extent content) plan next got read chosen xt h g = let c = (claim (Write extent content) plan xt).claim in block_goes (Write extent content) plan next got chosen (Writing (block_range shape t.desk.mode extent c.cut), c.is_job) tt xt h
+    stands_done (Write extent content) plan next got read chosen xt h g = let c = (claim (Write extent content) plan xt).claim in block_goes (Write extent content) plan next got chosen (write_job t.desk.mode (block_range shape t.desk.mode extent c.cut), c.is_job) tt xt h
+    stands_done (Invalidate block) plan next got read chosen xt h g = let m = mine (Invalidate block) plan xt in block_goes (Invalidate block) plan next got chosen (Invalidating m.0, m.1) tt xt h
     stands_done (Migrate migration block) plan next got read chosen xt h g = let m = mine (Migrate migration block) plan xt in block_goes (Migrate migration block) plan next got chosen (Migrating migration m.0, m.1) tt xt h
     stands_done Flush plan next got read chosen xt h g = from_moved next got chosen _ (ap (λ k. task_then k next got) xt) (let k = mine Flush plan xt in flush_done (Flushes k.blocks k.most) k.answer k.point k.of k.at k.leads plan k.is next got read chosen h g)
     stands_done Suspend plan next got read chosen xt h g = from_moved next got chosen _ (ap (λ k. task_then k next got) xt) (let k = mine Suspend plan xt in flush_done (Suspends k.blocks k.most) k.answer k.point k.of k.at k.leads plan k.is next got read chosen h g)
@@ -247,7 +254,8 @@ module _ (P A : Type 0) (shape : Shape) where
 
     stands_failed : (job : Job) (plan : Plan) (next : Want) (choice : Choice) (chosen : Chosen P A) → x.task ≡ Some (job, plan) → next ≡ want plan → Falters w choice next chosen → Then next Fault chosen
     stands_failed (Read extent) plan next choice chosen xt h g = let c = (claim (Read extent) plan xt).claim in block_goes (Read extent) plan next Fault chosen (Reading (block_range shape t.desk.mode extent c.cut), c.is_job) tt xt h
-    stands_failed (Write extent content) plan next choice chosen xt h g = let c = (claim (Write extent content) plan xt).claim in block_goes (Write extent content) plan next Fault chosen (Writing (block_range shape t.desk.mode extent c.cut), c.is_job) tt xt h
+    stands_failed (Write extent content) plan next choice chosen xt h g = let c = (claim (Write extent content) plan xt).claim in block_goes (Write extent content) plan next Fault chosen (write_job t.desk.mode (block_range shape t.desk.mode extent c.cut), c.is_job) tt xt h
+    stands_failed (Invalidate block) plan next choice chosen xt h g = let m = mine (Invalidate block) plan xt in block_goes (Invalidate block) plan next Fault chosen (Invalidating m.0, m.1) tt xt h
     stands_failed (Migrate migration block) plan next choice chosen xt h g = let m = mine (Migrate migration block) plan xt in block_goes (Migrate migration block) plan next Fault chosen (Migrating migration m.0, m.1) tt xt h
     stands_failed Flush plan next choice chosen xt h g = from_moved next Fault chosen _ (ap (λ k. task_then k next Fault) xt) (let k = mine Flush plan xt in flush_failed (Flushes k.blocks k.most) k.answer k.point k.of k.at k.leads plan k.is next choice chosen h g)
     stands_failed Suspend plan next choice chosen xt h g = from_moved next Fault chosen _ (ap (λ k. task_then k next Fault) xt) (let k = mine Suspend plan xt in flush_failed (Suspends k.blocks k.most) k.answer k.point k.of k.at k.leads plan k.is next choice chosen h g)
@@ -261,7 +269,7 @@ module _ (P A : Type 0) (shape : Shape) where
     abbrev v : State P A
     v = record { devices = devices; commit = commit; phase = Opens mode reading; actors = actors }
 
-    opening_work : (job : Job) (plan : Plan) → x.task ≡ Some (job, plan) → IsOpeningJob job
+    opening_work : (job : Job) (plan : Plan) → x.task ≡ Some (job, plan) → IsOpeningJob mode job
     opening_work job plan xt = subst (λ (k : Option (Job × Plan)). TaskHere {P = P} {A = A} (Opens mode reading) k) xt (l.here a x e)
 
     opener : (job : Job) (plan : Plan) → x.task ≡ Some (job, plan) → a ≡ l.alone.0
@@ -298,6 +306,7 @@ module _ (P A : Type 0) (shape : Shape) where
     opens_done (Write extent content) plan next got read chosen xt h g = absurd (opening_work (Write extent content) plan xt)
     opens_done Flush plan next got read chosen xt h g = absurd (opening_work Flush plan xt)
     opens_done Suspend plan next got read chosen xt h g = absurd (opening_work Suspend plan xt)
+    opens_done (Invalidate block) plan next got read chosen xt h g = absurd (opening_work (Invalidate block) plan xt)
     opens_done (Migrate migration block) plan next got read chosen xt h g = absurd (opening_work (Migrate migration block) plan xt)
     opens_done (Replace old new) plan next got read chosen xt h g = absurd (opening_work (Replace old new) plan xt)
 
@@ -309,6 +318,7 @@ module _ (P A : Type 0) (shape : Shape) where
     opens_failed (Write extent content) plan next choice chosen xt h g = absurd (opening_work (Write extent content) plan xt)
     opens_failed Flush plan next choice chosen xt h g = absurd (opening_work Flush plan xt)
     opens_failed Suspend plan next choice chosen xt h g = absurd (opening_work Suspend plan xt)
+    opens_failed (Invalidate block) plan next choice chosen xt h g = absurd (opening_work (Invalidate block) plan xt)
     opens_failed (Migrate migration block) plan next choice chosen xt h g = absurd (opening_work (Migrate migration block) plan xt)
     opens_failed (Replace old new) plan next choice chosen xt h g = absurd (opening_work (Replace old new) plan xt)
 
@@ -407,6 +417,7 @@ module _ (P A : Type 0) (shape : Shape) where
   given_goes (Stands t) commit actors (Write extent content) chosen k = k
   given_goes (Stands t) commit actors Flush chosen k = k
   given_goes (Stands t) commit actors Suspend chosen k = k
+  given_goes (Stands t) commit actors (Invalidate block) chosen k = k
   given_goes (Stands t) commit actors (Open mode) chosen k = k
   given_goes Gone commit actors job chosen k = k
   given_goes (Opens mode reading) commit actors job chosen k = k
@@ -423,6 +434,7 @@ module _ (P A : Type 0) (shape : Shape) where
       by_job (Read extent) = tt
       by_job (Write extent content) = tt
       by_job (Open mode) = tt
+      by_job (Invalidate block) = (invalidated_range shape block, refl)
       by_job (Migrate migration block) = (migrated_range shape block (cut_of chosen), refl)
       by_job (Replace old new) = (migrated_range shape old (cut_of chosen), refl)
   task_by_phase Gone commit actors a x job chosen e p k = tt
@@ -443,6 +455,9 @@ module _ (P A : Type 0) (shape : Shape) where
       subst (λ (o : Option Actor). GoesOn (with_actor w o (λ x. record w { phase = phase_given w.phase Flush chosen; actors = slice_set w.actors a (given shape (mode_of w.phase) x Flush chosen) }))) (sym f.1) (task_by_phase w.phase w.commit w.actors a f.0 Flush chosen f.1 (λ p. applies (inr (inr (inr p)))) k)
   starts w a Suspend chosen k applies = let f = free P A w a Suspend applies in
       subst (λ (o : Option Actor). GoesOn (with_actor w o (λ x. record w { phase = phase_given w.phase Suspend chosen; actors = slice_set w.actors a (given shape (mode_of w.phase) x Suspend chosen) }))) (sym f.1) (task_by_phase w.phase w.commit w.actors a f.0 Suspend chosen f.1 (λ p. applies (inr (inr (inr p)))) k)
+  starts w a (Invalidate block) chosen k applies = let f = free P A w a (Invalidate block) applies in
+      subst (λ (o : Option Actor). GoesOn (with_actor w o (λ x. record w { phase = phase_given w.phase (Invalidate block) chosen; actors = slice_set w.actors a (given shape (mode_of w.phase) x (Invalidate block) chosen) }))) (sym f.1)
+      (task_by_phase w.phase w.commit w.actors a f.0 (Invalidate block) chosen f.1 (λ p. applies (inr (inr (inr (λ o. p (target_stands w.phase o)))))) k)
   starts w a (Migrate migration block) chosen k applies = let f = free P A w a (Migrate migration block) applies in
       subst (λ (o : Option Actor). GoesOn (with_actor w o (λ x. record w { phase = phase_given w.phase (Migrate migration block) chosen; actors = slice_set w.actors a (given shape (mode_of w.phase) x (Migrate migration block) chosen) }))) (sym f.1) (task_by_phase w.phase w.commit w.actors a f.0 (Migrate migration block) chosen f.1 (λ p. applies (inr (inr (inr p)))) k)
   starts w a (Replace old new) chosen k applies = let f = free P A w a (Replace old new) applies in

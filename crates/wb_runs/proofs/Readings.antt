@@ -5,6 +5,7 @@ use Rattle.std.proofs.lemmas.List.{length-map, get_or-drop}
 use Rattle.std.proofs.lemmas.Option.{slice_get-get_or}
 use Rattle.std.proofs.Math.Nat.{mod-lt}
 use Rattle.wb_types.specs.declared.geometry.Geometry.{Geometry}
+use Rattle.wb_types.specs.declared.mode.Mode.{Mode}
 use Rattle.wb_types.specs.declared.refusal.Refusal.TheVariants.{Memory}
 use Rattle.wb_disk.specs.Device.{Content as Bytes, History, newest}
 use Rattle.wb_disk.proofs.Leaving.{read-left}
@@ -105,16 +106,16 @@ slot_agrees s t (Some r) same f = record { sector = f.sector; there = same ∙ f
 -- ---- the next step
 
 -- what a reading's step may give
-pub record CanRead (P A : Type 0) (g : Geometry) (left : ℕ) (was : ReadSteps A) (device : List History) : Type 0 where
+pub record CanRead (P A : Type 0) (mode : Mode) (g : Geometry) (left : ℕ) (was : ReadSteps A) (device : List History) : Type 0 where
   pub got : Got
   pub chosen : Chosen P A
-  pub does : DoesRead g left was device None got chosen
+  pub does : DoesRead mode g left was device None got chosen
 
-module _ (P A : Type 0) (g : Geometry) (device : List History) where
+module _ (P A : Type 0) (mode : Mode) (g : Geometry) (device : List History) where
   seen : List Bytes
   seen = map newest device
 
-  no_memory : (left : ℕ) (was : ReadSteps A) → StopsBy was device Memory → CanRead P A g left was device
+  no_memory : (left : ℕ) (was : ReadSteps A) → StopsBy was device Memory → CanRead P A mode g left was device
   no_memory left was stops = record { got = GotRefused Memory; chosen = Reaches None None; does = (λ e. absurd (cc), inr (Memory, tt, stops, refl, refl, refl)) }
 
   first_stops : (i : Images) (alloc : _) (global : _) (first : Option Root) → HasReached {A = A} g i (FirstSlotRead alloc global first) device → StopsBy {A = A} (FirstSlotRead alloc global first) device Memory
@@ -127,14 +128,14 @@ module _ (P A : Type 0) (g : Geometry) (device : List History) where
       }
 
   -- the first slot is read
-  pub first_read : (alloc : A) (global : Global) (left : ℕ) (first : Option Root) → IsInSlot (map newest device) 0 first → 1 ≤ left → DoesRead {P = P} {A = A} g left (Begun alloc global) device None More (Reaches (Some (FirstSlotRead alloc global first)) None)
+  pub first_read : (alloc : A) (global : Global) (left : ℕ) (first : Option Root) → IsInSlot (map newest device) 0 first → 1 ≤ left → DoesRead {P = P} {A = A} mode g left (Begun alloc global) device None More (Reaches (Some (FirstSlotRead alloc global first)) None)
   first_read alloc global left first slot more = (
     λ e. absurd (cc),
     inl (
       FirstSlotRead alloc global first,
       (λ sectors agree has. slot_agrees (map newest device) sectors first (agree.here 0 refl) slot),
       tt,
-      (more, refl, (λ root e. absurd (cc)), refl),
+      inl ((more, refl, (λ root e. absurd (cc)), refl), λ passes state e. absurd (cc)),
       refl,
       tt,
     ),
@@ -143,10 +144,10 @@ module _ (P A : Type 0) (g : Geometry) (device : List History) where
   pub some_slot : 1 ≤ length device → (first : Option Root) × IsInSlot (map newest device) 0 first
   some_slot some = in_slot (map newest device) _ (slice_get-get_or (map newest device) 0 [] (omega (arith, some, length-map device newest)))
 
-  begins : (alloc : A) (global : Global) (left : ℕ) → 1 ≤ left → 1 ≤ length device → CanRead P A g left (Begun alloc global) device
+  begins : (alloc : A) (global : Global) (left : ℕ) → 1 ≤ left → 1 ≤ length device → CanRead P A mode g left (Begun alloc global) device
   begins alloc global left more some = let slot = some_slot some in record { got = More; chosen = Reaches (Some (FirstSlotRead alloc global slot.0)) None; does = first_read alloc global left slot.0 slot.1 more }
 
-  pub can_read : (i : Images) (left : ℕ) (was : ReadSteps A) → HasReached g i was device → (sectors_read was ≡ 0 → 1 ≤ left) → 1 ≤ length device → CanRead P A g left was device
+  pub can_read : (i : Images) (left : ℕ) (was : ReadSteps A) → HasReached g i was device → (sectors_read was ≡ 0 → 1 ≤ left) → 1 ≤ length device → CanRead P A mode g left was device
   can_read i left (Begun alloc global) k more some = begins alloc global left (more refl) some
   can_read i left (FirstSlotRead alloc global first) k more some = no_memory left (FirstSlotRead alloc global first) (first_stops i alloc global first k)
   can_read i left (RootFound global root loader) k more some = no_memory left (RootFound global root loader) (λ sectors agree has. record { root = root; newest = has.newest; size = k.on.0.size ∙ sym agree.size })

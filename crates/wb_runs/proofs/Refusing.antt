@@ -1,9 +1,12 @@
--- Why an opening's reading is refused: for want of memory, or since no generation is left. Never for what the metadata hold.
+-- Why an opening's reading is refused: for want of memory, since no generation is left, or in passthrough since the metadata were not left clean.
+-- Never for what else they hold.
 use Rattle.std.proofs.Common.{◌≡◌, ◌∙◌, ◌⊎◌, inl, inr, ℕ, List, Option, Some, None, refl, sym, ap, map}
 use Rattle.std.proofs.lemmas.List.{length-map}
 use Rattle.wb_types.specs.declared.geometry.Geometry.{Geometry}
+use Rattle.wb_types.specs.declared.mode.Mode.{Mode}
+use Rattle.wb_types.specs.declared.mode.Mode.TheVariants.{Passthrough}
 use Rattle.wb_types.specs.declared.refusal.Refusal.{Refusal}
-use Rattle.wb_types.specs.declared.refusal.Refusal.TheVariants.{Memory, NotFormatted, Mismatch, Damaged, GenerationEnd, Io}
+use Rattle.wb_types.specs.declared.refusal.Refusal.TheVariants.{Memory, NotFormatted, NotClean, Mismatch, Damaged, GenerationEnd, Io}
 use Rattle.wb_disk.specs.Device.{History, newest}
 use Rattle.wb_disk.proofs.Leaving.{read-left}
 use Rattle.wb_format.specs.declared.root.Root.{Root}
@@ -19,10 +22,11 @@ use Rattle.wb_promise.specs.Happenings.{Chosen, Reaches, DoesRead}
 use Rattle.wb_runs.proofs.Images.{Images}
 use Rattle.wb_runs.proofs.Metadata.{HasReached}
 
-module _ (P A : Type 0) (g : Geometry) (i : Images) (device : List History) (was : ReadSteps A) where
-  abbrev Cause : Refusal → Type 0
-  Cause refusal = (refusal ≡ Memory) ⊎ (refusal ≡ GenerationEnd)
+-- why a reading in this mode is refused
+abbrev pub Cause : Mode → Refusal → Type 0
+Cause mode refusal = (refusal ≡ Memory) ⊎ ((refusal ≡ GenerationEnd) ⊎ ((mode ≡ Passthrough) × (refusal ≡ NotClean)))
 
+module _ (P A : Type 0) (g : Geometry) (i : Images) (device : List History) (was : ReadSteps A) where
   agrees : (at : Option ℕ) → AgreeThere at device (map newest device)
   agrees at = record { size = length-map device newest; here = λ place e. refl }
 
@@ -44,18 +48,21 @@ module _ (P A : Type 0) (g : Geometry) (i : Images) (device : List History) (was
   never k refusal speaks is = not_refused (map newest device) k.found.committed.root k.found.committed.found refusal (represents k)
       (ap (λ (x : Geometry). x.meta_sectors) k.found.read.same_geometry ∙ sym k.found.read.size ∙ sym (length-map device newest)) speaks is
 
-  pub refused_for : (left : ℕ) (refusal : Refusal) (chosen : Chosen P A) → HasReached g i was device → DoesRead g left was device None (GotRefused refusal) chosen → Cause refusal
-  refused_for left refusal (Reaches r c) k (fine, inl more) = elim more.3.2 [
-    | inl other ↦ absurd (other.1.2 (known_fits k more.0 (more.1 (map newest device) (agrees (coming_sector was)) k.come) other.1.0 other.1.1))
-    | inr last ↦ inr last.0
+  pub refused_for : (mode : Mode) (left : ℕ) (refusal : Refusal) (chosen : Chosen P A) → HasReached g i was device → DoesRead mode g left was device None (GotRefused refusal) chosen → Cause mode refusal
+  refused_for mode left refusal (Reaches r c) k (fine, inl more) = elim more.3 [
+    | inl in_time ↦ elim in_time.0.2 [
+      | inl other ↦ absurd (other.1.2 (known_fits k more.0 (more.1 (map newest device) (agrees (coming_sector was)) k.come) other.1.0 other.1.1))
+      | inr last ↦ inr (inl last.0)
+    ]
+    | inr unclean ↦ inr (inr (unclean.0, cc))
   ]
-  refused_for left refusal (Reaches r c) k (fine, inr more) = by_refusal more.0 more.1 (more.2 (map newest device) (agrees (coming_sector was)) k.come) more.3
+  refused_for mode left refusal (Reaches r c) k (fine, inr more) = by_refusal more.0 more.1 (more.2 (map newest device) (agrees (coming_sector was)) k.come) more.3
     where
-      by_refusal : (because : Refusal) → IsOfReading because → IsRefusedBy (map newest device) because → GotRefused refusal ≡ got_of_refusal because → Cause refusal
+      by_refusal : (because : Refusal) → IsOfReading because → IsRefusedBy (map newest device) because → GotRefused refusal ≡ got_of_refusal because → Cause mode refusal
       by_refusal Memory o is e = inl (cc)
       by_refusal NotFormatted o is e = absurd (never k NotFormatted tt is)
       by_refusal Mismatch o is e = absurd (never k Mismatch tt is)
       by_refusal (Damaged place) o is e = absurd (never k (Damaged place) tt is)
       by_refusal (Io d) o is e = absurd (cc)
       by_refusal because o is e = absurd o
-  refused_for left refusal chosen k d = absurd d
+  refused_for mode left refusal chosen k d = absurd d

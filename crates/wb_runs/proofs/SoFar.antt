@@ -16,7 +16,7 @@ use Rattle.wb_words.specs.declared.card.Card.{Card}
 use Rattle.wb_words.specs.SharedWords.{Words, place_in}
 use Rattle.wb_words.specs.Effects.{result_of}
 use Rattle.wb_tasks.specs.Tables.{BlockJob, BlockRange, TaskJob, OnBlock, Reading as ReadingPart, Writing, Displacing, Invalidating, Migrating, Flushing, Suspending, Opening}
-use Rattle.wb_tasks.specs.Plan.{Plan, want, after, after_look, after_fault, after_refusal, after_more, first_step, may_take, exchange, is_worn, gives_back, onward, refused, deferring, answer_seeing, got_of}
+use Rattle.wb_tasks.specs.Plan.{Plan, want, after, after_look, after_fault, after_refusal, after_more, first_step, may_take, exchange, is_worn, gives_back, IsStep, onward, refused, deferring, answer_seeing, got_of}
 use Rattle.wb_tasks.specs.Ready.{Has}
 use Rattle.wb_tasks.specs.declared.step.Answer.{Answer}
 use Rattle.wb_tasks.specs.declared.step.Answer.TheVariants.{Done as Finished}
@@ -169,12 +169,12 @@ module _ (shape : Shape) (mode : Mode) (whole : Extent) (part_of : BlockRange �
           subst (λ (p : Plan). (after p (got_of (result_of words step))).answer ≡ Finished → Covers shape mode whole (after p (got_of (result_of words step))).steps moved) (sym is)
           (cell_covers shape mode whole own_part c.cuts words card moved (part_of own_part) (moves c.cut c.cuts c.inside) step ws plan.answer h' v') f
 
-  -- an extent is read, or written, and these are moved then
-  pub extent_on : (plan : Plan) (moved moved' : List ℕ) (card : Card) (step : DeviceStep) → Claims plan moved → Device step ≡ want plan → (after plan Done).job ≡ plan.job →
+  -- an extent is read, or written, or the desk unmaps the block, and these are moved then
+  pub step_on : (plan : Plan) (moved moved' : List ℕ) (card : Card) (next : Want) → IsStep next → Claims plan moved → next ≡ want plan → (after plan Done).job ≡ plan.job →
       ((cut : List Extent) → plan.job ≡ OnBlock (part_of (block_range shape mode whole cut)) → Has (part_of (block_range shape mode whole cut)) card plan.steps) →
-      ((cut : List Extent) (cuts : IsCutInto whole cut) (ws : List Want) (answer : Answer) → Has (part_of (block_range shape mode whole cut)) card (Device step ∷ ws) → Covers shape mode whole (Device step ∷ ws) moved → answer ≡ Finished → Covers shape mode whole ws moved') →
+      ((cut : List Extent) (cuts : IsCutInto whole cut) (ws : List Want) (answer : Answer) → Has (part_of (block_range shape mode whole cut)) card (next ∷ ws) → Covers shape mode whole (next ∷ ws) moved → answer ≡ Finished → Covers shape mode whole ws moved') →
       Claims (after plan Done) moved'
-  extent_on plan moved moved' card step c w same has goes = record {
+  step_on plan moved moved' card next z c w same has goes = record {
     cut = c.cut;
     is_job = same ∙ c.is_job;
     cuts = c.cuts;
@@ -182,8 +182,8 @@ module _ (shape : Shape) (mode : Mode) (whole : Extent) (part_of : BlockRange �
     covers = λ f. by_steps plan.steps refl w (has c.cut c.is_job) (c.covers f) f;
   }
     where
-      by_steps : (steps : List Want) → plan.steps ≡ steps → Device step ≡ first_step steps plan.answer → Has (part_of (block_range shape mode whole c.cut)) card steps → Covers shape mode whole steps moved → plan.answer ≡ Finished → Covers shape mode whole (Rattle.wb_tasks.specs.Plan.later_steps plan.steps) moved'
-      by_steps [] s w h v f = absurd (cc)
+      by_steps : (steps : List Want) → plan.steps ≡ steps → next ≡ first_step steps plan.answer → Has (part_of (block_range shape mode whole c.cut)) card steps → Covers shape mode whole steps moved → plan.answer ≡ Finished → Covers shape mode whole (Rattle.wb_tasks.specs.Plan.later_steps plan.steps) moved'
+      by_steps [] s w h v f = absurd (subst IsStep w z)
       by_steps (x ∷ ws) s w h v f =
           let h' = subst (λ (y : Want). Has (part_of (block_range shape mode whole c.cut)) card (y ∷ ws)) (sym w) h in
           let v' = subst (λ (y : Want). Covers shape mode whole (y ∷ ws) moved) (sym w) v in

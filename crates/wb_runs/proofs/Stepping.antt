@@ -26,7 +26,7 @@ use Rattle.wb_desk.specs.Desks.{DeskState}
 use Rattle.wb_stage.specs.Stages.{is_all_done}
 use Rattle.wb_devices.specs.Opened.{HasCome}
 use Rattle.wb_promise.specs.declared.job.Job.{Job}
-use Rattle.wb_promise.specs.declared.job.Job.TheVariants.{Read, Write, Flush, Suspend, Open, Migrate, Replace}
+use Rattle.wb_promise.specs.declared.job.Job.TheVariants.{Read, Write, Flush, Suspend, Open, Migrate, Replace, Invalidate}
 use Rattle.wb_promise.specs.States.{Shape, State, Target, Phase, Stands, Gone, Opens, OfTarget, OfReading, with_device, Actor}
 use Rattle.wb_promise.specs.Happenings.{Chosen, Plain, Cut, Orders, Begins, Reaches, Puts, Commits, Asks, Opened, DoesPut, DoesSync, DoesRead, DoesBegin, DoesMap, DoesRelease, DoesOpen, Gives, DoesUnmap, Looks}
 use Rattle.wb_promise.specs.Effects.{device_done, devices_then, commit_then, phase_then}
@@ -170,14 +170,17 @@ module _ (P A : Type 0) (shape : Shape) where
   read_nothing i mode m r None (Some c) e f = absurd (cc)
   read_nothing i mode m r (Some x) commit e f = absurd (cc)
 
-  read_metadata : (i : Images) (phase : Phase P A) (m : List History) (left : ℕ) (got : Got) (chosen : Chosen P A) → K i phase None m → OfReading phase (λ mode was. DoesRead shape.geometry left was m None got chosen) →
+  read_metadata : (i : Images) (phase : Phase P A) (m : List History) (left : ℕ) (got : Got) (chosen : Chosen P A) → K i phase None m → OfReading phase (λ mode was. DoesRead mode shape.geometry left was m None got chosen) →
       T i (phase_then shape phase (Device (ReadMetadata left)) got chosen) (commit_then phase None (Device (ReadMetadata left)) got chosen) m
   read_metadata i (Stands t) m left got chosen k s = absurd s
   read_metadata i Gone m left got chosen k s = absurd s
   read_metadata i (Opens mode None) m left got chosen k s = absurd s
   read_metadata i (Opens mode (Some was)) m left got (Reaches after commit) k (no_fault, inr more) =
       read_nothing i mode m (found_readable shape.geometry i m k.found) after commit more.4 more.5
-  read_metadata i (Opens mode (Some was)) m left got (Reaches after commit) k (no_fault, inl more) = by_got got no_fault more.3
+  read_metadata i (Opens mode (Some was)) m left got (Reaches after commit) k (no_fault, inl more) = elim more.3 [
+    | inl in_time ↦ by_got got no_fault in_time.0
+    | inr unclean ↦ read_nothing i mode m (found_readable shape.geometry i m k.found) after commit unclean.2 unclean.3
+  ]
     where
       now : ReadSteps A
       now = more.0
@@ -285,6 +288,7 @@ module _ (P A : Type 0) (shape : Shape) where
     read_fact (Write x c) d e g = absurd g
     read_fact Flush d e g = absurd g
     read_fact Suspend d e g = absurd g
+    read_fact (Invalidate block) d e g = absurd g
     read_fact (Open mode) d e g = absurd g
     read_fact (Migrate migration block) d e g = g.0
     read_fact (Replace old new) d e g = absurd g
@@ -294,6 +298,7 @@ module _ (P A : Type 0) (shape : Shape) where
     write_fact (Write x c) d e g = g.0
     write_fact Flush d e g = absurd g
     write_fact Suspend d e g = absurd g
+    write_fact (Invalidate block) d e g = absurd g
     write_fact (Open mode) d e g = absurd g
     write_fact (Migrate migration block) d e g = g.0
     write_fact (Replace old new) d e g = absurd g
@@ -303,6 +308,7 @@ module _ (P A : Type 0) (shape : Shape) where
     sync_fact (Write x c) g = (g.1, g.2)
     sync_fact Flush g = (g.1, g.2)
     sync_fact Suspend g = (g.1, g.2)
+    sync_fact (Invalidate block) g = (g.1, g.2)
     sync_fact (Open mode) g = (g.1, g.2)
     sync_fact (Migrate migration block) g = (g.1, g.2)
     sync_fact (Replace old new) g = (g.1, g.2)
@@ -312,6 +318,7 @@ module _ (P A : Type 0) (shape : Shape) where
     node_fact (Write x c) number g = (g.1, g.2)
     node_fact Flush number g = (g.1, g.2)
     node_fact Suspend number g = (g.1, g.2)
+    node_fact (Invalidate block) number g = (g.1, g.2)
     node_fact (Open mode) number g = (g.1, g.2)
     node_fact (Migrate migration block) number g = (g.1, g.2)
     node_fact (Replace old new) number g = (g.1, g.2)
@@ -321,15 +328,17 @@ module _ (P A : Type 0) (shape : Shape) where
     root_fact (Write x c) g = (g.1, g.2)
     root_fact Flush g = (g.1, g.2)
     root_fact Suspend g = (g.1, g.2)
+    root_fact (Invalidate block) g = (g.1, g.2)
     root_fact (Open mode) g = (g.1, g.2)
     root_fact (Migrate migration block) g = (g.1, g.2)
     root_fact (Replace old new) g = (g.1, g.2)
 
-    pub metadata_fact : (job : Job) (left : ℕ) → G job (Device (ReadMetadata left)) → (w.commit ≡ None) × OfReading w.phase (λ mode was. DoesRead shape.geometry left was m w.commit got chosen)
+    pub metadata_fact : (job : Job) (left : ℕ) → G job (Device (ReadMetadata left)) → (w.commit ≡ None) × OfReading w.phase (λ mode was. DoesRead mode shape.geometry left was m w.commit got chosen)
     metadata_fact (Read x) left g = (g.1, g.2)
     metadata_fact (Write x c) left g = (g.1, g.2)
     metadata_fact Flush left g = (g.1, g.2)
     metadata_fact Suspend left g = (g.1, g.2)
+    metadata_fact (Invalidate block) left g = (g.1, g.2)
     metadata_fact (Open mode) left g = (g.1, g.2)
     metadata_fact (Migrate migration block) left g = (g.1, g.2)
     metadata_fact (Replace old new) left g = (g.1, g.2)
@@ -344,6 +353,7 @@ module _ (P A : Type 0) (shape : Shape) where
     begin_fact (Write x c) clean most g = g.2
     begin_fact Flush clean most g = g.2
     begin_fact Suspend clean most g = g.2
+    begin_fact (Invalidate block) clean most g = g.2
     begin_fact (Open mode) clean most g = g.2
     begin_fact (Migrate migration block) clean most g = g.2
     begin_fact (Replace old new) clean most g = g.2
@@ -353,6 +363,7 @@ module _ (P A : Type 0) (shape : Shape) where
     end_fact (Write x c) g = g.2
     end_fact Flush g = g.2
     end_fact Suspend g = g.2
+    end_fact (Invalidate block) g = g.2
     end_fact (Open mode) g = g.2
     end_fact (Migrate migration block) g = g.2
     end_fact (Replace old new) g = g.2
@@ -362,15 +373,17 @@ module _ (P A : Type 0) (shape : Shape) where
     map_fact (Write x y) b c g = absurd g
     map_fact Flush b c g = absurd g
     map_fact Suspend b c g = absurd g
+    map_fact (Invalidate block) b c g = absurd g
     map_fact (Open mode) b c g = absurd g
     map_fact (Migrate migration block) b c g = g.1
     map_fact (Replace old new) b c g = absurd g
 
     pub unmap_fact : (job : Job) (b : _) → G job (Desk (Unmap b)) → OfTarget w.phase (λ t. DoesUnmap b t.desk chosen)
     unmap_fact (Read x) b g = absurd g
-    unmap_fact (Write x y) b g = absurd g
+    unmap_fact (Write x y) b g = g.2
     unmap_fact Flush b g = absurd g
     unmap_fact Suspend b g = absurd g
+    unmap_fact (Invalidate block) b g = g.2
     unmap_fact (Open mode) b g = absurd g
     unmap_fact (Migrate migration block) b g = g.2
     unmap_fact (Replace old new) b g = absurd g
@@ -380,6 +393,7 @@ module _ (P A : Type 0) (shape : Shape) where
     release_fact (Write x y) b g = absurd g
     release_fact Flush b g = (actor.awaiting, g.2)
     release_fact Suspend b g = absurd g
+    release_fact (Invalidate block) b g = absurd g
     release_fact (Open mode) b g = absurd g
     release_fact (Migrate migration block) b g = (actor.orders, g.2)
     release_fact (Replace old new) b g = absurd g
@@ -389,6 +403,7 @@ module _ (P A : Type 0) (shape : Shape) where
     answer_fact (Write x c) answer g = inl g.0.1
     answer_fact Flush answer g = inl g.0.1
     answer_fact Suspend answer g = inl g.0.1
+    answer_fact (Invalidate block) answer g = inl g.0.1
     answer_fact (Open mode) Finished g = inr (refl, g.2)
     answer_fact (Open mode) (Refuses refusal) g = inl g.0.1
     answer_fact (Migrate migration block) answer g = inl g.0.1
@@ -418,7 +433,7 @@ module _ (P A : Type 0) (shape : Shape) where
         still : device_done job buffer (ReadMetadata left) chosen m ≡ m
         still = by_chosen chosen (metadata_fact job left g).1
           where
-            by_chosen : (ch : Chosen P A) → OfReading w.phase (λ mode was. DoesRead shape.geometry left was m w.commit got ch) → device_done job buffer (ReadMetadata left) ch m ≡ m
+            by_chosen : (ch : Chosen P A) → OfReading w.phase (λ mode was. DoesRead mode shape.geometry left was m w.commit got ch) → device_done job buffer (ReadMetadata left) ch m ≡ m
             by_chosen (Puts new) h = by_phase w.phase h
               where
                 by_phase : (p : Phase P A) → OfReading p (λ mode was. ⊥) → new ≡ m
@@ -436,7 +451,7 @@ module _ (P A : Type 0) (shape : Shape) where
             by_chosen (Asks d) h = refl
             by_chosen (Opened p) h = refl
 
-        by_commit : (commit : Option RunningCommit) → commit ≡ None → K i w.phase commit m → OfReading w.phase (λ mode was. DoesRead shape.geometry left was m commit got chosen) →
+        by_commit : (commit : Option RunningCommit) → commit ≡ None → K i w.phase commit m → OfReading w.phase (λ mode was. DoesRead mode shape.geometry left was m commit got chosen) →
             T i (phase_then shape w.phase (Device (ReadMetadata left)) got chosen) (commit_then w.phase commit (Device (ReadMetadata left)) got chosen) (device_done job buffer (ReadMetadata left) chosen m)
         by_commit None e k h = subst (λ (n : List History). T i (phase_then shape w.phase (Device (ReadMetadata left)) got chosen) (commit_then w.phase None (Device (ReadMetadata left)) got chosen) n) (sym still)
             (read_metadata i w.phase m left got chosen k h)

@@ -2,6 +2,7 @@
 use Rattle.std.proofs.Common.{◌≡◌, ◌≢◌, inl, inr, ℕ, Bool, true, false, eqb, List, Option, Some, None, refl, sym, subst, if◌then◌else◌}
 use Rattle.wb_types.specs.declared.mode.Dev.{Dev}
 use Rattle.wb_types.specs.declared.mode.Dev.TheVariants.{Metadata, Cache, Origin}
+use Rattle.wb_types.specs.declared.mode.Mode.{Mode}
 use Rattle.wb_types.specs.declared.refusal.Refusal.{Refusal}
 use Rattle.wb_types.specs.declared.refusal.Refusal.TheVariants.{Busy, Memory, GenerationEnd, Mismatch, NotFormatted, Damaged, Io}
 use Rattle.wb_disk.specs.Device.{Content as Bytes, History}
@@ -24,7 +25,7 @@ use Rattle.wb_tasks.specs.declared.step.Got.TheVariants.{Done, Fault, Refused as
 use Rattle.wb_devices.specs.declared.running.RunningCommit.{RunningCommit}
 use Rattle.wb_devices.specs.Opened.{HasCome, got_of_refusal}
 use Rattle.wb_promise.specs.declared.job.Job.{Job}
-use Rattle.wb_promise.specs.declared.job.Job.TheVariants.{Read, Write, Flush, Suspend, Open, Migrate, Replace}
+use Rattle.wb_promise.specs.declared.job.Job.TheVariants.{Read, Write, Flush, Suspend, Open, Migrate, Replace, Invalidate}
 use Rattle.wb_promise.specs.States.{Actor, Shape, State, Phase, Stands, Gone, Opens, OfTarget, OfReading}
 use Rattle.wb_promise.specs.Happenings.{Chosen, Plain, Cut, Orders, Begins, Reaches, Puts, Commits, Asks, Opened, DoesRead, DoesBegin, DoesMap, Gives, Looks}
 use Rattle.wb_runs.proofs.Stepping.{metadata_fact, begin_fact, map_fact, sync_fact, node_fact, root_fact, seen_by}
@@ -80,20 +81,23 @@ stop_fits left Mismatch got n o e = subst (λ (g : Got). Fits (Device (ReadMetad
 stop_fits left (Damaged place) got n o e = subst (λ (g : Got). Fits (Device (ReadMetadata left)) g) (sym e) tt
 stop_fits left refusal got n o e = absurd o
 
-read_fits : {P A : Type 0} (shape : Shape) (left : ℕ) (was : ReadSteps A) (device : List History) (commit : Option RunningCommit) (got : Got) (chosen : Chosen P A) → DoesRead shape.geometry left was device commit got chosen → Fits (Device (ReadMetadata left)) got
-read_fits shape left was device commit got (Reaches left' commit') d = elim d.1 [
-  | inl k ↦ come_fits shape left k.0 commit commit' got left' d.0 k.3
+read_fits : {P A : Type 0} (shape : Shape) (mode : Mode) (left : ℕ) (was : ReadSteps A) (device : List History) (commit : Option RunningCommit) (got : Got) (chosen : Chosen P A) → DoesRead mode shape.geometry left was device commit got chosen → Fits (Device (ReadMetadata left)) got
+read_fits shape mode left was device commit got (Reaches left' commit') d = elim d.1 [
+  | inl k ↦ elim k.3 [
+    | inl in_time ↦ come_fits shape left k.0 commit commit' got left' d.0 in_time.0
+    | inr unclean ↦ subst (λ (g : Got). Fits (Device (ReadMetadata left)) g) (sym unclean.1) tt
+  ]
   | inr r ↦ stop_fits left r.0 got d.0 r.1 r.3
 ]
-read_fits shape left was device commit got Plain d = absurd d
-read_fits shape left was device commit got (Cut es) d = absurd d
-read_fits shape left was device commit got (Orders es c) d = absurd d
-read_fits shape left was device commit got (Looks bs) d = absurd d
-read_fits shape left was device commit got (Asks new) d = absurd d
-read_fits shape left was device commit got (Begins now) d = absurd d
-read_fits shape left was device commit got (Puts new) d = absurd d
-read_fits shape left was device commit got (Commits c tree) d = absurd d
-read_fits shape left was device commit got (Opened policy) d = absurd d
+read_fits shape mode left was device commit got Plain d = absurd d
+read_fits shape mode left was device commit got (Cut es) d = absurd d
+read_fits shape mode left was device commit got (Orders es c) d = absurd d
+read_fits shape mode left was device commit got (Looks bs) d = absurd d
+read_fits shape mode left was device commit got (Asks new) d = absurd d
+read_fits shape mode left was device commit got (Begins now) d = absurd d
+read_fits shape mode left was device commit got (Puts new) d = absurd d
+read_fits shape mode left was device commit got (Commits c tree) d = absurd d
+read_fits shape mode left was device commit got (Opened policy) d = absurd d
 
 module _ (P A : Type 0) (shape : Shape) (w : State P A) (actor : Actor) (got : Got) (read : List Bytes) (chosen : Chosen P A) where
   on_words : (phase : Phase P A) (step : CellStep) → OfTarget phase (λ t. got ≡ got_of (result_of t.words step)) → Fits (Cell step) got
@@ -106,11 +110,11 @@ module _ (P A : Type 0) (shape : Shape) (w : State P A) (actor : Actor) (got : G
   on_desk seen Gone clean most d = absurd d
   on_desk seen (Opens mode reading) clean most d = absurd d
 
-  on_metadata : (phase : Phase P A) (left : ℕ) → OfReading phase (λ mode was. DoesRead shape.geometry left was w.devices.metadata w.commit got chosen) → Fits (Device (ReadMetadata left)) got
+  on_metadata : (phase : Phase P A) (left : ℕ) → OfReading phase (λ mode was. DoesRead mode shape.geometry left was w.devices.metadata w.commit got chosen) → Fits (Device (ReadMetadata left)) got
   on_metadata (Stands t) left d = absurd d
   on_metadata Gone left d = absurd d
   on_metadata (Opens mode None) left d = absurd d
-  on_metadata (Opens mode (Some was)) left d = read_fits shape left was w.devices.metadata w.commit got chosen d
+  on_metadata (Opens mode (Some was)) left d = read_fits shape mode left was w.devices.metadata w.commit got chosen d
 
   pub data_sync : (job : Job) (d : Dev) → Gives shape w actor job (Device (Sync d)) got read chosen → got ≡ Done
   data_sync job Metadata g = (sync_fact P A shape w actor got read chosen job g).0
@@ -118,6 +122,7 @@ module _ (P A : Type 0) (shape : Shape) (w : State P A) (actor : Actor) (got : G
   data_sync (Write x c) Cache g = g.1
   data_sync Flush Cache g = g.1
   data_sync Suspend Cache g = g.1
+  data_sync (Invalidate block) Cache g = g.1
   data_sync (Open mode) Cache g = g.1
   data_sync (Migrate migration block) Cache g = g.1
   data_sync (Replace old new) Cache g = g.1
@@ -125,6 +130,7 @@ module _ (P A : Type 0) (shape : Shape) (w : State P A) (actor : Actor) (got : G
   data_sync (Write x c) Origin g = g.1
   data_sync Flush Origin g = g.1
   data_sync Suspend Origin g = g.1
+  data_sync (Invalidate block) Origin g = g.1
   data_sync (Open mode) Origin g = g.1
   data_sync (Migrate migration block) Origin g = g.1
   data_sync (Replace old new) Origin g = g.1
@@ -134,6 +140,7 @@ module _ (P A : Type 0) (shape : Shape) (w : State P A) (actor : Actor) (got : G
   word_given (Write x c) step g = g.1
   word_given Flush step g = g.1
   word_given Suspend step g = g.1
+  word_given (Invalidate block) step g = g.1
   word_given (Open mode) step g = g.1
   word_given (Migrate migration block) step g = g.1
   word_given (Replace old new) step g = g.1
@@ -143,6 +150,7 @@ module _ (P A : Type 0) (shape : Shape) (w : State P A) (actor : Actor) (got : G
   end_given (Write x c) g = g.1
   end_given Flush g = g.1
   end_given Suspend g = g.1
+  end_given (Invalidate block) g = g.1
   end_given (Open mode) g = g.1
   end_given (Migrate migration block) g = g.1
   end_given (Replace old new) g = g.1
@@ -162,15 +170,17 @@ module _ (P A : Type 0) (shape : Shape) (w : State P A) (actor : Actor) (got : G
   released_done (Write x c) b g = absurd g
   released_done Flush b g = g.1
   released_done Suspend b g = absurd g
+  released_done (Invalidate block) b g = absurd g
   released_done (Open mode) b g = absurd g
   released_done (Migrate migration block) b g = g.1
   released_done (Replace old new) b g = absurd g
 
   unmapped_done : (job : Job) (b : _) → Gives shape w actor job (Desk (Unmap b)) got read chosen → got ≡ Done
   unmapped_done (Read x) b g = absurd g
-  unmapped_done (Write x c) b g = absurd g
+  unmapped_done (Write x c) b g = g.1
   unmapped_done Flush b g = absurd g
   unmapped_done Suspend b g = absurd g
+  unmapped_done (Invalidate block) b g = g.1
   unmapped_done (Open mode) b g = absurd g
   unmapped_done (Migrate migration block) b g = g.1
   unmapped_done (Replace old new) b g = absurd g
@@ -182,6 +192,7 @@ module _ (P A : Type 0) (shape : Shape) (w : State P A) (actor : Actor) (got : G
   gives_fits (Write x c) (Device (ReadExtent d e)) i g = absurd g
   gives_fits Flush (Device (ReadExtent d e)) i g = absurd g
   gives_fits Suspend (Device (ReadExtent d e)) i g = absurd g
+  gives_fits (Invalidate block) (Device (ReadExtent d e)) i g = absurd g
   gives_fits (Open mode) (Device (ReadExtent d e)) i g = absurd g
   gives_fits (Migrate migration block) (Device (ReadExtent d e)) i g = done_fits (Device (ReadExtent d e)) got tt g.2
   gives_fits (Replace old new) (Device (ReadExtent d e)) i g = absurd g
@@ -189,6 +200,7 @@ module _ (P A : Type 0) (shape : Shape) (w : State P A) (actor : Actor) (got : G
   gives_fits (Write x c) (Device (WriteExtent d e)) i g = done_fits (Device (WriteExtent d e)) got tt g.2
   gives_fits Flush (Device (WriteExtent d e)) i g = absurd g
   gives_fits Suspend (Device (WriteExtent d e)) i g = absurd g
+  gives_fits (Invalidate block) (Device (WriteExtent d e)) i g = absurd g
   gives_fits (Open mode) (Device (WriteExtent d e)) i g = absurd g
   gives_fits (Migrate migration block) (Device (WriteExtent d e)) i g = done_fits (Device (WriteExtent d e)) got tt g.2
   gives_fits (Replace old new) (Device (WriteExtent d e)) i g = absurd g

@@ -3,6 +3,7 @@ use Rattle.std.proofs.Common.{◌≡◌, ◌<◌, ◌*◌, ◌/◌, inr, ℕ, Li
 use mathlib.Core.Option.{some}
 use lib.ListN.{get_elem?}
 use Rattle.wb_types.specs.declared.mode.Mode.{Mode}
+use Rattle.wb_types.specs.declared.mode.Mode.TheVariants.{Writeback, Writethrough, Passthrough}
 use Rattle.wb_types.specs.declared.extent.Extent.{Extent}
 use Rattle.std.proofs.lemmas.Nat.{div_below}
 use Rattle.wb_disk.specs.Device.{Content as Bytes, History}
@@ -19,7 +20,8 @@ use Rattle.wb_meta.specs.Formats.{IsFormatted}
 use Rattle.wb_meta.specs.declared.read_steps.ReadSteps.{ReadSteps}
 use Rattle.wb_meta.specs.declared.read_steps.ReadSteps.TheVariants.{Begun, FirstSlotRead, RootFound, Done as AllRead}
 use Rattle.wb_meta.specs.declared.read_steps.State.{State as Stored}
-use Rattle.wb_tasks.specs.Plan.{Plan, want, after, Fits, got_of, device_of}
+use Rattle.wb_tasks.specs.Tables.{BlockRange, OnBlock}
+use Rattle.wb_tasks.specs.Plan.{Plan, want, table, after, Fits, got_of, device_of}
 use Rattle.wb_tasks.specs.Ready.{MayTake, MayMake, Suits, AreBelow}
 use Rattle.wb_tasks.proofs.Readiness.{keeps_ready, is_ready, flush_begins, opening_begins, ends_holding_nothing, suspend_begins}
 use Rattle.wb_tasks.specs.declared.step.Answer.{Answer}
@@ -31,16 +33,17 @@ use Rattle.wb_tasks.specs.declared.step.Want.TheVariants.{Cell, Device, Desk, En
 use Rattle.wb_tasks.specs.declared.step.Got.{Got}
 use Rattle.wb_tasks.specs.declared.step.Got.TheVariants.{Fault}
 use Rattle.wb_promise.specs.declared.job.Job.{Job}
-use Rattle.wb_promise.specs.declared.job.Job.TheVariants.{Read, Write, Flush, Suspend, Open, Migrate, Replace}
+use Rattle.wb_promise.specs.declared.job.Job.TheVariants.{Read, Write, Flush, Suspend, Open, Migrate, Replace, Invalidate}
 use Rattle.wb_promise.specs.declared.event.Event.{Event}
 use Rattle.wb_promise.specs.declared.event.Event.TheVariants.{Start, Step, FaultStep, Stop}
 use Rattle.wb_promise.specs.declared.event.What.{What}
 use Rattle.wb_promise.specs.declared.event.What.TheVariants.{Skipped, Refused, Started, Stepped, Stopped}
 use Rattle.wb_promise.specs.States.{Shape, State, Actor, Target, Phase, Stands, Gone, Opens, OfTarget, mode_of, resting, start}
-use Rattle.wb_promise.specs.Happenings.{Chosen, Plain, Cut, Orders, order_for, Opened, Happening, OfSome, DoesNotApply, DoesOpen, MayFailAt, Falters, StartGives, Gives, MayBe, KeepsMigration, blocks_left, StartsAs, Looks, AreMapped}
+use Rattle.wb_promise.specs.Happenings.{Chosen, Plain, Cut, Orders, order_for, Opened, Happening, OfSome, DoesNotApply, DoesOpen, MayFailAt, Falters, StartGives, Gives, MayBe, KeepsMigration, blocks_left, StartsAs, Looks, AreMapped, block_range, write_job}
 use Rattle.wb_promise.specs.Effects.{task_then, actor_then, card_over, card_by, words_by, seals_of, phase_then, target_over, stepped, with_actor, cleared, given, phase_given, job_of, device_done, device_failed, all_resting, after_what, after_happening, after_all, IsRun, orders_then, awaiting_then, orders_given}
 use Rattle.wb_runs.specs.Holding.{cards_of, TaskSuits, AllSuited, AreUsedRightly}
-use Rattle.wb_runs.proofs.Extents.{MayStart, may_start, some_sectors}
+use Rattle.wb_runs.proofs.Extents.{MayStart, may_start, block_there, some_sectors}
+use Rattle.wb_runs.proofs.Passing.{target_stands}
 use Rattle.wb_types.specs.declared.number.OBlock.{OBlock}
 use Rattle.wb_tasks.specs.declared.step.Migration.{Migration}
 use Rattle.wb_tasks.specs.declared.step.Migration.TheVariants.{Promote, Demote, Clean}
@@ -67,6 +70,12 @@ OpensOrRests (Some doing) = (mode : Mode) × (doing.0 ≡ Open mode)
 
 abbrev pub AllOpen : List Actor → Type 0
 AllOpen actors = (a : ℕ) (x : Actor) → slice_get actors a ≡ Some x → OpensOrRests x.task
+
+-- a write's first steps suit whoever has nothing
+write_suits : (mode : Mode) (part : BlockRange) (card : Card) {blocks : ℕ} → part.block.0 < blocks → card.hold ≡ Nothing → Suits blocks (table (OnBlock (write_job mode part))) card
+write_suits Writeback part card b h = (b, (h, refl))
+write_suits Writethrough part card b h = (b, (h, refl))
+write_suits Passthrough part card b h = (b, (h, refl))
 
 -- a request starts on a block of the origin
 starts_inside : (shape : Shape) (extent : Extent) → MayStart shape extent → extent.first / shape.geometry.block < shape.geometry.origin_blocks
@@ -231,6 +240,7 @@ module _ (P A : Type 0) (shape : Shape) where
         plain (Write extent content) g = g.0.1
         plain Flush g = g.0.1
         plain Suspend g = g.0.1
+        plain (Invalidate block) g = g.0.1
         plain (Open m) g = g.0.1
         plain (Migrate migration block) g = g.0.1
         plain (Replace old new) g = g.0.1
@@ -261,6 +271,7 @@ module _ (P A : Type 0) (shape : Shape) where
     given_word (Write extent content) step g = g.1
     given_word Flush step g = g.1
     given_word Suspend step g = g.1
+    given_word (Invalidate block) step g = g.1
     given_word (Open mode) step g = g.1
     given_word (Migrate migration block) step g = g.1
     given_word (Replace old new) step g = g.1
@@ -340,6 +351,7 @@ module _ (P A : Type 0) (shape : Shape) where
   same_here (Stands t) (Write extent content) chosen actors i = i
   same_here (Stands t) Flush chosen actors i = i
   same_here (Stands t) Suspend chosen actors i = i
+  same_here (Stands t) (Invalidate block) chosen actors i = i
   same_here (Stands t) (Open mode) chosen actors i = i
   same_here Gone job chosen actors i = i
   same_here (Opens mode reading) job chosen actors i = i
@@ -466,10 +478,18 @@ module _ (P A : Type 0) (shape : Shape) where
   starts w a (Write extent content) (Cut cut) k u applies gives =
       let f = free P A w a (Write extent content) applies in
       subst (λ (o : Option Actor). Started_so w a (Write extent content) (Cut cut) o) (sym f.1)
-      (over (starts_task w.phase w.actors a f.0 (given {P = P} {A = A} shape (mode_of w.phase) f.0 (Write extent content) (Cut cut)) f.1 refl (starts_inside shape extent (may_start shape extent gives.0), (holds_nothing w f.0 a u f.1 f.2, refl)) (u.orders a f.0 f.1) (λ m. applies (inr (inr (inr m)))) u))
+      (over (starts_task w.phase w.actors a f.0 (given {P = P} {A = A} shape (mode_of w.phase) f.0 (Write extent content) (Cut cut)) f.1 refl (write_suits (mode_of w.phase) (block_range shape (mode_of w.phase) extent cut) f.0.card (starts_inside shape extent (may_start shape extent gives.0)) (holds_nothing w f.0 a u f.1 f.2)) (u.orders a f.0 f.1) (λ m. applies (inr (inr (inr m)))) u))
     where
       over : {actors : List Actor} → UsedRightly w.phase actors → UsedRightly (phase_given w.phase (Write extent content) (Cut cut)) actors
       over {actors} u = record { suited = u.suited; here = same_here w.phase (Write extent content) (Cut cut) actors u.here; orders = u.orders }
+  starts w a (Invalidate block) Plain k u applies gives =
+      let f = free P A w a (Invalidate block) applies in
+      subst (λ (o : Option Actor). Started_so w a (Invalidate block) Plain o) (sym f.1)
+      (over (starts_task w.phase w.actors a f.0 (given {P = P} {A = A} shape (mode_of w.phase) f.0 (Invalidate block) Plain) f.1 refl (block_there shape block gives, (holds_nothing w f.0 a u f.1 f.2, refl)) (u.orders a f.0 f.1) (λ m. applies (inr (inr (inr (λ o. m (target_stands w.phase o)))))) u))
+    where
+      over : {actors : List Actor} → UsedRightly w.phase actors → UsedRightly (phase_given w.phase (Invalidate block) Plain) actors
+      over {actors} u = record { suited = u.suited; here = same_here w.phase (Invalidate block) Plain actors u.here; orders = u.orders }
+  starts w a (Invalidate block) chosen k u applies gives = absurd gives
   starts w a (Migrate migration block) chosen k u applies gives =
       let f = free P A w a (Migrate migration block) applies in
       let kept = subst (λ (o : Option Actor). OrdersInside shape.geometry (Rattle.wb_promise.specs.Happenings.orders_in o)) (sym f.1) (λ order m. u.orders a f.0 f.1 order (in_orders f.0 order m)) in

@@ -96,7 +96,6 @@ module _ (now : Situation) (words' : Words) (up : flag now.words.fail ≡ true �
       origin = o;
       cache = c;
       mode = m ∙ g.mode;
-      caches = g.caches;
       commits = k;
       broken = b;
       led = led;

@@ -100,7 +100,7 @@ module _ (clean : Bool) (now : Situation) (a : ℕ) (x : Actor) (plan : Plan) (s
       told_so t = subst (λ (j : AbstractJob). AnswersSo j answer y.task) (job_is now.size [] clean blocks now.most) t
 
       by : IsLeading now.size its.2.failed p y ⊎ IsLate its.2.failed p y → Goal
-      by (inl l) = answers now a x s y wants.here its.1 wants.agrees its.2 orders' awaiting' keeps (Answers (commit_there clean) answer) (told_so (answers_at now.size [] (commit_task clean blocks now.most) answer y (ap (λ (v : AbstractActor). v.task) l.is.is)), refl)
+      by (inl l) = answers now a x s y wants.here its.1 wants.agrees its.2 orders' awaiting' keeps (Answers (commit_there clean) answer) (told_so (answers_at now.size [] None (commit_task clean blocks now.most) answer y (ap (λ (v : AbstractActor). v.task) l.is.is)), refl)
           (record { steps = subst (λ (v : AbstractActor). IsNothingLeft v.task) (sym l.is.is) refl; free = by_lead l.leads refl })
         where
           by_lead : (b : Bool) → l.leads ≡ b → ((y.held ≡ Nothing) × (y.leads ≡ false)) ⊎ (flag now.words.fail ≡ true)

@@ -225,7 +225,7 @@ module _ (now : Situation) (clean : Bool) (blocks : List OBlock) (a : ℕ) (x : 
       let l = followed_alone.ends clean later now.size blocks now.most [] s.actors a s.shared y answer is in
       let on = ended_on clean now.most later o in
       let lead : y.leads ≡ true = ap (λ (v : AbstractActor). v.leads) is.is in
-      let some : wants_of now.size (job_for now.size [] (commit_task clean blocks now.most)) (Desk EndCommit ∷ later) ≢ [] = (λ e. absurd (cc)) in
+      let some : wants_of now.size None (job_for now.size [] (commit_task clean blocks now.most)) (Desk EndCommit ∷ later) ≢ [] = (λ e. absurd (cc)) in
       let whole : s.shared.broken ≡ false = g.whole a y ey lead (subst (λ (v : AbstractActor). IsUnfinished v.task) (sym is.is) some) in
       goes_leading now now.words (λ f. f) a x (record x { task = Some (commit_job clean, plan') }) s y g ex ey Ends false l.results (effect s.shared (commit_there clean) (λ o. []) End_running DoneThere) (l.results, quiet_are_unnoted y.task l.results l.quiet, refl) l.may l.shared
       (stands now clean blocks a x s y ex ey g now.words plan' x.card x.seen false (gone y y.task l.results) refl on.0 on.1 (λ e n. absurd (cc)) l.at)

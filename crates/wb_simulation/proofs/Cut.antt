@@ -63,7 +63,7 @@ module _ (size : ℕ) (block : OBlock) (some : 0 < size) where
 
   module _ (cut : List Extent) (i : IsCutInto (whole_block size block) cut) where
     pub whole_part : IsPart size (record { mode = Writeback; block_sectors = size; block = block; extents = cut })
-    whole_part = record { some = some; mode = λ e. absurd (cc); sized = refl; each = each_of_block cut (cut_within (whole_block size block) cut i) }
+    whole_part = record { some = some; sized = refl; each = each_of_block cut (cut_within (whole_block size block) cut i) }
 
     pub whole_covered : Covers size (offsets size cut)
     whole_covered o l = offset_there cut o (cut_within (whole_block size block) cut i) (Contains-permutation (sectors_in (whole_block size block)) (sectors_of cut) (block.0 * size + o) i.each_once (rising_has (block.0 * size) size o l))

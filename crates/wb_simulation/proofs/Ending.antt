@@ -5,7 +5,7 @@ use Rattle.wb_words.specs.SharedWords.{Words, flag}
 use Rattle.wb_words.specs.declared.card.Card.{Card}
 use Rattle.wb_words.specs.declared.card.Hold.TheVariants.{Nothing as HoldsNothing}
 use Rattle.wb_policy.specs.declared.order.Order.{Order}
-use Rattle.wb_tasks.specs.Tables.{BlockRange, BlockJob, Reading, Writing, OnBlock}
+use Rattle.wb_tasks.specs.Tables.{BlockRange, BlockJob, Reading, Invalidating, OnBlock}
 use Rattle.wb_tasks.specs.Plan.{Plan, want}
 use Rattle.wb_tasks.specs.Ready.{Suits}
 use Rattle.wb_tasks.specs.declared.step.Answer.{Answer}
@@ -18,9 +18,9 @@ use Rattle.wb_refines.specs.Translation.{job_for}
 use Rattle.wb_refines.specs.Models.{IsAt, HasStopped, IsFree, held_of}
 use Rattle.wb_refines.specs.Tasks.{IsResting}
 use Rattle.wb_promise.specs.declared.job.Job.{Job}
-use Rattle.wb_promise.specs.declared.job.Job.TheVariants.{Read, Write}
+use Rattle.wb_promise.specs.declared.job.Job.TheVariants.{Read, Write, Invalidate}
 use Rattle.wb_promise.specs.States.{Actor}
-use Rattle.wb_simulation.specs.Actors.{IsLate, IsRequestAt, IsDoing, StandsFor}
+use Rattle.wb_simulation.specs.Actors.{write_of, IsLate, IsRequestAt, IsDoing, StandsFor}
 use Rattle.wb_simulation.specs.Carried.{held}
 use Rattle.wb_simulation.specs.Telling.{Telling, Answers, IsTold}
 use Rattle.wb_simulation.specs.Worlds.{Situation, Agrees, WorldFollows}
@@ -83,14 +83,15 @@ module _ (now : Situation) (a : ℕ) (x : Actor) (s : World) (y : AbstractActor)
       p = record { job = OnBlock (job_on r.part); steps = []; answer = answer }
 
       by : x.card.hold ≡ HoldsNothing → At p → Goal p content answer
-      by h (inl i) = answers x.orders x.awaiting (λ o c. c) (Answers (job_for now.size content p.job) answer) (answers_at now.size content p.job answer y (ap (λ (v : AbstractActor). v.task) i.is), refl)
+      by h (inl i) = answers x.orders x.awaiting (λ o c. c) (Answers (job_for now.size content p.job) answer) (answers_at now.size content i.place p.job answer y (ap (λ (v : AbstractActor). v.task) i.is), refl)
           (record { steps = subst (λ (v : AbstractActor). IsNothingLeft v.task) (sym i.is) refl; free = inl (ap (λ (v : AbstractActor). v.held) i.is ∙ ap held_of h, ap (λ (v : AbstractActor). v.leads) i.is) })
       by h (inr (inl k)) = answers x.orders x.awaiting (λ o c. c) (Answers (job_for now.size content p.job) answer) (stopped_answers (job_for now.size content p.job) st.failed p x.card answer y refl k, refl) (stopped_over now.words st.failed st.has_failed p x.card y refl k)
       by h (inr (inr l)) = answers x.orders x.awaiting (λ o c. c) (Answers (job_for now.size content p.job) answer) (late_answers_so (job_for now.size content p.job) st.failed p answer y refl (λ t. let bad = ap (λ (q : Plan). q.steps) t in absurd (cc)) l, refl) (late_over now.words st.failed st.has_failed p y l)
 
   followed : (blocks : ℕ) (job : Job) (plan : Plan) (answer : Answer) → IsRequestJob job → want plan ≡ End answer → Suits blocks plan x.card → IsDoing now.size now.most st.failed job plan x.card y → Goal plan (job_content job) answer
   followed blocks (Read extent) plan answer q next suits d = of_request blocks [] Reading plan answer next suits d
-  followed blocks (Write extent content) plan answer q next suits d = of_request blocks content Writing plan answer next suits d
+  followed blocks (Write extent content) plan answer q next suits d = of_request blocks content write_of plan answer next suits d
+  followed blocks (Invalidate block) plan answer q next suits d = of_request blocks [] Invalidating plan answer next suits d
   followed blocks job plan answer q next suits d = absurd q
 
 pub answers_followed : AnswersFollowed

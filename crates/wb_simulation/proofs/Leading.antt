@@ -1,5 +1,5 @@
 -- An actor that leads a commit goes on, and nobody else leads one.
-use Rattle.std.proofs.Common.{◌≡◌, ◌≢◌, ◌∙◌, inl, inr, ℕ, zero, suc, Bool, true, false, List, [], ◌∷◌, ◌++◌, Some, refl, sym, ap, subst, slice_get}
+use Rattle.std.proofs.Common.{◌≡◌, ◌≢◌, ◌∙◌, inl, inr, ℕ, zero, suc, Bool, true, false, List, [], ◌∷◌, ◌++◌, Some, refl, sym, ap, subst, slice_get, None}
 use Rattle.wb_types.specs.declared.mode.Dev.TheVariants.{Metadata}
 use Rattle.wb_disk.specs.Device.{History}
 use Rattle.wb_contents.specs.Devices.{by_block}
@@ -67,7 +67,7 @@ pub failed_on : (clean : Bool) (blocks : List OBlock) (most : ℕ) (step : Devic
 failed_on true blocks most step = (refl, refl, λ n. absurd (cc))
 failed_on false blocks most step = (refl, refl, λ n. absurd (cc))
 
-pub has_wants : (size : ℕ) (job : AbstractJob) (clean : Bool) (steps : List Want) → IsOnMetadata clean steps → wants_of size job steps ≢ []
+pub has_wants : (size : ℕ) (job : AbstractJob) (clean : Bool) (steps : List Want) → IsOnMetadata clean steps → wants_of size None job steps ≢ []
 has_wants size job clean (Device (WriteNode number) ∷ later) m = has_wants size job clean later m
 has_wants size job clean (Device (Sync Metadata) ∷ later) m = has_wants size job clean later m
 has_wants size job clean (Device WriteRoot ∷ later) m = λ e. absurd (cc)
@@ -125,7 +125,7 @@ module _ (now : Situation) (clean : Bool) (blocks : List OBlock) (a : ℕ) (x : 
   leads_alone lead b v n ev l = n (g.one_leads b a v y ev ey l lead)
 
   -- one that leads goes on by a step on a device, and its commit stays whole
-  pub goes : (turn : Turn) (devices' : Devices (List History)) (next : Want) (later : List Want) (answer : Answer) (plan' : Plan) (t : Shared) → IsCommitting now.size [] (committing clean blocks now.most (next ∷ later) answer) true y → wants_of now.size (job_for now.size [] (commit_task clean blocks now.most)) (next ∷ later) ≢ [] → CanGoOn now.size [] s.actors a s.shared y t plan' true →
+  pub goes : (turn : Turn) (devices' : Devices (List History)) (next : Want) (later : List Want) (answer : Answer) (plan' : Plan) (t : Shared) → IsCommitting now.size [] (committing clean blocks now.most (next ∷ later) answer) true y → wants_of now.size None (job_for now.size [] (commit_task clean blocks now.most)) (next ∷ later) ≢ [] → CanGoOn now.size [] s.actors a s.shared y t plan' true →
       plan'.job ≡ commit_task clean blocks now.most → IsOfCommit clean now.most plan'.steps → LeadsAt true plan'.steps → (plan'.steps ≢ []) → WordsAgree now.words t → t.origin ≡ by_block now.size zeros devices'.origin → t.cache ≡ by_block now.size zeros devices'.cache → t.mode ≡ s.shared.mode → t.committing ≡ s.shared.committing → t.broken ≡ s.shared.broken → TurnedTo turn s.shared t → DeskTurnedTo turn s.shared t → t.mapping ≡ s.shared.mapping →
       WorldFollowsBy turn Quietly a s (record now { devices = devices' }) (record x { task = Some (commit_job clean, plan') })
   goes turn devices' next later answer plan' t is some l j o at unfinished w og ca mo co br turned desk same_map = goes_by now now.words (λ f. f) a x (record x { task = Some (commit_job clean, plan') }) s y g ex ey turn Quietly devices' l.results t (l.results, quiet_are_unnoted y.task l.results l.quiet, refl) l.may l.shared

@@ -19,6 +19,8 @@ mod Migrating
 mod Deciding
 mod Cut
 mod Ordering
+pub mod Written
+pub mod Unmapping
 pub mod Migrations
 pub mod Possible
 pub mod Opening

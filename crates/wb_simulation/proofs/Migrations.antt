@@ -184,9 +184,9 @@ module _ (now : Situation) (blocks : ℕ) (a : ℕ) (x : Actor) (migration : Mig
 
 pub migrations_followed : MigrationsFollowed
 migrations_followed = record {
-  starts = λ now a x migration block c next order cut s ex none hold some small is_cut no_order of is apart waits may among g.
+  starts = λ now a x migration block c next order cut s ex none hold some small is_cut no_order of is apart waits may caches among g.
       let y = own_there now s g a x ex in
-      starts now a x migration block c next order cut s y.0 g among ex y.1 none hold some small is_cut of is no_order apart waits may;
+      starts now a x migration block c next order cut s y.0 g among ex y.1 none hold some small is_cut of is no_order apart waits may caches;
   again = λ now a x migration block c next order cut s ex none hold some small is_cut live of is mine only may among g.
       let y = own_there now s g a x ex in
       again now a x migration block c next order cut s y.0 g among ex y.1 none hold some small is_cut of is live mine only may;

@@ -11,14 +11,14 @@ use Rattle.wb_disk.specs.Device.{Content, History, only}
 use Rattle.wb_contents.specs.Volume.{changed}
 use Rattle.wb_contents.specs.Devices.{by_block}
 use Rattle.wb_contents.proofs.Positions.{changed_same, changed_other}
-use Rattle.wb_link.specs.Tables.{Script, Job as AbstractJob, Reading, Writing, Writing_through, Promoting, Returning, Flushing, Suspending, Want, Write_all, End, Got, Gave, Done, Answer as AbstractAnswer, Finished as AnsweredDone, abstract_want, abstract_after, abstract_table, Flag, Order as AbstractOrder}
+use Rattle.wb_link.specs.Tables.{Script, Job as AbstractJob, Reading, Writing, Writing_through, Promoting, Returning, Flushing, Suspending, Want, Write_all, End, Got, Gave, Done, Answer as AbstractAnswer, Finished as AnsweredDone, abstract_want, abstract_after, abstract_table, Flag, Order as AbstractOrder, Invalidating}
 use Rattle.wb_link.specs.World.{Release, release_order, World, Shared, Record, Start, Again, AbstractActor, abstract_resting, abstract_after_all, after_record, actor_after, task_after, start_actor, again_actor, abstract_reserved, abstract_given, aside, abstract_taken, abstract_order_of}
 use Rattle.wb_link.specs.Clerk.{AbstractNotes, Entry, histories_after, entered_after, finished_after, abstract_floors_after, job_noted, abstract_note, abstract_noted_step as noted_step, abstract_opened, abstract_raised as raised_there}
 use Rattle.wb_link.specs.Openings.{On, AllEventsRight}
 use Rattle.wb_contents.proofs.Lists.{set_there, set_other, replicated, set_twice, set_same}
 use Rattle.wb_link.proofs.Steps.{in_set}
 use Rattle.wb_refines.specs.Going.{records, shared_after, gone}
-use Rattle.wb_refines.specs.Translation.{writing_in}
+use Rattle.wb_refines.specs.Translation.{writing_in, reading_in}
 use Rattle.wb_refines.specs.Commits.{commit_there}
 use Rattle.wb_refines.proofs.Going.{own_steps, with_own}
 use Rattle.wb_promise.specs.declared.job.Job.{Job}
@@ -30,7 +30,7 @@ use Rattle.wb_simulation.specs.Telling.{IsMigrating, IsResumed, Given, Kept, Fai
 use Rattle.wb_simulation.specs.Worlds.{zeros}
 use Rattle.wb_simulation.proofs.Counts.{everywhere, all_raised-length, no_entries_alike, greater_counts, greater-length}
 use Rattle.wb_link.proofs.Actors.{job_on}
-use Rattle.wb_simulation.proofs.Told.{IsJob, untold, reads_newest, Wrote, writes_told, length-written, changed_nothing}
+use Rattle.wb_simulation.proofs.Told.{IsJob, untold, reads_newest, Wrote, writes_told, length-written, changed_nothing, is_past, reads_past}
 
 -- ---- where an actor's own steps lead
 
@@ -214,9 +214,13 @@ module _ (size a : ℕ) (s : World) (y : AbstractActor) (n : Notes) (m : Abstrac
   abbrev over : AbstractActor
   over = record y { task = None }
 
-  read_answers : (block : ℕ) (os : List (List ℕ)) (script : Script) → y.task ≡ Some script → script.steps ≡ [] → script.answer ≡ AnsweredDone → script.job ≡ Reading false block os → After (Done ∷ []) (put n a None)
-  read_answers block os script at none ans is = answered (put n a None) script (Reading false block os) AnsweredDone at none ans is
-      (agree_after s.waiting (put n a None) (noted_step m a (Some (Reading false block os)) (End AnsweredDone)) s.shared over g.histories g.finished g.floors refl refl refl (put_others None) (length-set n.doings a None) (λ b ne. changed_other m.jobs a b None ne) (λ b ne. changed_other m.entered a b (m.entered a) ne) (λ b ne. refl) tt)
+  read_answers : (past : Bool) (block : ℕ) (os : List (List ℕ)) (script : Script) → y.task ≡ Some script → script.steps ≡ [] → script.answer ≡ AnsweredDone → script.job ≡ Reading past block os → After (Done ∷ []) (put n a None)
+  read_answers past block os script at none ans is = answered (put n a None) script (Reading past block os) AnsweredDone at none ans is
+      (agree_after s.waiting (put n a None) (noted_step m a (Some (Reading past block os)) (End AnsweredDone)) s.shared over g.histories g.finished g.floors refl refl refl (put_others None) (length-set n.doings a None) (λ b ne. changed_other m.jobs a b None ne) (λ b ne. changed_other m.entered a b (m.entered a) ne) (λ b ne. refl) tt)
+
+  invalidation_answers : (block : ℕ) (script : Script) → y.task ≡ Some script → script.steps ≡ [] → script.answer ≡ AnsweredDone → script.job ≡ Invalidating block → After (Done ∷ []) (put n a None)
+  invalidation_answers block script at none ans is = answered (put n a None) script (Invalidating block) AnsweredDone at none ans is
+      (agree_after s.waiting (put n a None) (noted_step m a (Some (Invalidating block)) (End AnsweredDone)) s.shared over g.histories g.finished g.floors refl refl refl (put_others None) (length-set n.doings a None) (λ b ne. changed_other m.jobs a b None ne) (λ b ne. changed_other m.entered a b (m.entered a) ne) (λ b ne. refl) tt)
 
   does_alike : (job : AbstractJob) (script : Script) (doing : Doing) → y.task ≡ Some script → script.job ≡ job → slice_get n.doings a ≡ Some (Some doing) → DoesAlike size (length n.histories) doing job a m
   does_alike job script doing at is here = subst (λ (j : AbstractJob). DoesAlike size (length n.histories) doing j a m) is
@@ -421,13 +425,16 @@ notes_followed = record {
       let n' = write_note n a doing (enter_each content (rising (block * now.size + offset) count) (entering n doing)) in
       subst (λ (rs : List Record). NotesAgree now.size n' (abstract_after_all s rs) (told m rs)) (sym t.told_is)
       (write_after now.size a s y n m ey among g block offset count content t.mode t.location t.all t.rest t.answer t.got doing t.notes t.at here l inside);
-  read_answered = λ block os turn a s now x f y n m ey among g.
-      let t = f.told y ey in let k = script_of (Reading false block os) y.task t.0 in
-      subst (λ (rs : List Record). NotesAgree now.size (put n a None) (abstract_after_all s rs) (told m rs)) (sym t.1) (read_answers now.size a s y n m ey among g block os k.script k.at k.none k.done k.is);
+  read_answered = λ mode block os turn a s now x f y n m ey among g.
+      let t = f.told y ey in let k = script_of (reading_in mode block os) y.task t.0 in
+      subst (λ (rs : List Record). NotesAgree now.size (put n a None) (abstract_after_all s rs) (told m rs)) (sym t.1) (read_answers now.size a s y n m ey among g (is_past mode) block os k.script k.at k.none k.done (k.is ∙ reads_past mode block os));
   write_answered = λ mode block os content turn a s now x f y n m ey among g doing here.
       let t = f.told y ey in let k = script_of (writing_in mode block os content) y.task t.0 in
       subst (λ (rs : List Record). NotesAgree now.size (put (record n { finished = all_raised n.finished doing.entered }) a None) (abstract_after_all s rs) (told m rs)) (sym t.1)
       (write_answers now.size a s y n m ey among g mode block os content k.script doing k.at k.none k.done k.is here);
+  invalidation_answered = λ block turn a s now x f y n m ey among g.
+      let t = f.told y ey in let k = script_of (Invalidating block) y.task t.0 in
+      subst (λ (rs : List Record). NotesAgree now.size (put n a None) (abstract_after_all s rs) (told m rs)) (sym t.1) (invalidation_answers now.size a s y n m ey among g block k.script k.at k.none k.done k.is);
   commit_answered = λ clean turn a s now x f y n m ey among g doing here long.
       let t = f.told y ey in let k = script_of (commit_there clean) y.task t.0 in
       subst (λ (rs : List Record). NotesAgree now.size (put (record n { floors = greater_of n.floors doing.then_finished }) a None) (abstract_after_all s rs) (told m rs)) (sym t.1)
@@ -483,7 +490,7 @@ notes_followed = record {
       let t = f.told y ey in
       let job = subst (λ (k : Option Script). IsJob m a k) t.at (is_job now.size (length n.histories) y.task (slice_get n.doings a) a m (g.each a y among ey)) in
       subst (λ (h : ℕ → ℕ → History). AreNewest h block offset contents) g.histories
-      (reads_newest t.location block t.all contents t.there offset m a job t.given
+      (reads_newest t.mode t.location block t.all contents t.there offset m a job t.given
       (subst (λ (k : Option Script). AllEventsRight m (map (λ (r : Record). On r) (records a k (Gave t.there ∷ [])))) t.at (subst (λ (rs : List Record). AllEventsRight m (map (λ (r : Record). On r) rs)) t.told_is right)).0);
 }
   where

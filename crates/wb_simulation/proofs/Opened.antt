@@ -214,7 +214,7 @@ no_orders size words actors caches many t rest = record {
     nothing p (inr h) = nobody h.0 h.1 p h.2 h.3
 
 pub opened_followed : OpenedFollowed
-opened_followed mode size most origin_blocks cache_blocks clean entries learnt blocks s devices actors caches mapping few located takes origin cache rest = record {
+opened_followed mode size most origin_blocks cache_blocks clean entries learnt blocks s devices actors mapping few located takes origin cache rest = record {
   words_agree = record {
     fail = sym (ap flag (fail_is clean entries 0 (fresh_words origin_blocks)));
     seals = λ block. subst (λ (w : List ℕ). SealAgrees (word_at w block) (record { location = learnt.locations block.0; dirty = cond (learnt.clean block.0) false true })) (sym (seals_are clean entries 0 (fresh_words origin_blocks)))
@@ -224,7 +224,6 @@ opened_followed mode size most origin_blocks cache_blocks clean entries learnt b
   origin = origin;
   cache = cache;
   mode = refl;
-  caches = caches;
   commits = refl;
   broken = λ e. absurd (cc);
   led = λ a y e l. absurd (nobody a y e l);

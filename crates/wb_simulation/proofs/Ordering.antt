@@ -131,10 +131,6 @@ module _ (now : Situation) (a : ℕ) (x : Actor) (migration : Migration) (block 
     read = tt;
   }
 
-  -- its target caches
-  caches : s.shared.mode ≢ Passthrough
-  caches e = g.caches (sym g.mode ∙ e)
-
   fills_given : (m : Migration) → MayBeGiven m block.0 c.0 s.shared → Fills m c
   fills_given (Promote k) may = λ i. record { 0 = may.0 i }
   fills_given m may = tt
@@ -143,9 +139,9 @@ module _ (now : Situation) (a : ℕ) (x : Actor) (migration : Migration) (block 
   fills_kept (Promote k) may = λ i. record { 0 = may.0 i }
   fills_kept m may = tt
 
-  may_start : (m : Migration) → MayBeGiven m block.0 c.0 s.shared → Ungiven s own → ((b : ℕ) → next ≡ Some b → s.shared.mapping b ≡ None) → MayStart now.size s (job_under own (offsets now.size cut) m)
-  may_start (Promote k) may free waits = (within_offsets now.size cut inside, whole_covered now.size block some cut is_cut, free, caches, may.1, may.2, waits)
-  may_start m may free waits = (within_offsets now.size cut inside, whole_covered now.size block some cut is_cut, free, caches, may.0, may.1, waits)
+  may_start : now.mode ≢ Passthrough → (m : Migration) → MayBeGiven m block.0 c.0 s.shared → Ungiven s own → ((b : ℕ) → next ≡ Some b → s.shared.mapping b ≡ None) → MayStart now.size s (job_under own (offsets now.size cut) m)
+  may_start caches (Promote k) may free waits = (within_offsets now.size cut inside, whole_covered now.size block some cut is_cut, free, (λ e. caches (sym g.mode ∙ e)), may.1, may.2, waits)
+  may_start caches m may free waits = (within_offsets now.size cut inside, whole_covered now.size block some cut is_cut, free, (λ e. caches (sym g.mode ∙ e)), may.0, may.1, waits)
 
   may_again : (m : Migration) → MayBeKept m c.0 s.shared → MayAgain now.size s.shared (job_under own (offsets now.size cut) m)
   may_again (Promote k) may = (within_offsets now.size cut inside, whole_covered now.size block some cut is_cut, may.1)
@@ -199,7 +195,7 @@ module _ (now : Situation) (a : ℕ) (x : Actor) (migration : Migration) (block 
   falls ys (Promote k) u v f = ((sym f, tt, (tt, tt, tt)), refl, refl)
   falls ys m u v f = ((sym f, tt, (tt, tt, tt)), refl, refl)
 
-  module _ (no_order : slice_get now.orders c.0 ≡ Some None) (apart : IsUngiven s.shared.mapping now.orders own) (waits : (b : ℕ) → next ≡ Some b → s.shared.mapping b ≡ None) (may : MayBeGiven migration block.0 c.0 s.shared) where
+  module _ (no_order : slice_get now.orders c.0 ≡ Some None) (apart : IsUngiven s.shared.mapping now.orders own) (waits : (b : ℕ) → next ≡ Some b → s.shared.mapping b ≡ None) (may : MayBeGiven migration block.0 c.0 s.shared) (caches : now.mode ≢ Passthrough) where
     abbrev orders_then : List (Option Order)
     orders_then = slice_set now.orders c.0 (Some order)
 
@@ -221,7 +217,7 @@ module _ (now : Situation) (a : ℕ) (x : Actor) (migration : Migration) (block 
 
     starts_so : IsResting y → Goal
     starts_so idle = begins_there orders_then (order ∷ x.orders) (set_there now.orders c.0 None (Some order) no_order) (Contains-first order x.orders) (λ d n. set_other now.orders c.0 d (Some order) n) (aside s.waiting y.order) (λ d n. refl) aside_not alone (abstract_reserved s.shared job) (is_given migration).mapping (given_by migration c.0) (Start a job ∷ []) (fills_given migration may)
-        ((y, record { actor = ey; task = idle.task; free = inl (idle.held, idle.leads); nobody_alone = nobody_alone now s g among; may = may_start migration may free waits }), tt)
+        ((y, record { actor = ey; task = idle.task; free = inl (idle.held, idle.leads); nobody_alone = nobody_alone now s g among; may = may_start caches migration may free waits }), tt)
         (ap (λ (o : Option AbstractActor). start_actor s a o job) ey ∙ (λ i. record { shared = abstract_reserved s.shared job; actors = slice_set s.actors a (given_is idle i); waiting = aside s.waiting y.order })) (Given job (under_migrates own (offsets now.size cut) migration) refl) (is_given migration)
 
     -- it has kept something at a failure, and is refused there at once
@@ -238,7 +234,7 @@ module _ (now : Situation) (a : ℕ) (x : Actor) (migration : Migration) (block 
         let w2 : World = record { shared = t; actors = slice_set s.actors a (record y { task = None; order = Some own }); waiting = aside s.waiting y.order } in
         let then_is : abstract_after_all w1 (records a (Some (table_there job)) results) ≡ w2 = went.is ∙ (λ i. record { shared = f.1 i; actors = slice_set (slice_set s.actors a y1) a (f.2 i); waiting = aside s.waiting y.order }) ∙ (λ i. record { shared = t; actors = set_twice s.actors a y1 (record y { task = None; order = under_order own (offsets now.size cut) migration i }) i; waiting = aside s.waiting y.order }) in
         falls_there orders_then (order ∷ x.orders) (set_there now.orders c.0 None (Some order) no_order) (Contains-first order x.orders) (λ d n. set_other now.orders c.0 d (Some order) n) (aside s.waiting y.order) (λ d n. refl) aside_not alone t (is_given migration).mapping (given_by migration c.0) (Start a job ∷ records a (Some (table_there job)) results) failed (
-          (y, record { actor = ey; task = rest.0; free = inr (g.words_agree.fail ∙ failed); nobody_alone = nobody_alone now s g among; may = may_start migration may free waits }),
+          (y, record { actor = ey; task = rest.0; free = inr (g.words_agree.fail ∙ failed); nobody_alone = nobody_alone now s g among; may = may_start caches migration may free waits }),
           subst (λ (w : World). IsAbstractRun now.size w (records a (Some (table_there job)) results)) (sym begun_is) went.run,
         )
         (ap (λ (w : World). abstract_after_all w (records a (Some (table_there job)) results)) begun_is ∙ then_is) (Failing job (under_migrates own (offsets now.size cut) migration) rest.0 refl) (is_given migration)

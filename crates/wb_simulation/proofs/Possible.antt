@@ -36,7 +36,6 @@ can_agree size most blocks caches cache origin many = record {
   origin = empty_device zeros size origin;
   cache = empty_device zeros size cache;
   mode = refl;
-  caches = λ e. absurd (cc);
   commits = refl;
   broken = λ e. absurd (cc);
   led = λ a y e l. absurd (nobody a y e l);

@@ -1,8 +1,14 @@
 -- Starts are followed.
 use Rattle.std.proofs.Common.{◌≡◌, ◌∙◌, ◌⊎◌, inl, inr, ◌++◌, ℕ, Bool, true, false, List, [], ◌∷◌, Option, Some, None, refl, sym, ap, subst, slice_get, slice_set}
+use Rattle.wb_promise.specs.Happenings.{write_job}
+use Rattle.wb_disk.specs.Device.{Content}
+use Rattle.wb_types.specs.declared.mode.Mode.TheVariants.{Writeback, Writethrough, Passthrough}
+use Rattle.wb_types.specs.declared.mode.Mode.{Mode}
+use Rattle.wb_simulation.proofs.Written.{job_written}
+use Rattle.wb_refines.proofs.Tables.{tables_agree}
 use Rattle.wb_words.specs.SharedWords.{Words, flag}
 use Rattle.wb_policy.specs.declared.order.Order.{Order}
-use Rattle.wb_tasks.specs.Tables.{BlockRange, Reading, Writing, OnBlock, Flushing, Suspending}
+use Rattle.wb_tasks.specs.Tables.{BlockRange, Reading, Writing, OnBlock, Flushing, Suspending, Invalidating}
 use Rattle.wb_types.specs.declared.number.OBlock.{OBlock}
 use Rattle.wb_tasks.specs.Plan.{Plan, table, seal_looks}
 use Rattle.wb_tasks.specs.declared.step.DeskStep.TheVariants.{BeginCommit}
@@ -13,14 +19,14 @@ use Rattle.wb_refines.specs.Translation.{job_for, offsets, script_for}
 use Rattle.wb_refines.specs.Models.{WordsAgree, held_of}
 use Rattle.wb_refines.specs.Tasks.{IsResting, AllInBlocks}
 use Rattle.wb_refines.proofs.Holding.{holds_nothing}
-use Rattle.wb_refines.proofs.Modes.{starts_in, reserves_in, order_in, among_in}
+use Rattle.wb_refines.proofs.Modes.{starts_in, reserves_in, order_in, among_in, read_starts, read_reserves, read_order, read_among}
 use Rattle.wb_refines.proofs.Tasks.{within_offsets, distinct_offsets}
 use Rattle.wb_promise.specs.declared.job.Job.{Job}
-use Rattle.wb_promise.specs.declared.job.Job.TheVariants.{Read, Write, Flush, Suspend}
+use Rattle.wb_promise.specs.declared.job.Job.TheVariants.{Read, Write, Flush, Suspend, Invalidate}
 use Rattle.wb_promise.specs.States.{Actor}
 use Rattle.wb_simulation.specs.Steps.{IsPart}
 use Rattle.wb_refines.specs.Commits.{IsToBegin, commit_there}
-use Rattle.wb_simulation.specs.Actors.{IsLate, IsBusyAt, IsDoing, IsAmong, IsAmongOthers, AreAmongOthers, StandsFor}
+use Rattle.wb_simulation.specs.Actors.{IsLate, IsBusyAt, IsDoing, IsAmong, IsAmongOthers, AreAmongOthers, StandsFor, write_of}
 use Rattle.wb_simulation.specs.Opened.{AreAtRest}
 use Rattle.wb_simulation.specs.Telling.{Telling, Quietly, Starts, IsTold}
 use Rattle.wb_simulation.specs.Worlds.{Situation, Agrees, OrdersAgree, Turn, Stays, TurnedTo, DeskTurnedTo, WorldFollowsBy}
@@ -83,26 +89,37 @@ all_inside size part is e c = (is.each e c).room
 
 pub starts_followed : StartsFollowed
 starts_followed = record {
-  read = λ now a x extent part s ex none hold is among g.
+  read = λ now a x extent part s ex none hold is mode among g.
       let plan = table (OnBlock (Reading part)) in
-      let u = y now a x s ex none g in
-      starts now a x s ex none g (Read extent) plan x.seen (job_for now.size [] (OnBlock (Reading part))) tt among (within_offsets now.size part.extents (all_inside now.size part is)) refl refl (λ k. refl) refl
-      (λ idle. record { part = part; job = refl; is_part = is; of_block = tt; at = inl (record { buffer = u.buffer; is = λ i. record { task = Some (script_for now.size [] plan); held = (idle.held ∙ ap held_of (sym hold)) i; order = None; leads = idle.leads i; buffer = u.buffer }; saw = tt }) })
-      (λ l. record { part = part; job = refl; is_part = is; of_block = tt; at = inr (inr l) });
-  write = λ now a x extent content part s ex none hold is mode among g.
-      let plan = table (OnBlock (Writing part)) in
       let u = y now a x s ex none g in
       let b = part.block.0 in
       let os = offsets now.size part.extents in
-      starts now a x s ex none g (Write extent content) plan x.seen (job_for now.size content (OnBlock (Writing part))) tt among (starts_in b os content part.mode now.size s is.mode (g.mode ∙ sym mode) (within_offsets now.size part.extents (all_inside now.size part is)) (distinct_offsets now.size part.extents))
-      (reserves_in b os content part.mode s.shared) (order_in b os content part.mode) (λ k. among_in b os content part.mode) refl
-      (λ idle. record { part = part; job = refl; is_part = is; of_block = tt; at = inl (record { buffer = u.buffer; is = λ i. record { task = Some (script_for now.size content plan); held = (idle.held ∙ ap held_of (sym hold)) i; order = order_in b os content part.mode i; leads = idle.leads i; buffer = u.buffer }; saw = tt }) })
+      let tables = tables_agree now.size now.most [] None part [] in
+      starts now a x s ex none g (Read extent) plan x.seen (job_for now.size [] (OnBlock (Reading part))) tt among (read_starts b os part.mode now.size s (g.mode ∙ sym mode) (within_offsets now.size part.extents (all_inside now.size part is)))
+      (read_reserves b os part.mode s.shared) (read_order b os part.mode) (λ k. read_among b os part.mode) refl
+      (λ idle. record { part = part; job = refl; is_part = is; of_block = tt; at = inl (record { place = None; buffer = u.buffer; is = λ i. record { task = Some (sym tables.0 i); held = (idle.held ∙ ap held_of (sym hold)) i; order = read_order b os part.mode i; leads = idle.leads i; buffer = u.buffer }; saw = tt; unmaps = tt }) })
+      (λ l. record { part = part; job = refl; is_part = is; of_block = tt; at = inr (inr l) });
+  write = λ now a x extent content part s ex none hold is mode among g.
+      let plan = table (OnBlock (write_of part)) in
+      let u = y now a x s ex none g in
+      let b = part.block.0 in
+      let os = offsets now.size part.extents in
+      let j = job_written now.size content part in
+      starts now a x s ex none g (Write extent content) plan x.seen (job_for now.size content (OnBlock (write_of part))) tt among (subst (MayStart now.size s) (sym j) (starts_in b os content part.mode now.size s (g.mode ∙ sym mode) (within_offsets now.size part.extents (all_inside now.size part is)) (distinct_offsets now.size part.extents)))
+      (ap (abstract_reserved s.shared) j ∙ reserves_in b os content part.mode s.shared) (ap abstract_order_of j ∙ order_in b os content part.mode) (λ k. ap job_alone j ∙ among_in b os content part.mode) refl
+      (λ idle. record { part = part; job = refl; is_part = is; of_block = tt; at = inl (record { place = None; buffer = u.buffer; is = λ i. record { task = Some (sym (write_agrees now.size now.most content part) i); held = (idle.held ∙ ap held_of (sym hold)) i; order = (ap abstract_order_of j ∙ order_in b os content part.mode) i; leads = idle.leads i; buffer = u.buffer }; saw = tt; unmaps = tt }) })
+      (λ l. record { part = part; job = refl; is_part = is; of_block = tt; at = inr (inr l) });
+  invalidate = λ now a x block part s ex none hold is mode among g.
+      let plan = table (OnBlock (Invalidating part)) in
+      let u = y now a x s ex none g in
+      starts now a x s ex none g (Invalidate block) plan x.seen (job_for now.size [] (OnBlock (Invalidating part))) tt among (g.mode ∙ mode) refl refl (λ k. refl) refl
+      (λ idle. record { part = part; job = refl; is_part = is; of_block = tt; at = inl (record { place = None; buffer = u.buffer; is = λ i. record { task = Some (script_for now.size [] None plan); held = (idle.held ∙ ap held_of (sym hold)) i; order = None; leads = idle.leads i; buffer = u.buffer }; saw = tt; unmaps = tt }) })
       (λ l. record { part = part; job = refl; is_part = is; of_block = tt; at = inr (inr l) });
   flush = λ now a x serves s ex none among g.
       let plan = table (Flushing serves now.most) in
       let u = y now a x s ex none g in
       starts now a x s ex none g Flush plan x.seen (commit_there false) tt among refl refl refl (λ k. refl) refl
-      (λ idle. record { blocks = serves; job = refl; steps = (refl, refl, refl); at = inl (record { leads = false; at = refl; has_failed = λ e n. absurd (cc); is = record { buffer = u.buffer; is = λ i. record { task = Some (script_for now.size [] plan); held = idle.held i; order = None; leads = idle.leads i; buffer = u.buffer } } }) })
+      (λ idle. record { blocks = serves; job = refl; steps = (refl, refl, refl); at = inl (record { leads = false; at = refl; has_failed = λ e n. absurd (cc); is = record { buffer = u.buffer; is = λ i. record { task = Some (script_for now.size [] None plan); held = idle.held i; order = None; leads = idle.leads i; buffer = u.buffer } } }) })
       (λ l. record { blocks = serves; job = refl; steps = (refl, refl, refl); at = inr l });
   suspend = λ now a x looks seen' s ex rest g.
       let plan = table (Suspending looks now.most) in
@@ -114,6 +131,15 @@ starts_followed = record {
       (λ l. record { blocks = looks; job = refl; steps = to_look now.most looks; at = inr l });
 }
   where
+    -- a write begins as its table does, in its mode
+    write_agrees : (size most : ℕ) (content : Content) (part : BlockRange) → script_for size content None (table (OnBlock (write_of part))) ≡ table_there (job_for size content (OnBlock (write_of part)))
+    write_agrees size most content part = by part.mode
+      where
+        by : (mode : Mode) → script_for size content None (table (OnBlock (write_job mode part))) ≡ table_there (job_for size content (OnBlock (write_job mode part)))
+        by Writeback = (tables_agree size most content None part []).1
+        by Writethrough = (tables_agree size most content None part []).1
+        by Passthrough = (tables_agree size most content None part []).2
+
     -- nobody is at anything there
     nobody_at : (now : Situation) (s : World) (g : Agrees now s) → AreAtRest now.actors → (b : ℕ) (z : AbstractActor) → slice_get s.actors b ≡ Some z → z.task ≡ None
     nobody_at now s g rest b z e = let v = whose now s g b z e in (rests now.size now.most now.words v.0 z (g.each b v.0 z v.1 e) (rest b v.0 v.1)).0
@@ -123,6 +149,6 @@ starts_followed = record {
     to_look most [] = (refl, refl, refl)
     to_look most (b ∷ bs) = to_look most bs
 
-    looks_first : (size : ℕ) (looks : List OBlock) (most : ℕ) → script_for size [] (table (Suspending looks most)) ≡ table_there SuspendingThere
+    looks_first : (size : ℕ) (looks : List OBlock) (most : ℕ) → script_for size [] None (table (Suspending looks most)) ≡ table_there SuspendingThere
     looks_first size [] most = refl
     looks_first size (b ∷ bs) most = refl

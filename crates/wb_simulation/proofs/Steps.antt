@@ -1,5 +1,9 @@
 -- The steps of a read or write of one block are of that block.
 use Rattle.std.proofs.Common.{cond, ◌==◌, mod-lt, ◌≡◌, ◌≤◌, ◌<◌, ◌+◌, ◌*◌, ◌%◌, ◌^◌, ◌++◌, ◌∙◌, if◌then◌else◌, ℕ, Bool, true, false, List, [], ◌∷◌, Option, Some, None, refl, sym, ap, subst, Contains}
+use Rattle.wb_simulation.specs.Actors.{write_of}
+use Rattle.wb_promise.specs.Happenings.{write_job}
+use Rattle.wb_types.specs.declared.mode.Mode.TheVariants.{Writeback, Writethrough, Passthrough}
+use Rattle.wb_types.specs.declared.mode.Mode.{Mode}
 use Rattle.std.proofs.lemmas.Nat.{div-add-mod', mod-mul-add}
 use Rattle.wb_types.proofs.Lists.{Contains-first, Contains-behind}
 use Rattle.wb_types.specs.declared.extent.Extent.{Extent}
@@ -12,7 +16,7 @@ use Rattle.wb_words.specs.declared.step.CellResult.TheVariants.{Done as Won, Los
 use Rattle.wb_words.specs.declared.word.Word.TheVariants.{Cell as LockWord, Seal as SealWord, Number, Fail}
 use Rattle.wb_types.specs.declared.number.OBlock.{OBlock}
 use Rattle.wb_types.specs.declared.refusal.Refusal.TheVariants.{Failed, Worn, Busy}
-use Rattle.wb_tasks.specs.Tables.{TaskJob, BlockRange, Reading, Writing, Migrating, OnBlock, Flushing, Suspending, Opening, place_read, read_step, read_count, write_count, cache_extent, copies, ending, work}
+use Rattle.wb_tasks.specs.Tables.{TaskJob, BlockRange, Reading, Writing, Migrating, OnBlock, Flushing, Suspending, Opening, place_read, read_step, read_count, write_count, cache_extent, copies, ending, work, Displacing, Invalidating, writes}
 use Rattle.wb_tasks.specs.Plan.{work_of, after, got_of, onward, refused, may_take, exchange, is_worn, gives_back, steps_seeing}
 use Rattle.wb_tasks.specs.declared.step.Answer.{Answer}
 use Rattle.wb_tasks.specs.declared.step.Migration.TheVariants.{Promote, Demote, Clean}
@@ -68,6 +72,31 @@ module _ (size : ℕ) (part : BlockRange) (is : IsPart size part) where
       last : (place : Option CBlock) (dirty : Bool) → Of place dirty (Cell (Finish part.block) ∷ write_count place ∷ Cell (Release Owned part.block) ∷ [])
       last None dirty t = tt
       last (Some c) dirty t = tt
+
+  -- a write that displaces its block unmaps it, seals it to the origin, and writes there
+  origin_writes : (es : List Extent) (ws : List Want) → ((e : Extent) → Contains es e → IsOfBlock size part.block.0 e) → AreOfBlock size part.block.0 ws → AreOfBlock size part.block.0 (writes part (None ∷ []) es ++ ws)
+  origin_writes [] ws each w = w
+  origin_writes (e ∷ es) ws each w = (on_origin e (each e (Contains-first e es)), origin_writes es ws (λ f m. each f (Contains-behind e es f m)) w)
+
+  displacing_of_block : (place : Option CBlock) (dirty : Bool) → AreOfBlock size part.block.0 (work (Displacing part) place dirty)
+  displacing_of_block None dirty = origin_writes part.extents _ is.each tt
+  displacing_of_block (Some c) dirty = (refl, origin_writes part.extents _ is.each tt)
+
+  -- what a write does in its mode, and what an invalidation does
+  pub written_of_block : (seal : ℕ) → AreOfBlock size part.block.0 (work_of (OnBlock (write_of part)) seal)
+  written_of_block seal = by_mode part.mode
+    where
+      by_mode : (mode : Mode) → AreOfBlock size part.block.0 (work_of (OnBlock (write_job mode part)) seal)
+      by_mode Writeback = write_of_block seal
+      by_mode Writethrough = write_of_block seal
+      by_mode Passthrough = displacing_of_block (place_in seal) (dirty_in seal)
+
+  pub invalidating_of_block : (seal : ℕ) → AreOfBlock size part.block.0 (work_of (OnBlock (Invalidating part)) seal)
+  invalidating_of_block seal = by (place_in seal)
+    where
+      by : (place : Option CBlock) → AreOfBlock size part.block.0 (work (Invalidating part) place (dirty_in seal))
+      by None = tt
+      by (Some c) = (refl, tt)
 
 -- ---- what a migration has still to do
 

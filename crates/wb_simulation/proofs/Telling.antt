@@ -1,5 +1,6 @@
 -- What steps of an actor are told as.
 use Rattle.std.proofs.Common.{Bool, ◌≡◌, ◌≢◌, inl, inr, sym, subst, ℕ, List, [], ◌∷◌, Option, Some, None, refl}
+use Rattle.wb_types.specs.declared.number.CBlock.{CBlock}
 use Rattle.wb_disk.specs.Device.{Content}
 use Rattle.wb_words.specs.declared.card.Card.{Card}
 use Rattle.wb_tasks.specs.Tables.{TaskJob}
@@ -38,9 +39,9 @@ nothing_told a (Some script) results e = absurd (cc)
 -- ---- answers
 
 -- who is at the same there, with nothing left, answers the same
-pub answers_at : (size : ℕ) (content : Content) (job : TaskJob) (answer : Answer) (y : AbstractActor) → y.task ≡ Some (script_for size content (record { job = job; steps = []; answer = answer })) → AnswersSo (job_for size content job) answer y.task
-answers_at size content job Finished y e = subst (λ (t : Option Script). AnswersSo (job_for size content job) Finished t) (sym e) (refl, refl, refl)
-answers_at size content job (Refuses refusal) y e = subst (λ (t : Option Script). AnswersSo (job_for size content job) (Refuses refusal) t) (sym e) (refl, refused_undone (job_for size content job) refusal)
+pub answers_at : (size : ℕ) (content : Content) (place : Option CBlock) (job : TaskJob) (answer : Answer) (y : AbstractActor) → y.task ≡ Some (script_for size content place (record { job = job; steps = []; answer = answer })) → AnswersSo (job_for size content job) answer y.task
+answers_at size content place job Finished y e = subst (λ (t : Option Script). AnswersSo (job_for size content job) Finished t) (sym e) (refl, refl, refl)
+answers_at size content place job (Refuses refusal) y e = subst (λ (t : Option Script). AnswersSo (job_for size content job) (Refuses refusal) t) (sym e) (refl, refused_undone (job_for size content job) refusal)
 
 pub stopped_answers : (job : AbstractJob) (failed : Bool) (plan : Plan) (card : Card) (answer : Answer) (y : AbstractActor) → plan.answer ≡ answer → HasStopped failed plan card y → AnswersSo job answer y.task
 stopped_answers job failed plan card Finished y e k = absurd (k.refused e)

@@ -1,5 +1,5 @@
 -- What the abstract world's clerk notes of the steps of an actor's task.
-use Rattle.std.proofs.Common.{◌≡◌, ◌≢◌, ◌<◌, ◌≤◌, ◌+◌, ◌*◌, ◌∙◌, ◌++◌, inl, inr, ℕ, zero, suc, Bool, false, cond, List, [], ◌∷◌, Option, Some, None, length, map, refl, sym, ap, subst, arith, slice_get, unwrap_or}
+use Rattle.std.proofs.Common.{◌≡◌, ◌≢◌, ◌<◌, ◌≤◌, ◌+◌, ◌*◌, ◌∙◌, ◌++◌, inl, inr, ℕ, zero, suc, Bool, false, cond, List, [], ◌∷◌, Option, Some, None, length, map, refl, sym, ap, subst, arith, slice_get, unwrap_or, true}
 use Rattle.std.proofs.lemmas.Bool.{cases_eq, lt-ltb}
 use Rattle.std.proofs.lemmas.Option.{slice_get-get_or}
 use Rattle.wb_types.specs.Extents.{rising}
@@ -14,7 +14,7 @@ use Rattle.wb_link.specs.Tables.{Script, Job, Reading, Writing, Writing_through,
 use Rattle.wb_link.specs.World.{AreAlike, Step, task_after}
 use Rattle.wb_link.specs.Clerk.{AbstractNotes, Entry, entry, added_each, entered_each, abstract_note, abstract_noted_step, histories_after, entered_after, finished_after, abstract_floors_after, job_noted, AbstractGivesLatest}
 use Rattle.wb_refines.specs.Going.{records}
-use Rattle.wb_refines.specs.Translation.{writing_in}
+use Rattle.wb_refines.specs.Translation.{writing_in, reading_in}
 use Rattle.wb_promise.specs.Clerk.{Position, Entering, enter, enter_each, next_position}
 use Rattle.wb_link.proofs.Actors.{job_on}
 use Rattle.wb_simulation.specs.Noting.{AreEntries}
@@ -97,9 +97,19 @@ alike_newest : (histories : ℕ → ℕ → History) (b : ℕ) (there : ℕ → 
 alike_newest histories b there zero o k = tt
 alike_newest histories b there (suc count) o k = (k.0, alike_newest histories b there count (o + 1) k.1)
 
-pub reads_newest : (location : Option ℕ) (b : ℕ) (all : List (List ℕ)) (contents : List Content) (there : ℕ → Content) (o : ℕ) (m : AbstractNotes) (a : ℕ) → m.jobs a ≡ Some (Reading false b all) → contents ≡ map there (rising o (length contents)) →
+-- whether a read is past the cache
+abbrev pub is_past : Mode → Bool
+is_past Passthrough = true
+is_past mode = false
+
+pub reads_past : (mode : Mode) (b : ℕ) (all : List (List ℕ)) → reading_in mode b all ≡ Reading (is_past mode) b all
+reads_past Writeback b all = refl
+reads_past Writethrough b all = refl
+reads_past Passthrough b all = refl
+
+pub reads_newest : (mode : Mode) (location : Option ℕ) (b : ℕ) (all : List (List ℕ)) (contents : List Content) (there : ℕ → Content) (o : ℕ) (m : AbstractNotes) (a : ℕ) → m.jobs a ≡ Some (reading_in mode b all) → contents ≡ map there (rising o (length contents)) →
     AbstractGivesLatest m.histories (m.jobs a) (Read_all location b (rising o (length contents))) (Gave there) → AreNewest m.histories b o contents
-reads_newest location b all contents there o m a j is r = subst (λ (cs : List Content). AreNewest m.histories b o cs) (sym is) (alike_newest m.histories b there (length contents) o (subst (λ (k : Option Job). AbstractGivesLatest m.histories k (Read_all location b (rising o (length contents))) (Gave there)) j r))
+reads_newest mode location b all contents there o m a j is r = subst (λ (cs : List Content). AreNewest m.histories b o cs) (sym is) (alike_newest m.histories b there (length contents) o (subst (λ (k : Option Job). AbstractGivesLatest m.histories k (Read_all location b (rising o (length contents))) (Gave there)) (j ∙ ap (λ (k : Job). Some k) (reads_past mode b all)) r))
 
 -- ---- writes
 

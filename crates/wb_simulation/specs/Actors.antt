@@ -5,7 +5,7 @@ use Rattle.wb_words.specs.SharedWords.{Words, flag}
 use Rattle.wb_words.specs.declared.card.Card.{Card}
 use Rattle.wb_words.specs.declared.step.CellStep.TheVariants.{Look, SetFailed, SetSuspended}
 use Rattle.wb_words.specs.declared.word.Word.TheVariants.{Fail, Seal as SealWord}
-use Rattle.wb_tasks.specs.Tables.{BlockRange, BlockJob, Reading, Writing, OnBlock}
+use Rattle.wb_tasks.specs.Tables.{BlockRange, BlockJob, Reading, Invalidating, OnBlock}
 use Rattle.wb_tasks.specs.Plan.{Plan, table}
 use Rattle.wb_tasks.specs.declared.step.Answer.TheVariants.{Done as Finished}
 use Rattle.wb_tasks.specs.declared.step.Want.{Want}
@@ -19,8 +19,9 @@ use Rattle.wb_refines.specs.Models.{IsAt, HasStopped, IsBelow}
 use Rattle.wb_refines.specs.Commits.{IsCommitting, IsToBegin, IsOnMetadata, commit_task}
 use Rattle.wb_refines.specs.Tasks.{IsResting}
 use Rattle.wb_promise.specs.declared.job.Job.{Job}
-use Rattle.wb_promise.specs.declared.job.Job.TheVariants.{Read, Write, Flush, Suspend, Open, Migrate, Replace}
+use Rattle.wb_promise.specs.declared.job.Job.TheVariants.{Read, Write, Flush, Suspend, Open, Invalidate, Migrate, Replace}
 use Rattle.wb_promise.specs.States.{Actor}
+use Rattle.wb_promise.specs.Happenings.{write_job}
 use Rattle.wb_simulation.specs.Steps.{IsPart, AreOfBlock}
 
 -- A task that began though its actor has still what it kept at a failure: there it has none, and it ends at its look at the fail word.
@@ -29,7 +30,7 @@ pub record IsLate (failed : Bool) (plan : Plan) (y : AbstractActor) : Type 0 whe
   pub nothing : y.task ≡ None
   pub at : (plan ≡ table plan.job) ⊎ ((plan.steps ≡ []) × (plan.answer ≢ Finished))
 
--- a read or write, which writes this: it is at the same there, has only to answer, or is late
+-- a read, a write of this, or an invalidation: it is at the same there, has only to answer, or is late
 pub record IsRequestAt (size : ℕ) (content : Content) (failed : Bool) (job_on : BlockRange → BlockJob) (plan : Plan) (card : Card) (y : AbstractActor) : Type 0 where
   pub part : BlockRange
   pub job : plan.job ≡ OnBlock (job_on part)
@@ -78,12 +79,17 @@ pub record IsCommitAt (size most : ℕ) (failed clean : Bool) (plan : Plan) (y :
   pub steps : IsOfCommit clean most plan.steps
   pub at : IsLeading size failed plan y ⊎ IsLate failed plan y
 
+-- a write of this part, in its mode
+abbrev pub write_of : BlockRange → BlockJob
+write_of part = write_job part.mode part
+
 -- what an actor with this job is there; of a migration `Carried` speaks
 abbrev pub IsDoing : (size most : ℕ) → Bool → Job → Plan → Card → AbstractActor → Type 0
 IsDoing size most failed (Read extent) plan card y = IsRequestAt size [] failed Reading plan card y
-IsDoing size most failed (Write extent content) plan card y = IsRequestAt size content failed Writing plan card y
+IsDoing size most failed (Write extent content) plan card y = IsRequestAt size content failed write_of plan card y
 IsDoing size most failed Flush plan card y = IsCommitAt size most failed false plan y
 IsDoing size most failed Suspend plan card y = IsCommitAt size most failed true plan y
+IsDoing size most failed (Invalidate block) plan card y = IsRequestAt size [] failed Invalidating plan card y
 IsDoing size most failed (Open mode) plan card y = ⊥
 IsDoing size most failed (Migrate migration block) plan card y = Unit {0}
 IsDoing size most failed (Replace old new) plan card y = ⊥

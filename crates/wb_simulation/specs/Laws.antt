@@ -1,8 +1,8 @@
 -- How what actors of a run do is followed in the abstract world, where a target stands.
-use Rattle.std.specs.Prelude.{◌++◌, Contains, ◌%◌, ◌≡◌, ◌≤◌, ◌+◌, ◌⊎◌, ℕ, Bool, true, false, cond, List, [], Some, None, length, replicate, slice_get, slice_set}
+use Rattle.std.specs.Prelude.{◌++◌, Contains, ◌%◌, ◌≡◌, ◌≤◌, ◌+◌, ◌⊎◌, ◌≢◌, ℕ, Bool, true, false, cond, List, [], Some, None, length, replicate, slice_get, slice_set}
 use Rattle.wb_types.specs.declared.extent.Extent.{Extent}
 use Rattle.wb_types.specs.declared.mode.Mode.{Mode}
-use Rattle.wb_types.specs.declared.mode.Mode.TheVariants.{Writeback}
+use Rattle.wb_types.specs.declared.mode.Mode.TheVariants.{Writeback, Passthrough}
 use Rattle.wb_types.specs.declared.mode.Dev.{Dev}
 use Rattle.wb_types.specs.declared.mode.Dev.TheVariants.{Metadata}
 use Rattle.wb_types.specs.declared.number.OBlock.{OBlock}
@@ -18,33 +18,33 @@ use Rattle.wb_words.specs.declared.step.CellStep.TheVariants.{Look, SetFailed, S
 use Rattle.wb_words.specs.declared.word.Word.TheVariants.{Fail, Seal as SealWord}
 use Rattle.wb_policy.specs.declared.order.Order.{Order}
 use Rattle.wb_tasks.specs.Plan.{Plan, want, after, got_of, table, device_of}
-use Rattle.wb_tasks.specs.Tables.{BlockRange, Reading, Writing, OnBlock, Flushing, Suspending}
+use Rattle.wb_tasks.specs.Tables.{BlockRange, Reading, Invalidating, OnBlock, Flushing, Suspending}
 use Rattle.wb_tasks.specs.declared.step.Answer.{Answer}
 use Rattle.wb_words.specs.declared.card.Hold.TheVariants.{Nothing}
 use Rattle.wb_tasks.specs.Ready.{Suits, HoldsBlocks}
 use Rattle.wb_tasks.specs.declared.step.Want.{Want}
 use Rattle.wb_tasks.specs.declared.step.Want.TheVariants.{Cell, Device, Desk, End}
-use Rattle.wb_tasks.specs.declared.step.DeskStep.TheVariants.{BeginCommit, EndCommit, ReleaseOrder}
+use Rattle.wb_tasks.specs.declared.step.DeskStep.TheVariants.{Unmap, BeginCommit, EndCommit, ReleaseOrder}
 use Rattle.wb_tasks.specs.declared.step.DeviceStep.{DeviceStep}
 use Rattle.wb_tasks.specs.declared.step.DeviceStep.TheVariants.{Read as ReadExtent, Write as WriteExtent, Sync, WriteRoot}
 use Rattle.wb_tasks.specs.declared.step.Got.{Got}
 use Rattle.wb_tasks.specs.declared.step.Got.TheVariants.{Done, Fault, Began, Refused}
 use Rattle.wb_devices.specs.Moving.{device_in}
-use Rattle.wb_link.specs.Tables.{Job as AbstractJob}
+use Rattle.wb_link.specs.Tables.{Script, Order as AbstractOrder, Unmap_plain, Done as DoneThere, Job as AbstractJob}
 use Rattle.wb_refines.specs.Translation.{job_for}
-use Rattle.wb_link.specs.World.{World, abstract_begins as world_begins}
+use Rattle.wb_link.specs.World.{World, AbstractActor, MayStep, abstract_begins as world_begins}
 use Rattle.wb_refines.specs.Commits.{IsNoBegin, IsWrittenAfter, commit_there}
 use Rattle.wb_promise.specs.declared.job.Job.{Job}
-use Rattle.wb_promise.specs.declared.job.Job.TheVariants.{Read, Write, Flush, Suspend}
+use Rattle.wb_promise.specs.declared.job.Job.TheVariants.{Read, Write, Flush, Suspend, Invalidate}
 use Rattle.wb_promise.specs.States.{Actor, resting, with_device}
 use Rattle.wb_promise.specs.Clerk.{is_entered}
 use Rattle.wb_runs.specs.Holding.{cards_of}
-use Rattle.wb_simulation.specs.Actors.{AreAmongOthers}
+use Rattle.wb_simulation.specs.Actors.{AreAmongOthers, write_of}
 use Rattle.wb_simulation.specs.Opened.{AreAtRest}
 use Rattle.wb_simulation.specs.Carried.{held}
 use Rattle.wb_simulation.specs.Steps.{IsPart}
 use Rattle.wb_simulation.specs.Telling.{Telling, Quietly, Reads, Writes, Answers, Starts, Releases}
-use Rattle.wb_simulation.specs.Worlds.{zeros, Situation, Agrees, Turn, Stays, Begins, Puts, Ends, GivesUp, WorldFollowsBy, WorldFollows}
+use Rattle.wb_simulation.specs.Worlds.{zeros, Situation, Agrees, Turn, Stays, Begins, Puts, Ends, Unmaps, GivesUp, WorldFollowsBy, WorldFollows}
 
 -- This actor, which is at this task, wants this next, and the run stands where the world does.
 pub record WantsNext (now : Situation) (a : ℕ) (x : Actor) (s : World) (job : Job) (plan : Plan) (next : Want) : Type 0 where
@@ -56,13 +56,14 @@ pub record WantsNext (now : Situation) (a : ℕ) (x : Actor) (s : World) (job : 
 abbrev pub IsRequestJob : Job → Type 0
 IsRequestJob (Read extent) = Unit {0}
 IsRequestJob (Write extent content) = Unit {0}
+IsRequestJob (Invalidate block) = Unit {0}
 IsRequestJob job = ⊥
 
 -- an actor that has done this step of its task on the words
 abbrev pub stepped_actor : Words → Job → Plan → CellStep → Actor → Actor
 stepped_actor words job plan step x = record x { task = Some (job, after plan (got_of (result_of words step))); card = card_after words step x.card }
 
--- A step of a read or a write on the shared words, which keep their rule, among all others who have tasks.
+-- A step of a read, a write or an invalidation on the shared words, which keep their rule, among all others who have tasks.
 abbrev pub CellStepsFollowed : Type 0
 CellStepsFollowed = (now : Situation) (blocks : ℕ) (a : ℕ) (x : Actor) (job : Job) (plan : Plan) (step : CellStep) (s : World) →
     IsRequestJob job → LockRule blocks now.words (cards_of now.actors) → WantsNext now a x s job plan (Cell step) → Suits blocks plan x.card →
@@ -85,25 +86,28 @@ pub record ExtentStepsFollowed : Type 0 where
       WantsNext now a x s (Read extent) plan (Device (ReadExtent device e)) → plan.job ≡ OnBlock (Reading part) → Suits blocks plan x.card → HoldsBlocks device →
       WorldFollows Quietly a s now (after_step (Read extent) plan Fault x)
   pub write_done : (now : Situation) (blocks : ℕ) (a : ℕ) (x : Actor) (extent : Extent) (content : Content) (part : BlockRange) (plan : Plan) (device : Dev) (e : Extent) (s : World) →
-      WantsNext now a x s (Write extent content) plan (Device (WriteExtent device e)) → plan.job ≡ OnBlock (Writing part) → Suits blocks plan x.card → HoldsBlocks device → e.first + e.count ≤ length (device_in device now.devices) →
+      WantsNext now a x s (Write extent content) plan (Device (WriteExtent device e)) → plan.job ≡ OnBlock (write_of part) → Suits blocks plan x.card → HoldsBlocks device → e.first + e.count ≤ length (device_in device now.devices) →
       WorldFollows (written_as part.mode device part.block.0 (e.first % now.size) e.count content) a s (record now { devices = with_device device now.devices (written_each (device_in device now.devices) e.first (replicate e.count content)) }) (after_step (Write extent content) plan Done x)
   pub write_fails : (now : Situation) (blocks : ℕ) (a : ℕ) (x : Actor) (extent : Extent) (content : Content) (part : BlockRange) (plan : Plan) (device : Dev) (e : Extent) (lands : ℕ → Bool) (s : World) →
-      WantsNext now a x s (Write extent content) plan (Device (WriteExtent device e)) → plan.job ≡ OnBlock (Writing part) → Suits blocks plan x.card → HoldsBlocks device → e.first + e.count ≤ length (device_in device now.devices) →
+      WantsNext now a x s (Write extent content) plan (Device (WriteExtent device e)) → plan.job ≡ OnBlock (write_of part) → Suits blocks plan x.card → HoldsBlocks device → e.first + e.count ≤ length (device_in device now.devices) →
       WorldFollows (written_as part.mode device part.block.0 (e.first % now.size) e.count content) a s (record now { devices = with_device device now.devices (written_where lands (device_in device now.devices) e.first (replicate e.count content)) }) (after_step (Write extent content) plan Fault x)
 
 -- The job is given to the actor there too, or to nobody, since the actor has kept something at a failure.
 abbrev pub Begun : AbstractJob → ℕ → World → Situation → Actor → Type 0
 Begun job a s now x = WorldFollows (Starts job) a s now x ⊎ WorldFollows Quietly a s now x
 
--- A read or write of one part of a block, or a flush, begins where nobody suspends, and a suspend where nobody is at anything, whether its actor has
+-- A read, write or invalidation of one part of a block, or a flush, begins where nobody suspends, and a suspend where nobody is at anything, whether its actor has
 -- kept something at a failure or not.
 pub record StartsFollowed : Type 0 where
   pub read : (now : Situation) (a : ℕ) (x : Actor) (extent : Extent) (part : BlockRange) (s : World) →
-      slice_get now.actors a ≡ Some x → x.task ≡ None → x.card.hold ≡ Nothing → IsPart now.size part → AreAmongOthers now.actors → Agrees now s →
+      slice_get now.actors a ≡ Some x → x.task ≡ None → x.card.hold ≡ Nothing → IsPart now.size part → part.mode ≡ now.mode → AreAmongOthers now.actors → Agrees now s →
       Begun (job_for now.size [] (OnBlock (Reading part))) a s now (record x { task = Some (Read extent, table (OnBlock (Reading part))) })
   pub write : (now : Situation) (a : ℕ) (x : Actor) (extent : Extent) (content : Content) (part : BlockRange) (s : World) →
       slice_get now.actors a ≡ Some x → x.task ≡ None → x.card.hold ≡ Nothing → IsPart now.size part → part.mode ≡ now.mode → AreAmongOthers now.actors → Agrees now s →
-      Begun (job_for now.size content (OnBlock (Writing part))) a s now (record x { task = Some (Write extent content, table (OnBlock (Writing part))) })
+      Begun (job_for now.size content (OnBlock (write_of part))) a s now (record x { task = Some (Write extent content, table (OnBlock (write_of part))) })
+  pub invalidate : (now : Situation) (a : ℕ) (x : Actor) (block : OBlock) (part : BlockRange) (s : World) →
+      slice_get now.actors a ≡ Some x → x.task ≡ None → x.card.hold ≡ Nothing → IsPart now.size part → now.mode ≡ Passthrough → AreAmongOthers now.actors → Agrees now s →
+      Begun (job_for now.size [] (OnBlock (Invalidating part))) a s now (record x { task = Some (Invalidate block, table (OnBlock (Invalidating part))) })
   pub flush : (now : Situation) (a : ℕ) (x : Actor) (serves : List OBlock) (s : World) →
       slice_get now.actors a ≡ Some x → x.task ≡ None → AreAmongOthers now.actors → Agrees now s →
       Begun (commit_there false) a s now (record x { task = Some (Flush, table (Flushing serves now.most)) })
@@ -111,12 +115,29 @@ pub record StartsFollowed : Type 0 where
       slice_get now.actors a ≡ Some x → AreAtRest now.actors → Agrees now s →
       Begun (commit_there true) a s now (record x { task = Some (Suspend, table (Suspending looks now.most)); seen = seen' })
 
+-- nobody has an order, nor is one aside
+pub record HasNoOrder (s : World) : Type 0 where
+  pub nobody : (b : ℕ) (z : AbstractActor) (p : AbstractOrder) → slice_get s.actors b ≡ Some z → z.order ≢ Some p
+  pub none_waits : (c : ℕ) (p : AbstractOrder) → s.waiting c ≢ Some p
+
+-- Where a write or an invalidation asks the desk to unmap its block, its actor may unmap it there, from a cache block; and where nobody has an order that is followed, whatever orders its actor
+-- is said to have.
+pub record UnmapFollowed (now : Situation) (a : ℕ) (x : Actor) (job : Job) (plan : Plan) (block : OBlock) (s : World) : Type 0 where
+  pub cache : ℕ
+  pub actor : AbstractActor
+  pub script : Script
+  pub may : MayStep s a (Unmap_plain block.0 cache) DoneThere actor script
+  pub follows : HasNoOrder s → (orders' awaiting' : List Order) → WorldFollowsBy (Unmaps block.0 cache None) Quietly a s now (record (after_step job plan Done x) { orders = orders'; awaiting = awaiting' })
+
+abbrev pub UnmapsFollowed : Type 0
+UnmapsFollowed = (now : Situation) (blocks : ℕ) (a : ℕ) (x : Actor) (job : Job) (block : OBlock) (plan : Plan) (s : World) → IsRequestJob job → WantsNext now a x s job plan (Desk (Unmap block)) → Suits blocks plan x.card → UnmapFollowed now a x job plan block s
+
 -- what a job writes to each of its sectors
 abbrev pub job_content : Job → Content
 job_content (Write extent content) = content
 job_content job = []
 
--- A read or write is answered, whether it was done, refused, or stopped by a failure.
+-- A read, write or invalidation is answered, whether it was done, refused, or stopped by a failure.
 abbrev pub AnswersFollowed : Type 0
 AnswersFollowed = (now : Situation) (blocks : ℕ) (a : ℕ) (x : Actor) (job : Job) (plan : Plan) (answer : Answer) (s : World) →
     IsRequestJob job → WantsNext now a x s job plan (End answer) → Suits blocks plan x.card →

@@ -2,7 +2,7 @@
 -- stands: its start, each of its steps, and its answer.
 use Rattle.std.specs.Prelude.{◌≢◌, ◌⊎◌, ◌++◌, ◌≡◌, ◌≤◌, ◌<◌, ◌+◌, ◌^◌, ℕ, Bool, List, ◌∷◌, Option, Some, None, Contains, length, slice_get, slice_set}
 use Rattle.wb_types.specs.declared.extent.Extent.{Extent}
-use Rattle.wb_types.specs.declared.mode.Mode.TheVariants.{Writeback}
+use Rattle.wb_types.specs.declared.mode.Mode.TheVariants.{Writeback, Passthrough}
 use Rattle.wb_types.specs.declared.mode.Dev.{Dev}
 use Rattle.wb_types.specs.declared.number.OBlock.{OBlock}
 use Rattle.wb_types.specs.declared.number.CBlock.{CBlock}
@@ -109,10 +109,10 @@ pub record TurnsOrder (c a : ℕ) (s : World) (now : Situation) (x y : Actor) (b
   pub follows : Carried (Unmaps block.0 c (Some new.0)) a s now y
 
 pub record MigrationsFollowed : Type 0 where
-  -- under an order that is given
+  -- under an order that is given, in a mode that caches
   pub starts : (now : Situation) (a : ℕ) (x : Actor) (migration : Migration) (block : OBlock) (c : CBlock) (next : Option ℕ) (order : Order) (cut : List Extent) (s : World) →
       slice_get now.actors a ≡ Some x → x.task ≡ None → x.card.hold ≡ Nothing → 0 < now.size → c.0 < 2 ^ 32 → IsCutInto (whole_block now.size block) cut → slice_get now.orders c.0 ≡ Some None → IsOrderFor migration block next order → order_there s.shared.mapping c.0 order ≡ order_of_block block c next → IsUngiven s.shared.mapping now.orders (order_of_block block c next) → ((b : ℕ) → next ≡ Some b → s.shared.mapping b ≡ None) →
-      MayBeGiven migration block.0 c.0 s.shared → AreAmongOthers now.actors → Agrees now s →
+      MayBeGiven migration block.0 c.0 s.shared → now.mode ≢ Passthrough → AreAmongOthers now.actors → Agrees now s →
       WorldFollowsBy (given_by migration c.0) Resumes a s (record now { orders = slice_set now.orders c.0 (Some order) })
       (record x { task = Some (Migrate migration block, migrates now.size migration block cut); orders = order ∷ x.orders })
   -- under one that lives and is its actor's alone

@@ -6,11 +6,11 @@ use Rattle.wb_disk.specs.Device.{Content, History, newest, only}
 use Rattle.wb_contents.specs.Devices.{by_block}
 use Rattle.wb_tasks.specs.declared.step.Answer.TheVariants.{Done as Finished, Refused as Refuses}
 use Rattle.wb_types.specs.declared.refusal.Refusal.{Refusal}
-use Rattle.wb_link.specs.Tables.{Job as AbstractJob, Reading}
+use Rattle.wb_link.specs.Tables.{Job as AbstractJob, Invalidating}
 use Rattle.wb_link.specs.World.{World, Shared, Record, AbstractActor, abstract_after_all}
 use Rattle.wb_link.specs.Clerk.{AbstractNotes, abstract_opened}
 use Rattle.wb_link.specs.Openings.{On, abstract_noted, AllEventsRight, emptied}
-use Rattle.wb_refines.specs.Translation.{writing_in}
+use Rattle.wb_refines.specs.Translation.{reading_in, writing_in}
 use Rattle.wb_refines.specs.Commits.{commit_there}
 use Rattle.wb_promise.specs.declared.job.Job.{Job}
 use Rattle.wb_promise.specs.Clerk.{Notes, Doing, begins, begun, put, nobody, entering, enter_each, write_note, all_raised, greater_of}
@@ -42,8 +42,9 @@ pub record NotesFollowed : Type 0 where
   pub write : (block offset count : ℕ) (content : Content) → Kept (Writes block offset count content) (λ size n a y Then. (doing : Doing) → slice_get n.doings a ≡ Some (Some doing) → offset + count ≤ size → block * size + offset + count ≤ length n.histories →
       Then (write_note n a doing (enter_each content (rising (block * size + offset) count) (entering n doing))))
   -- what a write entered is finished when it is answered done, and what was finished when a flush or a suspend began is durable then
-  pub read_answered : (block : ℕ) (os : List (List ℕ)) → Kept (Answers (Reading false block os) Finished) (λ size n a y Then. Then (put n a None))
+  pub read_answered : (mode : Mode) (block : ℕ) (os : List (List ℕ)) → Kept (Answers (reading_in mode block os) Finished) (λ size n a y Then. Then (put n a None))
   pub write_answered : (mode : Mode) (block : ℕ) (os : List (List ℕ)) (content : Content) → Kept (Answers (writing_in mode block os content) Finished) (λ size n a y Then. (doing : Doing) → slice_get n.doings a ≡ Some (Some doing) → Then (put (record n { finished = all_raised n.finished doing.entered }) a None))
+  pub invalidation_answered : (block : ℕ) → Kept (Answers (Invalidating block) Finished) (λ size n a y Then. Then (put n a None))
   pub commit_answered : (clean : Bool) → Kept (Answers (commit_there clean) Finished) (λ size n a y Then. (doing : Doing) → slice_get n.doings a ≡ Some (Some doing) → length doing.then_finished ≡ length n.floors → Then (put (record n { floors = greater_of n.floors doing.then_finished }) a None))
   pub refused : (job : AbstractJob) (refusal : Refusal) → Kept (Answers job (Refuses refusal)) (λ size n a y Then. Then (put n a None))
   -- who starts, or starts late, is noted to have entered nothing

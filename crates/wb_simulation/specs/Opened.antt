@@ -1,8 +1,7 @@
 -- What a target that an opening has made is in the abstract world.
-use Rattle.std.specs.Prelude.{◌≡◌, ◌≢◌, ◌≤◌, ◌^◌, ◌==◌, ℕ, Bool, true, false, cond, if◌then◌else◌, List, [], ◌∷◌, Option, Some, None, length, replicate, slice_get}
+use Rattle.std.specs.Prelude.{◌≡◌, ◌≤◌, ◌^◌, ◌==◌, ℕ, Bool, true, false, cond, if◌then◌else◌, List, [], ◌∷◌, Option, Some, None, length, replicate, slice_get}
 use Rattle.wb_types.specs.declared.entry.Entry.{Entry}
 use Rattle.wb_types.specs.declared.mode.Mode.{Mode}
-use Rattle.wb_types.specs.declared.mode.Mode.TheVariants.{Passthrough}
 use Rattle.wb_disk.specs.Device.{History}
 use Rattle.wb_contents.specs.Devices.{by_block}
 use Rattle.wb_words.specs.SharedWords.{fresh_words}
@@ -37,7 +36,7 @@ AreAtRest actors = (a : ℕ) (x : Actor) → slice_get actors a ≡ Some x → x
 -- makes of what it has learnt: where the tree has each block, and which are clean.
 abbrev pub OpenedFollowed : Type 0
 OpenedFollowed = (mode : Mode) (size most origin_blocks cache_blocks : ℕ) (clean : Bool) (entries : List (Option Entry)) (learnt : Learnt) (blocks : ℕ → Block) (s : Shared) (devices : Devices (List History)) (actors : List Actor) →
-    mode ≢ Passthrough → IsMapping cache_blocks origin_blocks entries → cache_blocks ≤ 2 ^ 32 → learnt.locations ≡ located entries → TakesClean clean entries learnt.clean →
+    IsMapping cache_blocks origin_blocks entries → cache_blocks ≤ 2 ^ 32 → learnt.locations ≡ located entries → TakesClean clean entries learnt.clean →
     s.origin ≡ by_block size zeros devices.origin → s.cache ≡ by_block size zeros devices.cache → AreAtRest actors →
     Agrees (record {
       mode = mode;

@@ -1,5 +1,6 @@
 -- When the three devices are those of the abstract world: what the data devices hold, and what the metadata may be read as.
 use Rattle.std.specs.Prelude.{◌≡◌, ◌≢◌, ◌⊎◌, ℕ, Bool, true, false, List, Option, Some, None, length, map}
+use Rattle.wb_devices.specs.Clean.{AreAllClean}
 use Rattle.wb_types.specs.declared.geometry.Geometry.{Geometry}
 use Rattle.wb_types.specs.declared.mode.Mode.{Mode}
 use Rattle.wb_types.specs.declared.mode.Mode.TheVariants.{Passthrough}
@@ -80,8 +81,8 @@ pub record OpeningsFollowed : Type 0 where
   pub cache_fails : Stages (λ geometry size committed later mode w devices. (lands : ℕ → Bool) → LeadsTo geometry size committed later w Gone (record devices { cache = synced_where lands devices.cache })) Caching
   pub syncs_origin : Stages (λ geometry size committed later mode w devices. LeadsTo geometry size committed later w (Opens mode Looking) (record devices { origin = synced devices.origin })) Basing
   pub origin_fails : Stages (λ geometry size committed later mode w devices. (lands : ℕ → Bool) → LeadsTo geometry size committed later w Gone (record devices { origin = synced_where lands devices.origin })) Basing
-  -- the tree that was read is that of the one image; a mode that caches takes it as it is
-  pub learns : (geometry : Geometry) (size : ℕ) (committed : Stored) (mode : Mode) (w : Site) (devices : Devices (List History)) (root : Root) (tree : Mapping) (used : List Place) → mode ≢ Passthrough → w.phase ≡ Opens mode Looking → DevicesAgree geometry size committed None devices w.world.shared → IsSettled devices.metadata →
+  -- the tree that was read is that of the one image; passthrough takes it where it was left clean
+  pub learns : (geometry : Geometry) (size : ℕ) (committed : Stored) (mode : Mode) (w : Site) (devices : Devices (List History)) (root : Root) (tree : Mapping) (used : List Place) → (mode ≡ Passthrough → (root.clean ≡ true) × AreAllClean tree) → w.phase ≡ Opens mode Looking → DevicesAgree geometry size committed None devices w.world.shared → IsSettled devices.metadata →
       RepresentsState (map newest devices.metadata) root tree used → FitsDevice (length devices.metadata) root tree used →
       (learnt : Learnt) × (learnt.locations ≡ (λ b. place_of tree.entries b)) × TakesClean root.clean tree.entries learnt.clean × LeadsTo geometry size committed None w (Opens mode (Rooting learnt)) devices
   pub look_stops : Stages (λ geometry size committed later mode w devices. LeadsTo geometry size committed later w Gone devices) Looking

@@ -1,6 +1,5 @@
 -- What holds of the steps that a read or write of one block has still to take.
-use Rattle.std.specs.Prelude.{◌≡◌, ◌≢◌, ◌≤◌, ◌<◌, ◌+◌, ◌/◌, ◌%◌, ℕ, List, [], ◌∷◌, Contains}
-use Rattle.wb_types.specs.declared.mode.Mode.TheVariants.{Passthrough}
+use Rattle.std.specs.Prelude.{◌≡◌, ◌≤◌, ◌<◌, ◌+◌, ◌/◌, ◌%◌, ℕ, List, [], ◌∷◌, Contains}
 use Rattle.wb_types.specs.declared.extent.Extent.{Extent}
 use Rattle.wb_words.specs.SharedWords.{place_in, seal_word}
 use Rattle.wb_words.specs.declared.step.CellStep.TheVariants.{Release, Seal}
@@ -17,10 +16,9 @@ pub record IsOfBlock (size block : ℕ) (e : Extent) : Type 0 where
   pub block_is : e.first / size ≡ block
   pub room : e.first % size + e.count ≤ size
 
--- a part of one block of so many sectors, in a mode that caches
+-- a part of one block of so many sectors
 pub record IsPart (size : ℕ) (part : BlockRange) : Type 0 where
   pub some : 0 < size
-  pub mode : part.mode ≢ Passthrough
   pub sized : size ≡ part.block_sectors
   pub each : (e : Extent) → Contains part.extents e → IsOfBlock size part.block.0 e
 

@@ -9,7 +9,7 @@ use Rattle.wb_tasks.specs.declared.step.Answer.TheVariants.{Done as Finished, Re
 use Rattle.wb_link.specs.Tables.{Script, Flag, abstract_table, Job, Reading, Writing_through, Promoting, Returning, Want, Read_all, Write_all, End, Got, Gave, Done, Finished as AnsweredDone, Answer as AbstractAnswer, abstract_want}
 use Rattle.wb_link.specs.World.{Release, Record, Start, Again, task_after}
 use Rattle.wb_refines.specs.Going.{records}
-use Rattle.wb_refines.specs.Translation.{writing_in}
+use Rattle.wb_refines.specs.Translation.{reading_in, writing_in}
 
 -- A step of a job of which nothing is noted: no answer, and no write but that by which a write in write-through puts on the cache what the origin has.
 abbrev pub IsUnnoted : Want → Job → Type 0
@@ -25,8 +25,8 @@ AreUnnoted (Some script) [] = Unit {0}
 AreUnnoted (Some script) (got ∷ gots) = IsUnnoted (abstract_want script) script.job × AreUnnoted (task_after script (abstract_want script) got) gots
 
 -- a job of one block
-abbrev pub reading : ℕ → List (List ℕ) → List Want → AbstractAnswer → Script
-reading block all steps answer = record { job = Reading false block all; steps = steps; answer = answer }
+abbrev pub reading : Mode → ℕ → List (List ℕ) → List Want → AbstractAnswer → Script
+reading mode block all steps answer = record { job = reading_in mode block all; steps = steps; answer = answer }
 
 abbrev pub writing : Mode → ℕ → List (List ℕ) → Content → List Want → AbstractAnswer → Script
 writing mode block all content steps answer = record { job = writing_in mode block all content; steps = steps; answer = answer }
@@ -69,13 +69,14 @@ pub data Telling : Type 0 where
 
 -- the next step of a read is this
 pub record IsReadNext (a block offset : ℕ) (contents : List Content) (task : Option Script) (told : List Record) : Type 0 where
+  pub mode : Mode
   pub location : Option ℕ
   pub all : List (List ℕ)
   pub rest : List Want
   pub answer : AbstractAnswer
   pub there : ℕ → Content
   pub given : contents ≡ map there (rising offset (length contents))
-  pub at : task ≡ Some (reading block all (Read_all location block (rising offset (length contents)) ∷ rest) answer)
+  pub at : task ≡ Some (reading mode block all (Read_all location block (rising offset (length contents)) ∷ rest) answer)
   pub told_is : told ≡ records a task (Gave there ∷ [])
 
 -- and that of a write, which is noted

@@ -1,7 +1,6 @@
 -- When a state of a run, where a target stands, is a state of the abstract world; and when what happens there is a run of that world.
 use Rattle.std.specs.Prelude.{cond, ◌≡◌, ◌≢◌, ◌⊎◌, ℕ, Bool, true, false, List, [], Option, Some, None, length, replicate, slice_get, slice_set}
 use Rattle.wb_types.specs.declared.mode.Mode.{Mode}
-use Rattle.wb_types.specs.declared.mode.Mode.TheVariants.{Passthrough}
 use Rattle.wb_disk.specs.Device.{Content, History}
 use Rattle.wb_contents.specs.Devices.{by_block}
 use Rattle.wb_contents.specs.Volume.{Locations, changed}
@@ -59,13 +58,12 @@ pub record Situation : Type 0 where
   pub devices : Devices (List History)
   pub actors : List Actor
 
--- The run stands where this state of the world stands for it, in the same mode, which is one that caches. Each actor of the run is one of the world.
+-- The run stands where this state of the world stands for it, in the same mode. Each actor of the run is one of the world.
 pub record Agrees (now : Situation) (s : World) : Type 0 where
   pub words_agree : WordsAgree now.words s.shared
   pub origin : s.shared.origin ≡ by_block now.size zeros now.devices.origin
   pub cache : s.shared.cache ≡ by_block now.size zeros now.devices.cache
   pub mode : s.shared.mode ≡ now.mode
-  pub caches : now.mode ≢ Passthrough
   pub commits : s.shared.committing ≡ now.committing
   -- a commit that was broken runs for good
   pub broken : s.shared.broken ≡ true → s.shared.committing ≡ true

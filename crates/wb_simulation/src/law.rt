@@ -4,7 +4,7 @@ ghost use Rattle.wb_simulation.specs.Noted.{NotesFollowed};
 ghost use Rattle.wb_simulation.specs.Opened.{OpenedFollowed};
 ghost use Rattle.wb_simulation.specs.Sites.{ImagesFollowed, OpeningsFollowed};
 ghost use Rattle.wb_simulation.specs.Migrating.{MigrationsFollowed};
-ghost use Rattle.wb_simulation.specs.Laws.{AnswersFollowed, CanAgree, CellStepsFollowed, ExtentStepsFollowed, CommitStepsFollowed, StartsFollowed};
+ghost use Rattle.wb_simulation.specs.Laws.{AnswersFollowed, CanAgree, CellStepsFollowed, ExtentStepsFollowed, CommitStepsFollowed, StartsFollowed, UnmapsFollowed};
 
 /// Each step of a read or a write on the shared words is some records of the abstract world, which stands for the whole state of the
 /// run before them and after them: devices, words, the desk's commit and every actor.
@@ -17,7 +17,12 @@ pub fn extent_steps_are_followed()
     ensures { ExtentStepsFollowed }
 {}
 
-/// So are starts of reads, writes, flushes and suspends, and answers of reads and writes.
+/// So is the desk's unmap of a block that a write or an invalidation takes out of the cache in passthrough, where no order lives.
+pub fn unmaps_are_followed()
+    ensures { UnmapsFollowed }
+{}
+
+/// So are starts of reads, writes, invalidations, flushes and suspends, and answers of reads, writes and invalidations.
 pub fn starts_and_answers_are_followed()
     ensures starts { StartsFollowed }
     ensures answers { AnswersFollowed }

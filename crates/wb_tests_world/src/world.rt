@@ -4,6 +4,7 @@ mod demotions;
 mod flushes;
 mod line;
 mod openings;
+mod passthrough;
 mod promotions;
 mod replacements;
 mod requests;
@@ -15,6 +16,7 @@ use self::demotions::DEMOTIONS;
 use self::flushes::FLUSHES;
 use self::line::{Act, FIRST_SECTOR, Line, OPENING, READING, Row, Task, WRITING};
 use self::openings::{CRASHES, FAILURES, OPENINGS, ROOTS};
+use self::passthrough::PASSTHROUGH;
 use self::promotions::PROMOTIONS;
 use self::replacements::REPLACEMENTS;
 use self::requests::{FAILED_REQUESTS, REQUESTS, WRITE_AND_READ, WRITTEN_AND_GIVEN};
@@ -71,6 +73,7 @@ fn event_of(alloc: Global, act: Act) -> Result<Event, Refusal> {
         Act::WriteOf(actor, sectors, byte) => Ok(Event::Start(actor, write(sectors, byte))),
         Act::Flush(actor) => Ok(Event::Start(actor, Job::Flush)),
         Act::Suspend(actor) => Ok(Event::Start(actor, Job::Suspend)),
+        Act::Invalidate(actor, block) => Ok(Event::Start(actor, Job::Invalidate(block))),
         Act::Promote(actor, block, cache) => Ok(Event::Start(
             actor,
             Job::Migrate(Migration::Promote(cache), block),
@@ -301,6 +304,11 @@ fn flushes_go_as_their_rows_say(rt: HostRuntime) -> Result<(), Fail> {
 #[test]
 fn suspends_go_as_their_rows_say(rt: HostRuntime) -> Result<(), Fail> {
     compare(rt.alloc(), &SUSPENDS)
+}
+
+#[test]
+fn passthrough_goes_as_its_rows_say(rt: HostRuntime) -> Result<(), Fail> {
+    compare(rt.alloc(), &PASSTHROUGH)
 }
 
 #[test]

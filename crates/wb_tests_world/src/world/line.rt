@@ -18,6 +18,8 @@ pub enum Act {
     WriteOf(usize, Extent, u8),
     Flush(usize),
     Suspend(usize),
+    /// In passthrough a block leaves the cache.
+    Invalidate(usize, OBlock),
     /// A block is promoted into a cache block.
     Promote(usize, OBlock, CBlock),
     Demote(usize, OBlock),

@@ -16,14 +16,13 @@ const CACHE_FAILED: Want = Want::End(Answer::Refused(Refusal::Io(Dev::Cache)));
 /// Openings of which no step fails.
 pub const OPENINGS: [Row; 6] = [
     Row {
-        name: "without a target only an opening starts, and none in passthrough",
+        name: "without a target only an opening starts, in any mode",
         lines: &[
             Line::Does(Act::Read(0, FIRST_SECTOR), What::Skipped),
             Line::Does(Act::Flush(0), What::Skipped),
-            Line::Does(Act::Open(0, Mode::Passthrough), What::Skipped),
             Line::Does(Act::Open(64, Mode::Writeback), What::Skipped),
             Line::Does(Act::Step(0), What::Skipped),
-            Line::Does(Act::Open(0, Mode::Writeback), What::Started),
+            Line::Does(Act::Open(0, Mode::Passthrough), What::Started),
             Line::Does(Act::Open(0, Mode::Writeback), What::Skipped),
         ],
     },

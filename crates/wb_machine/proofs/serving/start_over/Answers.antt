@@ -1,18 +1,19 @@
 use Rattle.std.proofs.Common.{◌≡◌, ◌∙◌, List, ap, arith, inl, length, length-set, refl, subst, sym}
 use Rattle.std.proofs.lemmas.Option.{slice_get_past, slice_get_read}
+use Rattle.wb_types.specs.declared.mode.Mode.{Mode}
 use Rattle.wb_desk.specs.Desks.{DeskState}
 use Rattle.wb_policy.specs.declared.quiet.Quiet.{Quiet}
 use Rattle.wb_promise.specs.declared.event.Event.TheVariants.{Start}
 use Rattle.wb_machine.specs.declared.machine.TheConstants.{ACTORS}
 use Rattle.wb_machine.specs.declared.phase.Phase.TheVariants.{Standing}
-use Rattle.wb_machine.specs.Life.{contents_of, shape_of, state_of}
-use Rattle.wb_machine.specs.Members.{Member, somebody_suspends}
+use Rattle.wb_machine.specs.Life.{contents_of, shape_of, state_of, suits_mode}
+use Rattle.wb_machine.specs.Members.{Member, somebody_suspends, with_cards}
 use Rattle.wb_machine.specs.Standing.{AllRoomy}
 use Rattle.wb_machine.proofs.Kept.{if_ok}
 use Rattle.wb_machine.proofs.Suspends.{either, suspend_happens, suspend_length, suspend_roomy}
 use Rattle.wb_machine.proofs.Members.{absent, put_back}
 use Rattle.wb_machine.proofs.Openings.{nobody_suspends, passes, suspended_starts}
-use Rattle.wb_machine.proofs.Served.{roomy_set, start_happens, start_roomy, start_sizes}
+use Rattle.wb_machine.proofs.Served.{out_of_mode, roomy_set, start_happens, start_roomy, start_sizes}
 use Rattle.wb_machine.proofs.serving.start_over.Goals as goal
 use Rattle.wb_types.proofs.Truth.{on_err}
 
@@ -28,6 +29,14 @@ returns-then-is_somebody_suspending-clause-ok c =
     let phase = Standing c.args.target.now members in
     passes (shape_of c.args.geometry.now ACTORS) (state_of ACTORS c.args.devices.now phase) (Start c.args.actor c.args.job.now) _
     (suspended_starts c.args.devices.now ACTORS phase c.args.actor c.args.job.now c.requires.there (sym (ap somebody_suspends c.as_slice.ensures.value) ∙ sym c.is_somebody_suspending.ensures ∙ c.if-is_somebody_suspending.true)) refl
+
+pub returns-then-not-suits_mode-clause-ok : goal.returns-then-not-suits_mode-clause-ok
+returns-then-not-suits_mode-clause-ok c =
+    let members = c.args.members.now in
+    let target = c.args.target.now in
+    passes (shape_of c.args.geometry.now ACTORS) (state_of ACTORS c.args.devices.now (Standing target members)) (Start c.args.actor c.args.job.now) _
+    (out_of_mode (contents_of c.args.devices.now) target (with_cards members.items target.crew.cards) c.args.actor c.args.job.now
+    (sym (ap (λ (m : Mode). suits_mode c.args.job.now m) c.mode.ensures) ∙ sym c.suits_mode.ensures ∙ c.if-not-suits_mode.true)) refl
 
 pub returns-then-not-starts_beside-clause-ok : goal.returns-then-not-starts_beside-clause-ok
 returns-then-not-starts_beside-clause-ok c =
@@ -73,7 +82,7 @@ returns-clause-ok c =
     let many = c.requires.there in
     let here = slice_get_read members.items c.len.result c.args.actor m (omega (arith, members.ok)) (omega arith) c.index_mut-member.ensures.value in
     start_happens (shape_of c.args.geometry.now ACTORS) (contents_of c.args.devices.now) c.args.target.now members.items c.args.actor m c.start.new.self here (omega (arith, many.0, many.1))
-    c.args.job.now c.in_ok-what.what c.start.new.desk (sym c.starts_beside.ensures ∙ c.if-not-starts_beside.false) (nobody_suspends c.args.devices.now ACTORS (Standing c.args.target.now members) many (sym (ap somebody_suspends c.as_slice.ensures.value) ∙ sym c.is_somebody_suspending.ensures ∙ c.if-is_somebody_suspending.false)) c.in_ok-what.ensures.ok
+    c.args.job.now c.in_ok-what.what c.start.new.desk (sym c.starts_beside.ensures ∙ c.if-not-starts_beside.false) (sym (ap (λ (m : Mode). suits_mode c.args.job.now m) c.mode.ensures) ∙ sym c.suits_mode.ensures ∙ c.if-not-suits_mode.false) (nobody_suspends c.args.devices.now ACTORS (Standing c.args.target.now members) many (sym (ap somebody_suspends c.as_slice.ensures.value) ∙ sym c.is_somebody_suspending.ensures ∙ c.if-is_somebody_suspending.false)) c.in_ok-what.ensures.ok
 
 pub returns-clause-there : goal.returns-clause-there
 returns-clause-there c = (c.requires.there.0, length-set c.args.members.now.items c.args.actor c.start.new.self ∙ c.requires.there.1)

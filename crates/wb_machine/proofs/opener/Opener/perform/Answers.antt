@@ -5,7 +5,7 @@ use Rattle.wb_tasks.specs.Plan.{want}
 use Rattle.wb_tasks.specs.declared.step.DeviceStep.TheVariants.{Sync, ReadMetadata, WriteRoot}
 use Rattle.wb_tasks.specs.declared.step.Got.TheVariants.{Done}
 use Rattle.wb_tasks.specs.declared.step.Want.TheVariants.{Device}
-use Rattle.wb_devices.specs.Opened.{DidTell}
+use Rattle.wb_devices.specs.Clean.{DidTell}
 use Rattle.wb_promise.specs.declared.event.Event.TheVariants.{Step}
 use Rattle.wb_promise.specs.declared.event.What.TheVariants.{Stepped}
 use Rattle.wb_machine.specs.declared.machine.TheConstants.{ACTORS}
@@ -64,8 +64,8 @@ returns-in-ReadMetadata-clause-stands c =
     let plain = subst (λ m. IsReading g left (reading_by m self.opening.reading) self.opening.commit) at.none at.at in
     let u = under_way g left self.opening.reading self.opening.commit plain in
     let two : 2 ≤ g.meta_sectors = omega (arith, c.node_count-two_slots.ensures.two_images_fit) in
-    let told = subst (λ x. DidTell g g.meta_sectors left u.was device x c.read.result (reading_of new) new.opening.commit) u.commit_is (did.did u.was u.is) in
-    read_stands g left u.was device c.read.result (reading_of new) new.opening.commit two c.requires.whole u.not_done u.left_is told ACTORS self new c.requires.stands next did.asked did.task did.geometry refl refl did.made
+    let told = subst (λ x. DidTell self.asked.mode g g.meta_sectors left u.was device x c.read.result (reading_of new) new.opening.commit) u.commit_is (did.did u.was u.is) in
+    read_stands self.asked.mode g left u.was device c.read.result (reading_of new) new.opening.commit two c.requires.whole u.not_done u.left_is told ACTORS self new c.requires.stands next did.asked did.task did.geometry refl refl did.made
 
 pub returns-in-ReadMetadata-clause-does : goal.returns-in-ReadMetadata-clause-does
 returns-in-ReadMetadata-clause-does c =
@@ -81,12 +81,12 @@ returns-in-ReadMetadata-clause-does c =
     let plain = subst (λ m. IsReading g left (reading_by m self.opening.reading) self.opening.commit) at.none at.at in
     let u = under_way g left self.opening.reading self.opening.commit plain in
     let two : 2 ≤ g.meta_sectors = omega (arith, c.node_count-two_slots.ensures.two_images_fit) in
-    let told = subst (λ x. DidTell g g.meta_sectors left u.was device x c.read.result (reading_of new) new.opening.commit) u.commit_is (did.did u.was u.is) in
+    let told = subst (λ x. DidTell self.asked.mode g g.meta_sectors left u.was device x c.read.result (reading_of new) new.opening.commit) u.commit_is (did.did u.was u.is) in
     let after = record c.args.devices.now { metadata = c.read.new.metadata } in
     at_commit ACTORS c.args.devices.now self (λ w. Happens shape w (Step self.asked.actor) (Stepped (Device c.args.step) c.read.result) [] (state_of ACTORS after (Underway new))) None u.commit_is
     (reads shape ACTORS c.args.devices.now after self new c.requires.there did.asked left u.was c.read.result (Stepped (Device c.args.step) c.read.result) next (ap (λ s. Stepped (Device s) c.read.result) c.in-ReadMetadata.is)
     (ap (λ m. reading_by m self.opening.reading) at.none ∙ u.is)
-    (does_read g left u.was device c.read.result (reading_of new) new.opening.commit two c.requires.whole u.not_done u.left_is told) did.task (ap (λ (m : List History). record (contents_of c.args.devices.now) { metadata = m }) did.contents))
+    (does_read self.asked.mode g left u.was device c.read.result (reading_of new) new.opening.commit two c.requires.whole u.not_done u.left_is told) did.task (ap (λ (m : List History). record (contents_of c.args.devices.now) { metadata = m }) did.contents))
 
 pub returns-in_ok-write_root-in-WriteRoot-clause-stands : goal.returns-in_ok-write_root-in-WriteRoot-clause-stands
 returns-in_ok-write_root-in-WriteRoot-clause-stands c =
