@@ -485,7 +485,7 @@ check 'a block that was written back stays cached' "$(replayed "$cached / start 
 replaced="$cached / start 0 replace 0 5 / end 0 / start 0 promote 5 0 / start 0 flush / end 0 / start 1 promote 6 0 / start 0 promote 5 0 / end 0"
 check 'a block follows one that it replaces, after a flush' "$(replayed "$replaced / stop old / open writeback / view 0 1")" \
   '0 done/0 done/0 done/0 done/0 refused 3 Busy/0 done/1 refused 3 Busy/0 done/open 4 0 0/0 11: 0'
-check 'a line of no replay' "$(replayed 'setup writeback 64 4 10 4 / start 0 suspend')" 'bad line 2: 1'
+check 'a line of no replay' "$(replayed 'setup writeback 64 4 10 4 / start 0 invalidate 0')" 'bad line 2: 1'
 check 'a setup that is refused' "$(replayed 'setup writeback 63 4 10 4')" 'refused 9 Geometry: 1'
 check 'a replay of no line' "$("$cache" replay </dev/null; echo $?)" 0
 has 'help explains replays' "$("$cache" replay --help)" 'setup <mode> <block>'
