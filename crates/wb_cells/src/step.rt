@@ -11,6 +11,7 @@ use wb_words::{CellResult, CellStep, FailBit, seal_word};
 impl Cells {
     /// One step of a pass, which is ready for it: a look, the exchange that takes a block at the lock word that was seen,
     /// giving a block back, a seal, a finished write, a count, or a bit of the fail word.
+    #[inline(always)]
     pub fn step(&self, pass: &mut Pass, step: CellStep) -> CellResult
         requires at { pass.old.table ≡ self.now.table }
         requires ready { IsReady self.now.blocks pass.old.card step }

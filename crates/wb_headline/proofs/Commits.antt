@@ -72,7 +72,7 @@ use Rattle.wb_simulation.specs.Noted.{told}
 use Rattle.wb_simulation.specs.Sites.{ImagesAgree, IsRunning, locations, StateTakesClean}
 use Rattle.wb_simulation.specs.Telling.{Quietly, Releases, Answers}
 use Rattle.wb_simulation.specs.Worlds.{Situation, TurnedTo, DeskTurnedTo, Turn, Stays, Begins, Puts, Ends, GivesUp, WorldFollowsBy, WorldFollows}
-use Rattle.wb_simulation.specs.Laws.{WantsNext, commit_job, stepped_actor, after_step, turn_of}
+use Rattle.wb_simulation.specs.Laws.{WantsNext, flush_or_suspend, stepped_actor, after_step, turn_of}
 use Rattle.wb_simulation.proofs.Commits.{commit_steps_followed}
 use Rattle.wb_simulation.proofs.Noted.{notes_followed}
 use Rattle.wb_simulation.proofs.Opening.{images_followed}
@@ -160,7 +160,7 @@ IsStill next = ⊥
 abbrev Still : Devices (List History) → Actor → Job → Want → Got → Type 0
 Still devices x job next got = (orders_then x.orders x.awaiting job next got ≡ x.orders) × (awaiting_then x.orders x.awaiting job next got ≡ x.awaiting) × (buffer_then devices x.buffer next got job ≡ x.buffer) × (seen_then x.seen next got job ≡ x.seen)
 
-still : (devices : Devices (List History)) (x : Actor) (clean : Bool) (next : Want) (got : Got) → IsStill next → Still devices x (commit_job clean) next got
+still : (devices : Devices (List History)) (x : Actor) (clean : Bool) (next : Want) (got : Got) → IsStill next → Still devices x (flush_or_suspend clean) next got
 still devices x clean (Cell (Look (SealWord block))) got k = absurd k
 still devices x true (Cell step) got k = (refl, refl, refl, refl)
 still devices x false (Cell step) got k = (refl, refl, refl, refl)
@@ -174,11 +174,11 @@ still devices x false (Desk EndCommit) got k = (refl, refl, refl, refl)
 still devices x clean next got k = absurd k
 
 -- nothing is noted of its steps on devices but which have failed
-not_noted : (shape : Shape) (mode : Mode) (m : Notes) (a : ℕ) (doing : Doing) (clean : Bool) (step : DeviceStep) (got : Got) (contents : List Bytes) → device_note shape mode m a doing (commit_job clean) step got contents ≡ m
+not_noted : (shape : Shape) (mode : Mode) (m : Notes) (a : ℕ) (doing : Doing) (clean : Bool) (step : DeviceStep) (got : Got) (contents : List Bytes) → device_note shape mode m a doing (flush_or_suspend clean) step got contents ≡ m
 not_noted shape mode m a doing true step got contents = refl
 not_noted shape mode m a doing false step got contents = refl
 
-finished_durable : (m : Notes) (a : ℕ) (doing : Doing) (clean : Bool) (shown : List Bytes) → finished_note m a doing (commit_job clean) shown ≡ made_durable m a doing
+finished_durable : (m : Notes) (a : ℕ) (doing : Doing) (clean : Bool) (shown : List Bytes) → finished_note m a doing (flush_or_suspend clean) shown ≡ made_durable m a doing
 finished_durable m a doing true shown = refl
 finished_durable m a doing false shown = refl
 
@@ -201,32 +201,32 @@ some_is : {X : Type 0} (a b : X) → ◌≡◌ {A = Option X} (Some a) (Some b) 
 some_is a b e = ap (λ o. Rattle.std.proofs.Common.unwrap_or o a) e
 
 module _ (P A : Type 0) (shape : Shape) (images : Images) (t : Target P) (commit : Option RunningCommit) (devices : Devices (List History)) (actors : List Actor) (n : Notes) (known : MetadataKept {P = P} {A = A} shape.geometry images (Stands t) commit devices.metadata)
-    (f : Followed P A shape images (standing P A shape images t commit devices actors n) n) (rule : LockRule shape.geometry.origin_blocks t.words (cards_of actors)) (a : ℕ) (x : Actor) (ex : slice_get actors a ≡ Some x) (clean : Bool) (plan : Plan) (xt : x.task ≡ Some (commit_job clean, plan))
-    (doing : Doing) (noted : slice_get n.doings a ≡ Some (Some doing)) (job_is : doing.job ≡ commit_job clean) where
+    (f : Followed P A shape images (standing P A shape images t commit devices actors n) n) (rule : LockRule shape.geometry.origin_blocks t.words (cards_of actors)) (a : ℕ) (x : Actor) (ex : slice_get actors a ≡ Some x) (clean : Bool) (plan : Plan) (xt : x.task ≡ Some (flush_or_suspend clean, plan))
+    (doing : Doing) (noted : slice_get n.doings a ≡ Some (Some doing)) (job_is : doing.job ≡ flush_or_suspend clean) where
   -- where the machine stands
   abbrev now : Situation
   now = situation shape t devices actors
 
   -- so its actor there is to do this next
-  wants : {next : Want} → next ≡ want plan → WantsNext now a x f.site.world (commit_job clean) plan next
+  wants : {next : Want} → next ≡ want plan → WantsNext now a x f.site.world (flush_or_suspend clean) plan next
   wants {next} e = record { here = ex; task = xt; asks = sym e; agrees = f.phase.agrees }
 
   -- its task
   its_task : (blocks : List OBlock) × (plan.job ≡ commit_task clean blocks (most P A shape))
   its_task =
       let b = beside P A shape images t commit devices actors n known f a x ex in
-      let r = doing_as clean (size P A shape) (most P A shape) _ plan x.card b.0 (doing_of (size P A shape) (most P A shape) t.words x b.0 (commit_job clean) plan (f.phase.agrees.each a x b.0 ex b.1) xt) in
+      let r = doing_as clean (size P A shape) (most P A shape) _ plan x.card b.0 (doing_of (size P A shape) (most P A shape) t.words x b.0 (flush_or_suspend clean) plan (f.phase.agrees.each a x b.0 ex b.1) xt) in
       (r.blocks, r.job)
 
   abbrev s : Shared
   s = f.site.world.shared
 
   -- the actor after such a step
-  goes_still : (next : Want) (got : Got) → IsStill next → actor_then {P = P} {A = A} shape (Stands t) devices x next got ≡ record x { task = Rattle.wb_promise.specs.Effects.task_then (Some (commit_job clean, plan)) next got; card = Rattle.wb_promise.specs.Effects.card_then {P = P} {A = A} shape (Stands t) x.card next }
+  goes_still : (next : Want) (got : Got) → IsStill next → actor_then {P = P} {A = A} shape (Stands t) devices x next got ≡ record x { task = Rattle.wb_promise.specs.Effects.task_then (Some (flush_or_suspend clean, plan)) next got; card = Rattle.wb_promise.specs.Effects.card_then {P = P} {A = A} shape (Stands t) x.card next }
   goes_still next got k =
       let v = still devices x clean next got k in
-      actor_is P A shape (Stands t) devices x (commit_job clean) plan next got xt
-      ∙ (λ i. record { task = Rattle.wb_promise.specs.Effects.task_then (Some (commit_job clean, plan)) next got; card = Rattle.wb_promise.specs.Effects.card_then {P = P} {A = A} shape (Stands t) x.card next; orders = v.0 i; awaiting = v.1 i; buffer = v.2 i; seen = v.3 i })
+      actor_is P A shape (Stands t) devices x (flush_or_suspend clean) plan next got xt
+      ∙ (λ i. record { task = Rattle.wb_promise.specs.Effects.task_then (Some (flush_or_suspend clean, plan)) next got; card = Rattle.wb_promise.specs.Effects.card_then {P = P} {A = A} shape (Stands t) x.card next; orders = v.0 i; awaiting = v.1 i; buffer = v.2 i; seen = v.3 i })
 
   -- the state after a step, by this actor
   abbrev then_is : Target P → Option RunningCommit → Devices (List History) → Want → Got → State P A
@@ -248,7 +248,7 @@ module _ (P A : Type 0) (shape : Shape) (images : Images) (t : Target P) (commit
   -- ---- steps on devices
 
   module _ (turn : Turn) (step : DeviceStep) (got : Got) (contents : List Bytes) (t' : Target P) (commit' : Option RunningCommit) (devices' : Devices (List History)) (images' : Images) (plain : IsStill (Device step))
-      (g : WorldFollowsBy turn Quietly a f.site.world (situation shape t' devices' actors) (after_step (commit_job clean) plan got x)) where
+      (g : WorldFollowsBy turn Quietly a f.site.world (situation shape t' devices' actors) (after_step (flush_or_suspend clean) plan got x)) where
     device_notes : NotesAgree (size P A shape) (device_n step got) (abstract_after_all f.site.world g.records) (told f.notes g.records)
     device_notes = let e = failing_same doing step got in notes_followed.redone (size P A shape) n (abstract_after_all f.site.world g.records) (told f.notes g.records) a doing (failing doing step got) (quiet_notes g) noted e.0 e.1
 
@@ -257,11 +257,11 @@ module _ (P A : Type 0) (shape : Shape) (images : Images) (t : Target P) (commit
     on_device known' desk images_agree running =
         subst (λ (m : Notes). Goes P A shape (then_is t' commit' devices' (Device step) got) m) (sym (ap (λ (q : Job). device_note shape t.desk.mode (device_n step got) a (failing doing step got) q step got contents) job_is ∙ not_noted shape t.desk.mode (device_n step got) a (failing doing step got) clean step got contents))
         (subst (λ (y : Actor). Goes P A shape (record { devices = devices'; commit = commit'; phase = Stands t'; actors = slice_set actors a y }) (device_n step got)) (sym (goes_still (Device step) got plain))
-        (leads_on P A shape images t commit devices actors n known f a x ex turn Quietly t' commit' devices' (after_step (commit_job clean) plan got x) (device_n step got) images' (live_orders t'.desk) g device_notes (length-set n.doings a (Some (failing doing step got))) refl known' refl desk images_agree running))
+        (leads_on P A shape images t commit devices actors n known f a x ex turn Quietly t' commit' devices' (after_step (flush_or_suspend clean) plan got x) (device_n step got) images' (live_orders t'.desk) g device_notes (length-set n.doings a (Some (failing doing step got))) refl known' refl desk images_agree running))
 
   -- cache and origin are synced, or fail to be
   module _ (device : Dev) (holds : HoldsBlocks device) (next : Device (Sync device) ≡ want plan) (contents : List Bytes) where
-    synced_so : (got : Got) → (list : List History) → WorldFollows Quietly a f.site.world (situation shape t (with_device device devices list) actors) (after_step (commit_job clean) plan got x) →
+    synced_so : (got : Got) → (list : List History) → WorldFollows Quietly a f.site.world (situation shape t (with_device device devices list) actors) (after_step (flush_or_suspend clean) plan got x) →
         Goes P A shape (then_is t commit (with_device device devices list) (Device (Sync device)) got) (noted_step shape t.desk.mode [] n a (Some (Some doing)) (Device (Sync device)) got contents)
     synced_so got list g =
         let known' = subst (λ (m : List History). AtDesk shape.geometry images t.desk commit m) (sym (data_device device holds devices list)) known in
@@ -372,7 +372,7 @@ module _ (P A : Type 0) (shape : Shape) (images : Images) (t : Target P) (commit
           let g = commit_steps_followed.begins clean now nodes allowed marked a x plan f.site.world (wants next) idle in
           let s' = (abstract_after_all f.site.world g.records).shared in
           let t' : Target P = record { words = t.words; desk = commit_begun t.desk tree } in
-          let y = after_step (commit_job clean) plan (Began nodes) x in
+          let y = after_step (flush_or_suspend clean) plan (Began nodes) x in
           let l = b.kept.0.stands in
           let one : later_of images ≡ None = ap later_of q.are in
           let agree : ImagesAgree shape.geometry images.committed None devices.metadata s = subst (λ (o : Option Stored). ImagesAgree shape.geometry images.committed o devices.metadata s) one f.phase.images_agree in
@@ -397,7 +397,7 @@ module _ (P A : Type 0) (shape : Shape) (images : Images) (t : Target P) (commit
   begin_refused : (refusal : Refusal) (allowed : ℕ) (marked : Bool) → Desk (BeginCommit marked allowed) ≡ want plan → IsBeginRefused t.desk refusal → Goes P A shape (then_is t commit devices (Desk (BeginCommit marked allowed)) (GotRefused refusal)) n
   begin_refused refusal allowed marked next r =
       let g = commit_steps_followed.is_refused clean now allowed marked refusal a x plan f.site.world (no_begin refusal r) (wants next) in
-      let y = after_step (commit_job clean) plan (GotRefused refusal) x in
+      let y = after_step (flush_or_suspend clean) plan (GotRefused refusal) x in
       subst (λ (y : Actor). Goes P A shape (record { devices = devices; commit = commit; phase = Stands t; actors = slice_set actors a y }) n) (sym (goes_still (Desk (BeginCommit marked allowed)) (GotRefused refusal) tt))
       (stays_on P A shape images t commit devices actors n known f a x ex Quietly t.words devices y n g (quiet_notes g) refl refl refl)
 
@@ -408,7 +408,7 @@ module _ (P A : Type 0) (shape : Shape) (images : Images) (t : Target P) (commit
       let e = ends_over P shape.geometry images t.desk devices.metadata c k done in
       let g = commit_steps_followed.ends clean now a x plan f.site.world (wants next) in
       let s' = (abstract_after_all f.site.world g.records).shared in
-      let y = after_step (commit_job clean) plan Done x in
+      let y = after_step (flush_or_suspend clean) plan Done x in
       let after = commit_ended t.desk in
       let is : ended t.desk ≡ after = ap (λ (v : Bool). if v then after else t.desk) k.stands.busy in
       let t' : Target P = record { words = t.words; desk = after } in
@@ -430,9 +430,9 @@ module _ (P A : Type 0) (shape : Shape) (images : Images) (t : Target P) (commit
       (stays_on P A shape images t commit devices actors n known f a x ex Quietly (words_after t.words step) devices y n g
       (quiet_notes g) refl refl refl)
 
-  told_still : (step : CellStep) → IsStill (Cell step) → WorldFollows Quietly a f.site.world (record now { words = words_after t.words step }) (stepped_actor t.words (commit_job clean) plan step x) →
+  told_still : (step : CellStep) → IsStill (Cell step) → WorldFollows Quietly a f.site.world (record now { words = words_after t.words step }) (stepped_actor t.words (flush_or_suspend clean) plan step x) →
       Goes P A shape (then_is (record { words = words_after t.words step; desk = t.desk }) commit devices (Cell step) (got_of (result_of t.words step))) n
-  told_still step k g = told_so step (stepped_actor t.words (commit_job clean) plan step x) (goes_still (Cell step) (got_of (result_of t.words step)) k) g
+  told_still step k g = told_so step (stepped_actor t.words (flush_or_suspend clean) plan step x) (goes_still (Cell step) (got_of (result_of t.words step)) k) g
 
   looks_at_fail : Cell (Look Fail) ≡ want plan → Goes P A shape (then_is (record { words = words_after t.words (Look Fail); desk = t.desk }) commit devices (Cell (Look Fail)) (got_of (result_of t.words (Look Fail)))) n
   looks_at_fail next = told_still (Look Fail) tt (commit_steps_followed.looks clean now a x plan f.site.world (wants next))
@@ -447,10 +447,10 @@ module _ (P A : Type 0) (shape : Shape) (images : Images) (t : Target P) (commit
       b = beside P A shape images t commit devices actors n known f a x ex
 
       orders_over : Answer → List Order
-      orders_over v = orders_then x.orders x.awaiting (commit_job clean) (End v) Done
+      orders_over v = orders_then x.orders x.awaiting (flush_or_suspend clean) (End v) Done
 
       awaiting_over : Answer → List Order
-      awaiting_over v = awaiting_then x.orders x.awaiting (commit_job clean) (End v) Done
+      awaiting_over v = awaiting_then x.orders x.awaiting (flush_or_suspend clean) (End v) Done
 
       over : Answer → Actor
       over v = record x { task = None; orders = orders_over v; awaiting = awaiting_over v }
@@ -459,13 +459,13 @@ module _ (P A : Type 0) (shape : Shape) (images : Images) (t : Target P) (commit
       served o h = Contains-append_left (x.awaiting ++ x.orders) [] o (elim (Contains-append_cases x.orders x.awaiting o h) [ inl i ↦ Contains-append_right x.awaiting x.orders o i | inr i ↦ Contains-append_left x.awaiting x.orders o i ])
 
       -- a flush that is done has served the orders that wait for it
-      has_still : (clean : Bool) (v : Answer) (o : Order) → Contains (held_of x) o → Contains (orders_then x.orders x.awaiting (commit_job clean) (End v) Done ++ awaiting_then x.orders x.awaiting (commit_job clean) (End v) Done) o
+      has_still : (clean : Bool) (v : Answer) (o : Order) → Contains (held_of x) o → Contains (orders_then x.orders x.awaiting (flush_or_suspend clean) (End v) Done ++ awaiting_then x.orders x.awaiting (flush_or_suspend clean) (End v) Done) o
       has_still true Finished o h = h
       has_still false Finished o h = served o h
       has_still true (Refuses refusal) o h = h
       has_still false (Refuses refusal) o h = h
 
-      seen_still : (clean : Bool) (v : Answer) → seen_then x.seen (End v) Done (commit_job clean) ≡ x.seen
+      seen_still : (clean : Bool) (v : Answer) → seen_then x.seen (End v) Done (flush_or_suspend clean) ≡ x.seen
       seen_still true v = refl
       seen_still false v = refl
 
@@ -475,7 +475,7 @@ module _ (P A : Type 0) (shape : Shape) (images : Images) (t : Target P) (commit
       finish : (v : Answer) (n' : Notes) (g : WorldFollows (Answers (commit_there clean) v) a f.site.world now (over v)) → NotesAgree (size P A shape) n' (abstract_after_all f.site.world g.records) (told f.notes g.records) → length n'.doings ≡ length n.doings → length n'.histories ≡ length n.histories → Goes P A shape (then_is t commit devices (End v) Done) n'
       finish v n' g notes d h =
           subst (λ (y : Actor). Goes P A shape (record { devices = devices; commit = commit; phase = Stands t; actors = slice_set actors a y }) n')
-          (sym (actor_is P A shape (Stands t) devices x (commit_job clean) plan (End v) Done xt ∙ (λ i. record { task = None; card = x.card; orders = orders_over v; awaiting = awaiting_over v; buffer = x.buffer; seen = seen_still clean v i })))
+          (sym (actor_is P A shape (Stands t) devices x (flush_or_suspend clean) plan (End v) Done xt ∙ (λ i. record { task = None; card = x.card; orders = orders_over v; awaiting = awaiting_over v; buffer = x.buffer; seen = seen_still clean v i })))
           (stays_on P A shape images t commit devices actors n known f a x ex (Answers (commit_there clean) v) t.words devices (over v) n' g notes d h refl)
 
       by_answer : (v : Answer) → End v ≡ want plan → Goes P A shape (then_is t commit devices (End v) Done) (noted_step shape t.desk.mode shown n a (Some (Some doing)) (End v) Done contents)
@@ -497,12 +497,12 @@ module _ (P A : Type 0) (shape : Shape) (images : Images) (t : Target P) (commit
     w = standing P A shape images t commit devices actors n
 
     abbrev pub Done_by : Want → Got → List Bytes → Chosen P A → Type 0
-    Done_by next got read chosen = Goes P A shape (stepped shape w a x next got chosen (λ step. device_done (commit_job clean) x.buffer step chosen))
-        (noted_step shape t.desk.mode (shown shape (stepped shape w a x next got chosen (λ step. device_done (commit_job clean) x.buffer step chosen))) n a (Some (Some doing)) next got read)
+    Done_by next got read chosen = Goes P A shape (stepped shape w a x next got chosen (λ step. device_done (flush_or_suspend clean) x.buffer step chosen))
+        (noted_step shape t.desk.mode (shown shape (stepped shape w a x next got chosen (λ step. device_done (flush_or_suspend clean) x.buffer step chosen))) n a (Some (Some doing)) next got read)
 
     abbrev pub Failed_by : Choice → Want → List Bytes → Chosen P A → Type 0
-    Failed_by choice next read chosen = Goes P A shape (stepped shape w a x next Fault chosen (λ step. device_failed (lands (device_of step) choice) (commit_job clean) x.buffer step chosen))
-        (noted_step shape t.desk.mode (shown shape (stepped shape w a x next Fault chosen (λ step. device_failed (lands (device_of step) choice) (commit_job clean) x.buffer step chosen))) n a (Some (Some doing)) next Fault read)
+    Failed_by choice next read chosen = Goes P A shape (stepped shape w a x next Fault chosen (λ step. device_failed (lands (device_of step) choice) (flush_or_suspend clean) x.buffer step chosen))
+        (noted_step shape t.desk.mode (shown shape (stepped shape w a x next Fault chosen (λ step. device_failed (lands (device_of step) choice) (flush_or_suspend clean) x.buffer step chosen))) n a (Some (Some doing)) next Fault read)
 
     mine : (next : Want) → next ≡ want plan → IsOwnStep (commit_task clean its_task.0 (most P A shape)) next
     mine next e = subst (λ (v : Want). IsOwnStep (commit_task clean its_task.0 (most P A shape)) v) (sym e) (subst (λ (q : TaskJob). IsOwnStep q (want plan)) its_task.1 (is_own_step shape.geometry.origin_blocks plan x.card suits))
@@ -619,7 +619,7 @@ module _ (P A : Type 0) (shape : Shape) (images : Images) (t : Target P) (commit
 
   -- ---- any step
 
-  abbrev Any_done : (clean : Bool) → x.task ≡ Some (commit_job clean, plan) → doing.job ≡ commit_job clean → Want → Got → List Bytes → Chosen P A → Type 0
+  abbrev Any_done : (clean : Bool) → x.task ≡ Some (flush_or_suspend clean, plan) → doing.job ≡ flush_or_suspend clean → Want → Got → List Bytes → Chosen P A → Type 0
   Any_done clean xt job_is next got read chosen = Done_by P A shape images t commit devices actors n known f rule a x ex clean plan xt doing noted job_is suits next got read chosen
 
   -- what a suspend meets as a flush does
@@ -633,7 +633,7 @@ module _ (P A : Type 0) (shape : Shape) (images : Images) (t : Target P) (commit
   abbrev Gives_as : Job → Want → Got → List Bytes → Chosen P A → Type 0
   Gives_as job next got read chosen = Gives shape (standing P A shape images t commit devices actors n) x job next got read chosen
 
-  as_flush : (clean : Bool) (next : Want) (got : Got) (read : List Bytes) (chosen : Chosen P A) → IsCommon next → Gives_as (commit_job clean) next got read chosen → Gives_as Flush next got read chosen
+  as_flush : (clean : Bool) (next : Want) (got : Got) (read : List Bytes) (chosen : Chosen P A) → IsCommon next → Gives_as (flush_or_suspend clean) next got read chosen → Gives_as Flush next got read chosen
   as_flush false next got read chosen common g = g
   as_flush true (Cell step) got read chosen common g = g
   as_flush true (Device (Sync Metadata)) got read chosen common g = g
@@ -643,8 +643,8 @@ module _ (P A : Type 0) (shape : Shape) (images : Images) (t : Target P) (commit
   as_flush true (End answer) got read chosen common g = g
   as_flush true next got read chosen common g = absurd common
 
-  pub commit_steps : (clean : Bool) (xt : x.task ≡ Some (commit_job clean, plan)) (job_is : doing.job ≡ commit_job clean) (next : Want) (got : Got) (read : List Bytes) (chosen : Chosen P A) → length doing.then_finished ≡ length n.floors → next ≡ want plan →
-      Gives shape (standing P A shape images t commit devices actors n) x (commit_job clean) next got read chosen → Any_done clean xt job_is next got read chosen
+  pub commit_steps : (clean : Bool) (xt : x.task ≡ Some (flush_or_suspend clean, plan)) (job_is : doing.job ≡ flush_or_suspend clean) (next : Want) (got : Got) (read : List Bytes) (chosen : Chosen P A) → length doing.then_finished ≡ length n.floors → next ≡ want plan →
+      Gives shape (standing P A shape images t commit devices actors n) x (flush_or_suspend clean) next got read chosen → Any_done clean xt job_is next got read chosen
   commit_steps clean xt job_is (Cell (Look Fail)) got read chosen asked e g =
       let h = as_flush clean (Cell (Look Fail)) got read chosen tt g in
       subst (λ (v : Got). Any_done clean xt job_is (Cell (Look Fail)) v read chosen) (sym h.1) (looks_at_fail P A shape images t commit devices actors n known f rule a x ex clean plan xt doing noted job_is e)
@@ -689,10 +689,10 @@ module _ (P A : Type 0) (shape : Shape) (images : Images) (t : Target P) (commit
   commit_steps true xt job_is next got read chosen asked e g = absurd g
   commit_steps false xt job_is next got read chosen asked e g = absurd g
 
-  abbrev Any_failed : (clean : Bool) → x.task ≡ Some (commit_job clean, plan) → doing.job ≡ commit_job clean → Choice → Want → List Bytes → Chosen P A → Type 0
+  abbrev Any_failed : (clean : Bool) → x.task ≡ Some (flush_or_suspend clean, plan) → doing.job ≡ flush_or_suspend clean → Choice → Want → List Bytes → Chosen P A → Type 0
   Any_failed clean xt job_is choice next read chosen = Failed_by P A shape images t commit devices actors n known f rule a x ex clean plan xt doing noted job_is suits choice next read chosen
 
-  pub commit_faults : (clean : Bool) (xt : x.task ≡ Some (commit_job clean, plan)) (job_is : doing.job ≡ commit_job clean) (choice : Choice) (next : Want) (read : List Bytes) (chosen : Chosen P A) → next ≡ want plan → MayFailAt devices choice next → Falters (standing P A shape images t commit devices actors n) choice next chosen → Any_failed clean xt job_is choice next read chosen
+  pub commit_faults : (clean : Bool) (xt : x.task ≡ Some (flush_or_suspend clean, plan)) (job_is : doing.job ≡ flush_or_suspend clean) (choice : Choice) (next : Want) (read : List Bytes) (chosen : Chosen P A) → next ≡ want plan → MayFailAt devices choice next → Falters (standing P A shape images t commit devices actors n) choice next chosen → Any_failed clean xt job_is choice next read chosen
   commit_faults clean xt job_is choice (Device (Sync Cache)) read chosen e m g = sync_fails P A shape images t commit devices actors n known f rule a x ex clean plan xt doing noted job_is Cache tt e read (lands Cache choice)
   commit_faults clean xt job_is choice (Device (Sync Origin)) read chosen e m g = sync_fails P A shape images t commit devices actors n known f rule a x ex clean plan xt doing noted job_is Origin tt e read (lands Origin choice)
   commit_faults clean xt job_is choice (Device (Sync Metadata)) read chosen e m g = subst (λ (c : Chosen P A). Any_failed clean xt job_is choice (Device (Sync Metadata)) read c) (sym g.0) (by_sync_fault P A shape images t commit devices actors n known f rule a x ex clean plan xt doing noted job_is suits choice read commit refl g.1 e)

@@ -10,7 +10,7 @@ use Rattle.wb_tree.specs.Mapping.{IsMapping}
 use Rattle.wb_desk.specs.Desks.{DeskState}
 use Rattle.wb_desk.proofs.Seen.{there}
 use Rattle.wb_promise.specs.Happenings.{AreMapped}
-use Rattle.wb_machine.specs.Serving.{block_in}
+use Rattle.wb_machine.specs.Serving.{block_of_entry}
 use Rattle.wb_machine.proofs.Possible.{is_inside}
 
 -- these are the blocks of the first so many entries
@@ -29,7 +29,7 @@ pub none_listed : (entries : List (Option Entry)) → AreListed entries 0 []
 none_listed entries = record { each = λ block has. absurd (omega (arith, has.1)); all = λ block cache l m. absurd (omega (arith, l)) }
 
 -- one more cache block, and the block of its entry, if it has one
-pub listed_next : (entries : List (Option Entry)) (c : ℕ) (blocks : List OBlock) (entry : Option Entry) → entry ≡ slice_index_or entries c None → AreListed entries c blocks → AreListed entries (c + 1) (blocks ++ block_in entry)
+pub listed_next : (entries : List (Option Entry)) (c : ℕ) (blocks : List OBlock) (entry : Option Entry) → entry ≡ slice_index_or entries c None → AreListed entries c blocks → AreListed entries (c + 1) (blocks ++ block_of_entry entry)
 listed_next entries c blocks None at s = record {
   each = λ block has. s.each block (subst (λ (bs : List OBlock). Contains bs block) (append-nil blocks) has);
   all = λ block cache l m. elim (cases_eq cache c) [

@@ -44,9 +44,9 @@ use Rattle.wb_promise.specs.Effects.{after_what, asked_desk, begun_desk, card_th
 use Rattle.wb_runs.proofs.Desks.{is_live, is_unmappable}
 use Rattle.wb_machine.specs.declared.target.Target.{Target}
 use Rattle.wb_machine.specs.Life.{Now, Happens, starts_beside, suits_mode, wants_target}
-use Rattle.wb_machine.specs.Members.{HasBits, Member, free, seat, with_cards}
+use Rattle.wb_machine.specs.Members.{HasBitsSeen, Member, free, seat, with_cards}
 use Rattle.wb_machine.specs.Serving.{member_given, MemberFails, FailsOrRests, GetsJob, IsPassed, Leads, LeavesStarted, NothingFails, Starts, StartsIf, Steps, MemberSteps, chosen_at, commit_by, crew_then, desk_given, done_by, failed_by, member_then, noted_read, over, stood, target_told}
-use Rattle.wb_machine.specs.Standing.{AllRoomy, AllowsImages, HasRoom, IsRoomy}
+use Rattle.wb_machine.specs.Standing.{AllRoomy, AllowsImages, IsTaskRoomy, IsRoomy}
 use Rattle.wb_machine.proofs.Members.{seat_at, set_both, set_task, somebody}
 use Rattle.wb_machine.proofs.Openings.{length_replicate, passes}
 use Rattle.wb_machine.proofs.Possible.{has_task, the_task}
@@ -449,7 +449,7 @@ start_sizes shape desk m job what desk' m' s = by_test (is_none m.task) s
 allowed_then : (nodes : ℕ) (doing : Job × Plan) (got : Got) → AllowsImages nodes doing.1.job → AllowsImages nodes (after doing.1 got).job
 allowed_then nodes doing got r = subst (λ (job : TaskJob). AllowsImages nodes job) (sym (job_stays doing.1 got)) r
 
-room_then : (cache_blocks : ℕ) (seen : List Bool) (doing : Job × Plan) (next : Want) (got : Got) → HasRoom cache_blocks seen (Some doing) → HasRoom cache_blocks seen (task_then (Some doing) next got)
+room_then : (cache_blocks : ℕ) (seen : List Bool) (doing : Job × Plan) (next : Want) (got : Got) → IsTaskRoomy cache_blocks seen (Some doing) → IsTaskRoomy cache_blocks seen (task_then (Some doing) next got)
 room_then cache_blocks seen doing (Cell step) got r = (allowed_then (node_count cache_blocks) doing got r.0, r.1)
 room_then cache_blocks seen doing (Device step) got r = (allowed_then (node_count cache_blocks) doing got r.0, r.1)
 room_then cache_blocks seen doing (Desk step) got r = (allowed_then (node_count cache_blocks) doing got r.0, r.1)
@@ -464,7 +464,7 @@ as_many_seen : (next : Want) (got : Got) (seen : List Bool) → length (seen_aft
 as_many_seen (Cell (Look (SealWord block))) (Word seal) seen = as_many_at (place_in seal) (dirty_in seal) seen
 as_many_seen next got seen = refl
 
-bits_then : (cache_blocks : ℕ) (seen : List Bool) (next : Want) (got : Got) (job : Job) → HasBits cache_blocks seen job → HasBits cache_blocks (seen_then seen next got job) job
+bits_then : (cache_blocks : ℕ) (seen : List Bool) (next : Want) (got : Got) (job : Job) → HasBitsSeen cache_blocks seen job → HasBitsSeen cache_blocks (seen_then seen next got job) job
 bits_then cache_blocks seen next got (Read extent) h = tt
 bits_then cache_blocks seen next got (Write extent content) h = tt
 bits_then cache_blocks seen next got (Invalidate block) h = tt
@@ -477,8 +477,8 @@ bits_then cache_blocks seen next got (Replace old new) h = tt
 -- so it is after a step of who is at a task
 roomy_then : (cache_blocks : ℕ) (devices : Devices (List History)) (m : Member) (doing : Job × Plan) (next : Want) (got : Got) → m.task ≡ Some doing → IsRoomy cache_blocks m → IsRoomy cache_blocks (member_then devices m next got)
 roomy_then cache_blocks devices m doing next got e r =
-    let was = subst (λ (k : Option (Job × Plan)). HasRoom cache_blocks m.seen k) e r in
-    subst (λ (k : Option (Job × Plan)). HasRoom cache_blocks (seen_then m.seen next got (job_of k)) (task_then k next got)) (sym e)
+    let was = subst (λ (k : Option (Job × Plan)). IsTaskRoomy cache_blocks m.seen k) e r in
+    subst (λ (k : Option (Job × Plan)). IsTaskRoomy cache_blocks (seen_then m.seen next got (job_of k)) (task_then k next got)) (sym e)
     (room_then cache_blocks (seen_then m.seen next got doing.0) doing next got (was.0, bits_then cache_blocks m.seen next got doing.0 was.1))
 
 pub step_roomy : (cache_blocks : ℕ) (devices : Devices (List History)) (t : Target) (a : ℕ) (m : Member) (what : What) (read : List Bytes) (devices' : Devices (List History)) (t' : Target) (m' : Member) → IsRoomy cache_blocks m → Steps devices t a m what read devices' t' m' → IsRoomy cache_blocks m'

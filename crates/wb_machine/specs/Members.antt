@@ -63,6 +63,6 @@ abbrev pub somebody_suspends : List Member → Bool
 somebody_suspends members = list_any suspends members
 
 -- a suspend has a bit for each cache block
-abbrev pub HasBits : ℕ → List Bool → Job → Type 0
-HasBits cache_blocks seen Suspend = length seen ≡ cache_blocks
-HasBits cache_blocks seen job = Unit {0}
+abbrev pub HasBitsSeen : ℕ → List Bool → Job → Type 0
+HasBitsSeen cache_blocks seen Suspend = length seen ≡ cache_blocks
+HasBitsSeen cache_blocks seen job = Unit {0}

@@ -129,9 +129,9 @@ abbrev pub Starts : Shape → DeskState Quiet → Member → Job → What → De
 Starts shape desk m job what desk' m' = StartsIf (is_none m.task) shape desk m job what desk' m'
 
 -- the block of an entry, if there is one
-abbrev pub block_in : Option Entry → List OBlock
-block_in None = []
-block_in (Some entry) = entry.origin ∷ []
+abbrev pub block_of_entry : Option Entry → List OBlock
+block_of_entry None = []
+block_of_entry (Some entry) = entry.origin ∷ []
 
 -- What the start of a suspend comes to where nobody suspends the target: it is skipped where who starts it is at something, refused where another
 -- is, and begins else to look at what is mapped, having seen nothing.

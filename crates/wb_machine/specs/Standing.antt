@@ -18,7 +18,7 @@ use Rattle.wb_devices.specs.declared.devices.Devices.{Devices}
 use Rattle.wb_devices.specs.declared.running.RunningCommit.{RunningCommit}
 use Rattle.wb_words.specs.SharedWords.{flag}
 use Rattle.wb_promise.specs.declared.job.Job.{Job}
-use Rattle.wb_machine.specs.Members.{Member, HasBits}
+use Rattle.wb_machine.specs.Members.{Member, HasBitsSeen}
 use Rattle.wb_machine.specs.declared.asked.Asked.{Asked}
 use Rattle.wb_machine.specs.declared.making.Made.{Made}
 use Rattle.wb_machine.specs.declared.opener.Opener.{Opener}
@@ -80,12 +80,12 @@ AllowsImages nodes (Suspending looks most) = nodes ≤ most
 AllowsImages nodes job = Unit {0}
 
 -- and a suspend has a bit for each of so many cache blocks
-abbrev pub HasRoom : ℕ → List Bool → Option (Job × Plan) → Type 0
-HasRoom cache_blocks seen None = Unit {0}
-HasRoom cache_blocks seen (Some doing) = AllowsImages (node_count cache_blocks) doing.1.job × HasBits cache_blocks seen doing.0
+abbrev pub IsTaskRoomy : ℕ → List Bool → Option (Job × Plan) → Type 0
+IsTaskRoomy cache_blocks seen None = Unit {0}
+IsTaskRoomy cache_blocks seen (Some doing) = AllowsImages (node_count cache_blocks) doing.1.job × HasBitsSeen cache_blocks seen doing.0
 
 abbrev pub IsRoomy : ℕ → Member → Type 0
-IsRoomy cache_blocks m = HasRoom cache_blocks m.seen m.task
+IsRoomy cache_blocks m = IsTaskRoomy cache_blocks m.seen m.task
 
 abbrev pub AllRoomy : ℕ → List Member → Type 0
 AllRoomy cache_blocks members = (a : ℕ) (m : Member) → slice_get members a ≡ Some m → IsRoomy cache_blocks m

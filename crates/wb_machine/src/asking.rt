@@ -9,7 +9,7 @@ ghost use Rattle.wb_tasks.specs.Plan.{Fits};
 ghost use Rattle.wb_tasks.specs.declared.step.Want.TheVariants.{Desk as OnDesk};
 ghost use Rattle.wb_promise.specs.Happenings.{AreWhole};
 ghost use Rattle.wb_machine.specs.Serving.{Allows, DidAskFor, IsAskable, DeskWasAsked};
-ghost use Rattle.wb_machine.specs.Members.{HasBits};
+ghost use Rattle.wb_machine.specs.Members.{HasBitsSeen};
 
 use std::alloc::Global;
 use wb_desk::Desk;
@@ -34,7 +34,7 @@ pub(crate) fn ask(
 ) -> Got
     requires askable { IsAskable commit.old job.now step }
     requires enough { Allows (node_count desk.old.geometry.cache_blocks) (OnDesk step) }
-    requires bits { HasBits desk.old.geometry.cache_blocks seen.now job.now }
+    requires bits { HasBitsSeen desk.old.geometry.cache_blocks seen.now job.now }
     ensures asked { DeskWasAsked desk.old commit.old job.now held.now seen.now step result desk.new commit.new }
     ensures kind { Fits (OnDesk step) result }
 {
@@ -57,7 +57,7 @@ fn ask_for(
     step: DeskStep,
 ) -> Got
     requires askable { IsAskable commit.old job.now step }
-    requires bits { HasBits desk.old.geometry.cache_blocks seen.now job.now }
+    requires bits { HasBitsSeen desk.old.geometry.cache_blocks seen.now job.now }
     ensures did { DidAskFor job.now held.now seen.now step result desk.old commit.old desk.new commit.new }
     ensures kind { Fits (OnDesk step) result }
 {

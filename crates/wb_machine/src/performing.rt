@@ -12,7 +12,7 @@ ghost use Rattle.wb_tasks.specs.Ready.{MayTake};
 ghost use Rattle.wb_tasks.specs.declared.step.Want.TheVariants.{Cell as OnCell};
 ghost use Rattle.wb_machine.specs.Life.{contents_of};
 ghost use Rattle.wb_machine.specs.Serving.{Allows, IsPossible, Performs, sets_bit};
-ghost use Rattle.wb_machine.specs.Members.{HasBits};
+ghost use Rattle.wb_machine.specs.Members.{HasBitsSeen};
 
 use crate::asking::ask;
 use crate::moving::do_step;
@@ -45,7 +45,7 @@ impl Target {
         requires ready { MayTake self.old.crew.blocks (card_of self.old.crew actor) want }
         requires possible { IsPossible (contents_of devices.old) self.old.commit job.now want }
         requires enough { Allows (node_count self.old.desk.geometry.cache_blocks) want }
-        requires bits { HasBits self.old.desk.geometry.cache_blocks seen.now job.now }
+        requires bits { HasBitsSeen self.old.desk.geometry.cache_blocks seen.now job.now }
         ensures ok { IfOk result (λ given. Performs (contents_of devices.old) self.old actor job.now held.now seen.now buffer.now want given.0 given.1.items (contents_of devices.new) self.new) }
         ensures kind { IfOk result (λ given. IsStep want → Fits want given.0) }
         ensures size { length devices.new.metadata.contents ≡ length devices.old.metadata.contents }

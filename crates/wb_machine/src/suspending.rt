@@ -6,7 +6,7 @@ ghost use Rattle.wb_promise.specs.Happenings.{AreMapped};
 ghost use Rattle.wb_machine.specs.declared.machine.TheConstants.{ACTORS};
 ghost use Rattle.wb_machine.specs.Life.{is_suspending, shape_of};
 ghost use Rattle.wb_machine.specs.Members.{somebody_suspends, somebody_works};
-ghost use Rattle.wb_machine.specs.Serving.{StartsSuspend, block_in};
+ghost use Rattle.wb_machine.specs.Serving.{StartsSuspend, block_of_entry};
 
 use crate::keeping::see_desk;
 use crate::member::Member;
@@ -84,7 +84,7 @@ pub(crate) fn mapped_blocks<P: Policy>(
 
 /// One more: the block of this entry, if there is one. `Memory` where there is no room for it.
 fn list(blocks: &mut Vec<OBlock>, entry: Option<Entry>) -> Result<(), Refusal>
-    ensures ok { OnOk result (blocks.new.items ≡ blocks.old.items ++ block_in entry) }
+    ensures ok { OnOk result (blocks.new.items ≡ blocks.old.items ++ block_of_entry entry) }
     ensures refusal { IfErr result (λ refusal. refusal ≡ Memory) }
 {
     match entry {

@@ -199,8 +199,8 @@ abbrev pub IsSuspending : {P A : Type 0} → State P A → Type 0
 IsSuspending w = (a : ℕ) × AtWork w a (λ job s. job ≡ Suspend)
 
 -- nobody has a task
-abbrev pub IsIdle : {P A : Type 0} → State P A → Type 0
-IsIdle w = (a : ℕ) → ¬ HasTask w a
+abbrev pub NoTaskRuns : {P A : Type 0} → State P A → Type 0
+NoTaskRuns w = (a : ℕ) → ¬ HasTask w a
 
 -- the device of a step may fail so
 abbrev pub MayFailAt : Devices (List History) → Choice → Want → Type 0
@@ -388,8 +388,8 @@ pub record AreMapped {P : Type 0} (desk : DeskState P) (blocks : List OBlock) : 
 
 -- a suspend starts where nobody is at anything
 abbrev pub SuspendStarts : {P A : Type 0} → State P A → What → Chosen P A → Type 0
-SuspendStarts w (Refused Busy) Plain = ¬ IsIdle w
-SuspendStarts w Started (Looks blocks) = IsIdle w × OfTarget w.phase (λ t. AreMapped t.desk blocks)
+SuspendStarts w (Refused Busy) Plain = ¬ NoTaskRuns w
+SuspendStarts w Started (Looks blocks) = NoTaskRuns w × OfTarget w.phase (λ t. AreMapped t.desk blocks)
 SuspendStarts w what chosen = ⊥
 
 -- what a start by an actor comes to, whatever the others are at

@@ -30,7 +30,7 @@ use Rattle.wb_promise.specs.declared.event.Event.TheVariants.{Start, Step, Fault
 use Rattle.wb_promise.specs.declared.event.What.{What}
 use Rattle.wb_promise.specs.declared.event.What.TheVariants.{Skipped, Refused, Started, Stepped, Stopped}
 use Rattle.wb_promise.specs.States.{Shape, State, Actor, Target, Phase, Stands, Gone, Opens, OfTarget, mode_of, block_size, start}
-use Rattle.wb_promise.specs.Happenings.{Chosen, Plain, Cut, Orders, Happening, OfSome, OnTask, MayFailAt, DoesNotApply, Gives, Falters, KeepsMigration, KeepsReplacement, MayOrder, MigrationStarts, job_refusal, extent_refusal, block_range, write_job, orders_in, order_for, StartsAs, Looks, AreMapped, IsIdle}
+use Rattle.wb_promise.specs.Happenings.{Chosen, Plain, Cut, Orders, Happening, OfSome, OnTask, MayFailAt, DoesNotApply, Gives, Falters, KeepsMigration, KeepsReplacement, MayOrder, MigrationStarts, job_refusal, extent_refusal, block_range, write_job, orders_in, order_for, StartsAs, Looks, AreMapped, NoTaskRuns}
 use Rattle.wb_promise.specs.Effects.{after_all, IsRun}
 use Rattle.wb_runs.specs.Progress.{GivesSomething}
 use Rattle.wb_runs.specs.Holding.{TaskSuits}
@@ -298,7 +298,7 @@ module _ (P A : Type 0) (shape : Shape) (policy : P) (first : ReadSteps A) (begi
     | inr none ↦ by_phase (λ b h. none (b, h)) w.phase refl
   ]
     where
-      by_phase : IsIdle w → (phase : Phase P A) → w.phase ≡ phase → HasHappening shape w (Start a Suspend)
+      by_phase : NoTaskRuns w → (phase : Phase P A) → w.phase ≡ phase → HasHappening shape w (Start a Suspend)
       by_phase idle (Stands t) e = record { what = Started; read = []; chosen = Looks (mapped_in t.desk.tree.entries); may = (refl, applies, (idle, subst (λ (p : Phase P A). OfTarget p (λ u. AreMapped u.desk (mapped_in t.desk.tree.entries))) (sym e) (record { each = mapped_each t.desk.tree.entries; all = mapped_all t.desk.tree.entries }))) }
       by_phase idle Gone e = absurd (applies (inr (inr (inr (λ o. subst (λ (p : Phase P A). OfTarget p (λ t. Unit {0})) e o)))))
       by_phase idle (Opens mode reading) e = absurd (applies (inr (inr (inr (λ o. subst (λ (p : Phase P A). OfTarget p (λ t. Unit {0})) e o)))))

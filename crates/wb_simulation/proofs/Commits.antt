@@ -26,7 +26,7 @@ use Rattle.wb_refines.specs.Translation.{job_for}
 use Rattle.wb_refines.proofs.Committing.{job_is}
 use Rattle.wb_simulation.specs.Telling.{Quietly, Answers, AnswersSo, Releases}
 use Rattle.wb_simulation.specs.Worlds.{Situation, Begins, Puts, Ends, GivesUp, WorldFollowsBy, WorldFollows}
-use Rattle.wb_simulation.specs.Laws.{WantsNext, CommitStepsFollowed, commit_job, after_step, turn_of, stepped_actor}
+use Rattle.wb_simulation.specs.Laws.{WantsNext, CommitStepsFollowed, flush_or_suspend, after_step, turn_of, stepped_actor}
 use Rattle.wb_types.specs.declared.number.OBlock.{OBlock}
 use Rattle.wb_simulation.specs.Carried.{held}
 use Rattle.wb_simulation.proofs.Among.{own_there}
@@ -36,7 +36,7 @@ use Rattle.wb_simulation.proofs.Telling.{answers_at, late_answers_so}
 use Rattle.wb_simulation.proofs.Leading.{by_commit, doing_as}
 use Rattle.wb_simulation.proofs.Committing.{leading, syncs, sync_falls, metadata_done, metadata_failed, is_on_metadata, is_refused, begins, ends, releases, gives_up, fails, sees, suspends, looks, late_looks}
 
-module _ (clean : Bool) (now : Situation) (a : ℕ) (x : Actor) (plan : Plan) (s : World) (next : Want) (wants : WantsNext now a x s (commit_job clean) plan next) where
+module _ (clean : Bool) (now : Situation) (a : ℕ) (x : Actor) (plan : Plan) (s : World) (next : Want) (wants : WantsNext now a x s (flush_or_suspend clean) plan next) where
   its : (y : AbstractActor) × (slice_get s.actors a ≡ Some y) × StandsFor now.size now.most now.words x y
   its = own_there now s wants.agrees a x wants.here
 
@@ -44,7 +44,7 @@ module _ (clean : Bool) (now : Situation) (a : ℕ) (x : Actor) (plan : Plan) (s
   y = its.0
 
   f : IsCommitAt now.size now.most its.2.failed clean plan its.0
-  f = doing_as clean now.size now.most its.2.failed plan x.card its.0 (doing_of now.size now.most now.words x its.0 (commit_job clean) plan its.2 wants.task)
+  f = doing_as clean now.size now.most its.2.failed plan x.card its.0 (doing_of now.size now.most now.words x its.0 (flush_or_suspend clean) plan its.2 wants.task)
 
   abbrev blocks : List OBlock
   blocks = f.blocks
@@ -72,13 +72,13 @@ module _ (clean : Bool) (now : Situation) (a : ℕ) (x : Actor) (plan : Plan) (s
   at_last step e within last P h = by_commit now.size now.most its.2.failed clean plan step y e within f P (λ later leads l o is.
       subst (λ (ws : List Want). LeadsAt leads (step ∷ ws) → IsCommitting now.size [] (left (step ∷ ws)) leads y → P (left (step ∷ ws))) (sym (last later o)) (h leads) l is)
 
-  look : want plan ≡ Cell (Look Fail) → WorldFollows Quietly a s now (stepped_actor now.words (commit_job clean) plan (Look Fail) x)
-  look e = first plan (commit_task clean blocks now.most) (Cell (Look Fail)) f.job e (λ p. IsOfCommit clean now.most p.steps → At p → WorldFollows Quietly a s now (stepped_actor now.words (commit_job clean) p (Look Fail) x)) (λ later k o at. by later o at) (λ k q. absurd (cc)) f.steps f.at
+  look : want plan ≡ Cell (Look Fail) → WorldFollows Quietly a s now (stepped_actor now.words (flush_or_suspend clean) plan (Look Fail) x)
+  look e = first plan (commit_task clean blocks now.most) (Cell (Look Fail)) f.job e (λ p. IsOfCommit clean now.most p.steps → At p → WorldFollows Quietly a s now (stepped_actor now.words (flush_or_suspend clean) p (Look Fail) x)) (λ later k o at. by later o at) (λ k q. absurd (cc)) f.steps f.at
     where
       At : Plan → Type 0
       At p = IsLeading now.size its.2.failed p y ⊎ IsLate its.2.failed p y
 
-      by : (later : List Want) → IsToBegin clean now.most later → At (left (Cell (Look Fail) ∷ later)) → WorldFollows Quietly a s now (stepped_actor now.words (commit_job clean) (left (Cell (Look Fail) ∷ later)) (Look Fail) x)
+      by : (later : List Want) → IsToBegin clean now.most later → At (left (Cell (Look Fail) ∷ later)) → WorldFollows Quietly a s now (stepped_actor now.words (flush_or_suspend clean) (left (Cell (Look Fail) ∷ later)) (Look Fail) x)
       by later o (inl l) = looks now clean blocks a x s y wants.here its.1 wants.agrees later plan.answer o (not_leading (Cell (Look Fail)) later l.leads l.at l.is)
       by later o (inr l) = late_looks now clean blocks a x s y wants.here its.1 wants.agrees later plan.answer its.2 l
 
@@ -121,33 +121,33 @@ commit_steps_followed = record {
       (λ later leads l o is. sees now n a x s u.0 wants.here u.1 wants.agrees block seen' later plan.answer o.1 (not_leading true now a x plan s _ wants (Cell (Look (SealWord block))) later leads l is));
   begins = λ clean now nodes allowed marked a x plan s wants idle.
       let u = its clean now a x plan s _ wants in let n = blocks clean now a x plan s _ wants in
-      at_begin clean now a x plan s _ wants allowed marked wants.asks (λ p. WorldFollowsBy (Begins clean) Quietly a s (record now { committing = true }) (after_step (commit_job clean) p (Began nodes) x)) (λ is. begins now clean n a x s u.0 wants.here u.1 wants.agrees nodes plan.answer idle is);
+      at_begin clean now a x plan s _ wants allowed marked wants.asks (λ p. WorldFollowsBy (Begins clean) Quietly a s (record now { committing = true }) (after_step (flush_or_suspend clean) p (Began nodes) x)) (λ is. begins now clean n a x s u.0 wants.here u.1 wants.agrees nodes plan.answer idle is);
   is_refused = λ clean now allowed marked refusal a x plan s no wants.
       let u = its clean now a x plan s _ wants in let n = blocks clean now a x plan s _ wants in
-      at_begin clean now a x plan s _ wants allowed marked wants.asks (λ p. WorldFollows Quietly a s now (after_step (commit_job clean) p (Refused refusal) x)) (λ is. is_refused now clean n a x s u.0 wants.here u.1 wants.agrees refusal plan.answer no is);
+      at_begin clean now a x plan s _ wants allowed marked wants.asks (λ p. WorldFollows Quietly a s now (after_step (flush_or_suspend clean) p (Refused refusal) x)) (λ is. is_refused now clean n a x s u.0 wants.here u.1 wants.agrees refusal plan.answer no is);
   syncs = λ clean now device a x plan s h wants.
       let u = its clean now a x plan s _ wants in let n = blocks clean now a x plan s _ wants in
-      at_commit clean now a x plan s _ wants tt (λ p. WorldFollows Quietly a s (record now { devices = with_device device now.devices (synced (device_in device now.devices)) }) (after_step (commit_job clean) p Done x))
+      at_commit clean now a x plan s _ wants tt (λ p. WorldFollows Quietly a s (record now { devices = with_device device now.devices (synced (device_in device now.devices)) }) (after_step (flush_or_suspend clean) p Done x))
       (λ later leads l o is. syncs now clean n a x s u.0 wants.here u.1 wants.agrees device h later plan.answer o (leading now clean n a x s u.0 wants.here u.1 wants.agrees (Device (Sync device)) later plan.answer leads l is));
   sync_fails = λ clean now device lands a x plan s h wants.
       let u = its clean now a x plan s _ wants in let n = blocks clean now a x plan s _ wants in
-      at_commit clean now a x plan s _ wants tt (λ p. WorldFollows Quietly a s (record now { devices = with_device device now.devices (synced_where lands (device_in device now.devices)) }) (after_step (commit_job clean) p Fault x))
+      at_commit clean now a x plan s _ wants tt (λ p. WorldFollows Quietly a s (record now { devices = with_device device now.devices (synced_where lands (device_in device now.devices)) }) (after_step (flush_or_suspend clean) p Fault x))
       (λ later leads l o is. sync_falls now clean n a x s u.0 wants.here u.1 wants.agrees lands device h later plan.answer (leading now clean n a x s u.0 wants.here u.1 wants.agrees (Device (Sync device)) later plan.answer leads l is));
   on_metadata = λ clean now step metadata a x plan s d wants.
       let u = its clean now a x plan s _ wants in let n = blocks clean now a x plan s _ wants in
-      at_commit clean now a x plan s _ wants tt (λ p. WorldFollowsBy (turn_of step) Quietly a s (record now { devices = with_device Metadata now.devices metadata }) (after_step (commit_job clean) p Done x))
+      at_commit clean now a x plan s _ wants tt (λ p. WorldFollowsBy (turn_of step) Quietly a s (record now { devices = with_device Metadata now.devices metadata }) (after_step (flush_or_suspend clean) p Done x))
       (λ later leads l o is. metadata_done now clean n a x s u.0 wants.here u.1 wants.agrees metadata step later plan.answer d o (leading now clean n a x s u.0 wants.here u.1 wants.agrees (Device step) later plan.answer leads l is));
   metadata_fails = λ clean now step metadata a x plan s d wants.
       let u = its clean now a x plan s _ wants in let n = blocks clean now a x plan s _ wants in
-      at_commit clean now a x plan s _ wants tt (λ p. (written : Bool) × IsWrittenAfter step s.shared.root_written written × WorldFollowsBy (Puts written) Quietly a s (record now { devices = with_device Metadata now.devices metadata }) (after_step (commit_job clean) p Fault x))
+      at_commit clean now a x plan s _ wants tt (λ p. (written : Bool) × IsWrittenAfter step s.shared.root_written written × WorldFollowsBy (Puts written) Quietly a s (record now { devices = with_device Metadata now.devices metadata }) (after_step (flush_or_suspend clean) p Fault x))
       (λ later leads l o is. metadata_failed now clean n a x s u.0 wants.here u.1 wants.agrees metadata step later plan.answer (is_on_metadata now clean n a x s u.0 wants.here u.1 wants.agrees step later d o) (leading now clean n a x s u.0 wants.here u.1 wants.agrees (Device step) later plan.answer leads l is));
   ends = λ clean now a x plan s wants.
       let u = its clean now a x plan s _ wants in let n = blocks clean now a x plan s _ wants in
-      at_commit clean now a x plan s _ wants tt (λ p. WorldFollowsBy Ends Quietly a s (record now { committing = false }) (after_step (commit_job clean) p Done x))
+      at_commit clean now a x plan s _ wants tt (λ p. WorldFollowsBy Ends Quietly a s (record now { committing = false }) (after_step (flush_or_suspend clean) p Done x))
       (λ later leads l o is. ends now clean n a x s u.0 wants.here u.1 wants.agrees later plan.answer o (leading now clean n a x s u.0 wants.here u.1 wants.agrees (Desk EndCommit) later plan.answer leads l is));
   releases = λ clean now block a x plan s wants.
       let u = its clean now a x plan s _ wants in let n = blocks clean now a x plan s _ wants in
-      at_commit clean now a x plan s _ wants tt (λ p. WorldFollows Quietly a s now (after_step (commit_job clean) p Done x))
+      at_commit clean now a x plan s _ wants tt (λ p. WorldFollows Quietly a s now (after_step (flush_or_suspend clean) p Done x))
       (λ later leads l o is. releases now clean n a x s u.0 wants.here u.1 wants.agrees block later plan.answer o (not_leading clean now a x plan s _ wants (Desk (ReleaseOrder block)) later leads l is));
   gives_up = λ now block a x plan c order awaiting' s among wants slot only.
       let u = its false now a x plan s _ wants in let n = blocks false now a x plan s _ wants in
@@ -155,7 +155,7 @@ commit_steps_followed = record {
       (λ later leads l o is. gives_up now n a x s u.0 wants.here u.1 wants.agrees block later plan.answer o.1 (not_leading false now a x plan s _ wants (Desk (ReleaseOrder block)) later leads l is) c order awaiting' among slot only);
   fails = λ clean now failures suspensions a x plan s w wants.
       let u = its clean now a x plan s _ wants in let n = blocks clean now a x plan s _ wants in
-      at_last clean now a x plan s _ wants (Cell SetFailed) wants.asks tt (λ later o. o) (λ p. WorldFollows Quietly a s (record now { words = words_after now.words SetFailed }) (stepped_actor now.words (commit_job clean) p SetFailed x))
+      at_last clean now a x plan s _ wants (Cell SetFailed) wants.asks tt (λ later o. o) (λ p. WorldFollows Quietly a s (record now { words = words_after now.words SetFailed }) (stepped_actor now.words (flush_or_suspend clean) p SetFailed x))
       (λ leads l is. fails now clean n a x s u.0 wants.here u.1 wants.agrees failures suspensions plan.answer w (leading now clean n a x s u.0 wants.here u.1 wants.agrees (Cell SetFailed) [] plan.answer leads l is));
   suspends = λ now failures suspensions a x plan s w wants.
       let u = its true now a x plan s _ wants in let n = blocks true now a x plan s _ wants in

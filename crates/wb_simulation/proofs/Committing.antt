@@ -39,7 +39,7 @@ use Rattle.wb_promise.specs.States.{Actor, with_device}
 use Rattle.wb_simulation.specs.Actors.{IsLate, IsOfCommit, LeadsAt, StandsFor, AreReleases, AreAmongOthers}
 use Rattle.wb_simulation.specs.Telling.{Quietly, Releases}
 use Rattle.wb_simulation.specs.Worlds.{Situation, zeros, Agrees, Turn, Stays, Begins, Puts, Ends, GivesUp, TurnedTo, DeskTurnedTo, WorldFollowsBy, WorldFollows, IsUnfinished}
-use Rattle.wb_simulation.specs.Laws.{turn_of, commit_job, stepped_actor, IsOnlyOf}
+use Rattle.wb_simulation.specs.Laws.{turn_of, flush_or_suspend, stepped_actor, IsOnlyOf}
 use Rattle.wb_simulation.proofs.Telling.{unnoted_none, quiet_are_unnoted}
 use Rattle.wb_types.specs.declared.number.OBlock.{OBlock}
 use Rattle.wb_simulation.proofs.Orders.{does_none}
@@ -88,11 +88,11 @@ module _ (now : Situation) (clean : Bool) (blocks : List OBlock) (a : ℕ) (x : 
 
   -- a step on a device, done, with this left
   abbrev OnBy : Turn → Devices (List History) → Plan → Type 0
-  OnBy turn devices' plan' = WorldFollowsBy turn Quietly a s (record now { devices = devices' }) (record x { task = Some (commit_job clean, plan') })
+  OnBy turn devices' plan' = WorldFollowsBy turn Quietly a s (record now { devices = devices' }) (record x { task = Some (flush_or_suspend clean, plan') })
 
   -- and the images stay
   abbrev On : Devices (List History) → Plan → Type 0
-  On devices' plan' = WorldFollows Quietly a s (record now { devices = devices' }) (record x { task = Some (commit_job clean, plan') })
+  On devices' plan' = WorldFollows Quietly a s (record now { devices = devices' }) (record x { task = Some (flush_or_suspend clean, plan') })
 
   -- who leads, where that is known of the step
   pub leading : (next : Want) (later : List Want) (answer : Answer) (leads : Bool) → leads ≡ true → IsCommitting now.size [] (left (next ∷ later) answer) leads y → IsCommitting now.size [] (left (next ∷ later) answer) true y
@@ -160,9 +160,9 @@ module _ (now : Situation) (clean : Bool) (blocks : List OBlock) (a : ℕ) (x : 
 
   -- it leads no commit before it and after it
   follows_alone : (seen' : List Bool) (plan' : Plan) (card' : Card) → plan'.job ≡ commit_task clean blocks now.most → IsOfCommit clean now.most plan'.steps → LeadsAt false plan'.steps → CanGoOn now.size [] s.actors a s.shared y s.shared plan' false →
-      y.order ≡ None → WorldFollows Quietly a s now (record x { task = Some (commit_job clean, plan'); card = card'; seen = seen' })
+      y.order ≡ None → WorldFollows Quietly a s now (record x { task = Some (flush_or_suspend clean, plan'); card = card'; seen = seen' })
   follows_alone seen' plan' card' j o at l own =
-      goes_on now now.words (λ f. f) a x (record x { task = Some (commit_job clean, plan'); card = card'; seen = seen' }) s y g ex ey Quietly now.devices l.results s.shared (l.results, quiet_are_unnoted y.task l.results l.quiet, refl) l.may l.shared
+      goes_on now now.words (λ f. f) a x (record x { task = Some (flush_or_suspend clean, plan'); card = card'; seen = seen' }) s y g ex ey Quietly now.devices l.results s.shared (l.results, quiet_are_unnoted y.task l.results l.quiet, refl) l.may l.shared
       (stands now clean blocks a x s y ex ey g now.words plan' card' seen' false (gone y y.task l.results) j o at (λ e n. absurd (cc)) l.at)
       (λ k. let bad : true ≡ false = sym k ∙ ap (λ (v : AbstractActor). v.leads) l.at.is in absurd (cc)) g.words_agree g.origin g.cache refl refl refl (refl, refl, refl, refl, refl) (refl, refl) (ap (λ (v : AbstractActor). v.order) l.at.is ∙ sym own) (λ o h. h) (does_none _ _ _ _ _ (is_no_migration clean))
 
@@ -195,7 +195,7 @@ module _ (now : Situation) (clean : Bool) (blocks : List OBlock) (a : ℕ) (x : 
 
   -- a commit begins, which nobody has led
   pub begins : (nodes : ℕ) (answer : Answer) → now.committing ≡ false → IsCommitting now.size [] (left (Desk (BeginCommit clean now.most) ∷ []) answer) false y →
-      WorldFollowsBy (Begins clean) Quietly a s (record now { committing = true }) (record x { task = Some (commit_job clean, after (left (Desk (BeginCommit clean now.most) ∷ []) answer) (Began nodes)) })
+      WorldFollowsBy (Begins clean) Quietly a s (record now { committing = true }) (record x { task = Some (flush_or_suspend clean, after (left (Desk (BeginCommit clean now.most) ∷ []) answer) (Began nodes)) })
   begins nodes answer quiet is =
       let plan' = after (left (Desk (BeginCommit clean now.most) ∷ []) answer) (Began nodes) in
       let none : s.shared.committing ≡ false = g.commits ∙ quiet in
@@ -203,7 +203,7 @@ module _ (now : Situation) (clean : Bool) (blocks : List OBlock) (a : ℕ) (x : 
       let on = begun_on clean blocks now.most nodes in
       let t = effect s.shared (commit_there clean) (λ o. []) (begin_there clean) DoneThere in
       let b = begun_so clean s.shared in
-      goes_leading now now.words (λ f. f) a x (record x { task = Some (commit_job clean, plan') }) s y g ex ey (Begins clean) true l.results t (l.results, quiet_are_unnoted y.task l.results l.quiet, refl) l.may l.shared
+      goes_leading now now.words (λ f. f) a x (record x { task = Some (flush_or_suspend clean, plan') }) s y g ex ey (Begins clean) true l.results t (l.results, quiet_are_unnoted y.task l.results l.quiet, refl) l.may l.shared
       (stands now clean blocks a x s y ex ey g now.words plan' x.card x.seen true (gone y y.task l.results) refl on.0 on.1 (λ e n. absurd (leads_on clean n on.1)) l.at)
       (record { fail = b.fail ∙ g.words_agree.fail; seals = λ block. subst (λ f. SealAgrees (word_at now.words.seals block) (f block.0)) (sym b.seals) (g.words_agree.seals block) }) b.origin b.cache b.mode b.commits (λ e. b.commits) (λ d v n ev k. runs (g.led d v ev k)) (λ k. (b.commits, λ u. b.broken ∙ by_broken s.shared.broken refl)) b.turned b.desk (ap (λ (v : AbstractActor). v.order) l.at.is ∙ sym (ap (λ (v : AbstractActor). v.order) is.is)) refl b.mapping (is_no_migration clean)
     where
@@ -219,7 +219,7 @@ module _ (now : Situation) (clean : Bool) (blocks : List OBlock) (a : ℕ) (x : 
       leads_on false n l = absurd (cc)
 
   -- the commit ends, and nobody leads one
-  pub ends : (later : List Want) (answer : Answer) → IsOfCommit clean now.most (Desk EndCommit ∷ later) → IsCommitting now.size [] (left (Desk EndCommit ∷ later) answer) true y → WorldFollowsBy Ends Quietly a s (record now { committing = false }) (record x { task = Some (commit_job clean, after (left (Desk EndCommit ∷ later) answer) Done) })
+  pub ends : (later : List Want) (answer : Answer) → IsOfCommit clean now.most (Desk EndCommit ∷ later) → IsCommitting now.size [] (left (Desk EndCommit ∷ later) answer) true y → WorldFollowsBy Ends Quietly a s (record now { committing = false }) (record x { task = Some (flush_or_suspend clean, after (left (Desk EndCommit ∷ later) answer) Done) })
   ends later answer o is =
       let plan' = after (left (Desk EndCommit ∷ later) answer) Done in
       let l = followed_alone.ends clean later now.size blocks now.most [] s.actors a s.shared y answer is in
@@ -227,21 +227,21 @@ module _ (now : Situation) (clean : Bool) (blocks : List OBlock) (a : ℕ) (x : 
       let lead : y.leads ≡ true = ap (λ (v : AbstractActor). v.leads) is.is in
       let some : wants_of now.size None (job_for now.size [] (commit_task clean blocks now.most)) (Desk EndCommit ∷ later) ≢ [] = (λ e. absurd (cc)) in
       let whole : s.shared.broken ≡ false = g.whole a y ey lead (subst (λ (v : AbstractActor). IsUnfinished v.task) (sym is.is) some) in
-      goes_leading now now.words (λ f. f) a x (record x { task = Some (commit_job clean, plan') }) s y g ex ey Ends false l.results (effect s.shared (commit_there clean) (λ o. []) End_running DoneThere) (l.results, quiet_are_unnoted y.task l.results l.quiet, refl) l.may l.shared
+      goes_leading now now.words (λ f. f) a x (record x { task = Some (flush_or_suspend clean, plan') }) s y g ex ey Ends false l.results (effect s.shared (commit_there clean) (λ o. []) End_running DoneThere) (l.results, quiet_are_unnoted y.task l.results l.quiet, refl) l.may l.shared
       (stands now clean blocks a x s y ex ey g now.words plan' x.card x.seen false (gone y y.task l.results) refl on.0 on.1 (λ e n. absurd (cc)) l.at)
       (record { fail = g.words_agree.fail; seals = g.words_agree.seals }) refl refl refl refl (λ e. let bad : true ≡ false = sym e ∙ whole in absurd (cc)) (leads_alone now clean blocks a x s y ex ey g lead)
       (λ k. let bad : true ≡ false = sym k ∙ ap (λ (v : AbstractActor). v.leads) l.at.is in absurd (cc)) (refl, refl, refl) (refl, refl) (ap (λ (v : AbstractActor). v.order) l.at.is ∙ sym (ap (λ (v : AbstractActor). v.order) is.is)) refl refl (is_no_migration clean)
 
   -- the failed bit is set, and the commit is broken
   pub fails : (failures suspensions : ℕ) (answer : Answer) → now.words.fail ≡ fail_word failures suspensions → IsCommitting now.size [] (left (Cell SetFailed ∷ []) answer) true y →
-      WorldFollows Quietly a s (record now { words = words_after now.words SetFailed }) (record x { task = Some (commit_job clean, after (left (Cell SetFailed ∷ []) answer) Done); card = card_after now.words SetFailed x.card })
+      WorldFollows Quietly a s (record now { words = words_after now.words SetFailed }) (record x { task = Some (flush_or_suspend clean, after (left (Cell SetFailed ∷ []) answer) Done); card = card_after now.words SetFailed x.card })
   fails f z answer e is =
       let plan' = after (left (Cell SetFailed ∷ []) answer) Done in
       let failed : flag (words_after now.words SetFailed).fail ≡ true = failed_flag now.words.fail f z e in
       let l = followed_alone.fails clean now.size blocks now.most [] s.actors a s.shared y answer is in
       let lead : y.leads ≡ true = ap (λ (v : AbstractActor). v.leads) is.is in
       let runs = g.led a y ey lead in
-      goes_leading now (words_after now.words SetFailed) (λ k. failed) a x (record x { task = Some (commit_job clean, plan'); card = card_after now.words SetFailed x.card }) s y g ex ey Stays now.committing l.results (record s.shared { fail = true; broken = true }) (l.results, quiet_are_unnoted y.task l.results l.quiet, refl) l.may l.shared
+      goes_leading now (words_after now.words SetFailed) (λ k. failed) a x (record x { task = Some (flush_or_suspend clean, plan'); card = card_after now.words SetFailed x.card }) s y g ex ey Stays now.committing l.results (record s.shared { fail = true; broken = true }) (l.results, quiet_are_unnoted y.task l.results l.quiet, refl) l.may l.shared
       (stands now clean blocks a x s y ex ey g (words_after now.words SetFailed) plan' (card_after now.words SetFailed x.card) x.seen true (gone y y.task l.results) refl tt tt (λ k n. failed) l.at)
       (record { fail = sym failed; seals = g.words_agree.seals }) refl refl refl g.commits (λ k. runs) (leads_alone now clean blocks a x s y ex ey g lead) (λ k. (runs, λ u. absurd (subst (λ (v : AbstractActor). IsUnfinished v.task) l.at.is u refl)))
       (refl, refl, refl, refl, refl) (refl, refl) (ap (λ (v : AbstractActor). v.order) l.at.is ∙ sym (ap (λ (v : AbstractActor). v.order) is.is)) refl refl (is_no_migration clean)
@@ -249,7 +249,7 @@ module _ (now : Situation) (clean : Bool) (blocks : List OBlock) (a : ℕ) (x : 
   -- ---- its look at the fail word, and its answer
 
   pub looks : (later : List Want) (answer : Answer) → IsToBegin clean now.most later → IsCommitting now.size [] (left (Cell (Look Fail) ∷ later) answer) false y →
-      WorldFollows Quietly a s now (stepped_actor now.words (commit_job clean) (left (Cell (Look Fail) ∷ later) answer) (Look Fail) x)
+      WorldFollows Quietly a s now (stepped_actor now.words (flush_or_suspend clean) (left (Cell (Look Fail) ∷ later) answer) (Look Fail) x)
   looks later answer n is =
       let k = by_test (now.words.fail == 0) in follows_alone x.seen (after (left (Cell (Look Fail) ∷ later) answer) (Word now.words.fail)) _ k.2 k.0 k.1 (followed_alone.looks clean now.size blocks now.most now.words.fail [] s.actors a s.shared y later answer g.words_agree.fail is) (ap (λ (v : AbstractActor). v.order) is.is)
     where
@@ -290,9 +290,9 @@ module _ (now : Situation) (blocks : List OBlock) (a : ℕ) (x : Actor) (s : Wor
 -- one that is late has no task there
 pub late_looks : (now : Situation) (clean : Bool) (blocks : List OBlock) (a : ℕ) (x : Actor) (s : World) (y : AbstractActor) → slice_get now.actors a ≡ Some x → slice_get s.actors a ≡ Some y → Agrees now s →
     (later : List Want) (answer : Answer) (st : StandsFor now.size now.most now.words x y) → IsLate st.failed (committing clean blocks now.most (Cell (Look Fail) ∷ later) answer) y →
-    WorldFollows Quietly a s now (stepped_actor now.words (commit_job clean) (committing clean blocks now.most (Cell (Look Fail) ∷ later) answer) (Look Fail) x)
-late_looks now clean blocks a x s y ex ey g later answer st l = subst (λ (p : Plan). WorldFollows Quietly a s now (record x { task = Some (commit_job clean, p); card = card_after now.words (Look Fail) x.card })) (sym (finds_failed now.words (commit_task clean blocks now.most) later answer (st.has_failed l.has_failed)))
-    (stays_there now a x (record x { task = Some (commit_job clean, committing clean blocks now.most [] (Refuses Failed)); card = card_after now.words (Look Fail) x.card }) s y g ex ey Quietly ([], unnoted_none y.task, refl)
+    WorldFollows Quietly a s now (stepped_actor now.words (flush_or_suspend clean) (committing clean blocks now.most (Cell (Look Fail) ∷ later) answer) (Look Fail) x)
+late_looks now clean blocks a x s y ex ey g later answer st l = subst (λ (p : Plan). WorldFollows Quietly a s now (record x { task = Some (flush_or_suspend clean, p); card = card_after now.words (Look Fail) x.card })) (sym (finds_failed now.words (commit_task clean blocks now.most) later answer (st.has_failed l.has_failed)))
+    (stays_there now a x (record x { task = Some (flush_or_suspend clean, committing clean blocks now.most [] (Refuses Failed)); card = card_after now.words (Look Fail) x.card }) s y g ex ey Quietly ([], unnoted_none y.task, refl)
     (record {
       failed = st.failed;
       has_failed = st.has_failed;

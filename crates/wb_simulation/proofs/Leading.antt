@@ -24,7 +24,7 @@ use Rattle.wb_refines.specs.Commits.{IsCommitting, IsOnMetadata, committing, com
 use Rattle.wb_refines.proofs.Holding.{holds_nothing}
 use Rattle.wb_promise.specs.States.{Actor}
 use Rattle.wb_simulation.specs.Actors.{IsCommitAt, IsOfCommit, LeadsAt, IsDoing, IsAmong, StandsFor}
-use Rattle.wb_simulation.specs.Laws.{commit_job}
+use Rattle.wb_simulation.specs.Laws.{flush_or_suspend}
 use Rattle.wb_simulation.specs.Telling.{Quietly}
 use Rattle.wb_simulation.specs.Worlds.{Situation, zeros, Agrees, Turn, TurnedTo, DeskTurnedTo, WorldFollowsBy, IsUnfinished}
 use Rattle.wb_simulation.proofs.Telling.{quiet_are_unnoted}
@@ -81,20 +81,20 @@ begins_by_look false blocks most = refl
 
 -- ---- which of both it is
 
-pub is_no_migration : (clean : Bool) → MigratesNot (commit_job clean)
+pub is_no_migration : (clean : Bool) → MigratesNot (flush_or_suspend clean)
 is_no_migration true = tt
 is_no_migration false = tt
 
-pub as_doing : (clean : Bool) (size most : ℕ) (failed : Bool) (plan : Plan) (card : Card) (y : AbstractActor) → IsCommitAt size most failed clean plan y → IsDoing size most failed (commit_job clean) plan card y
+pub as_doing : (clean : Bool) (size most : ℕ) (failed : Bool) (plan : Plan) (card : Card) (y : AbstractActor) → IsCommitAt size most failed clean plan y → IsDoing size most failed (flush_or_suspend clean) plan card y
 as_doing true size most failed plan card y at = at
 as_doing false size most failed plan card y at = at
 
-pub doing_as : (clean : Bool) (size most : ℕ) (failed : Bool) (plan : Plan) (card : Card) (y : AbstractActor) → IsDoing size most failed (commit_job clean) plan card y → IsCommitAt size most failed clean plan y
+pub doing_as : (clean : Bool) (size most : ℕ) (failed : Bool) (plan : Plan) (card : Card) (y : AbstractActor) → IsDoing size most failed (flush_or_suspend clean) plan card y → IsCommitAt size most failed clean plan y
 doing_as true size most failed plan card y at = at
 doing_as false size most failed plan card y at = at
 
 -- a flush is no suspend
-flushes_among : (clean : Bool) (size : ℕ) (blocks : List OBlock) (most : ℕ) → IsAmong (commit_job clean) → job_alone (job_for size [] (commit_task clean blocks most)) ≡ false
+flushes_among : (clean : Bool) (size : ℕ) (blocks : List OBlock) (most : ℕ) → IsAmong (flush_or_suspend clean) → job_alone (job_for size [] (commit_task clean blocks most)) ≡ false
 flushes_among true size blocks most among = absurd among
 flushes_among false size blocks most among = refl
 
@@ -111,7 +111,7 @@ by_commit size most failed clean plan next y e within f P h = elim f.at [
 module _ (now : Situation) (clean : Bool) (blocks : List OBlock) (a : ℕ) (x : Actor) (s : World) (y : AbstractActor) (ex : slice_get now.actors a ≡ Some x) (ey : slice_get s.actors a ≡ Some y) (g : Agrees now s) where
   -- who stands there now
   pub stands : (words' : Words) (plan' : Plan) (card' : Card) (seen' : List Bool) (leads' : Bool) (z : AbstractActor) → plan'.job ≡ commit_task clean blocks now.most → IsOfCommit clean now.most plan'.steps → LeadsAt leads' plan'.steps → (leads' ≡ true → plan'.steps ≡ [] → flag words'.fail ≡ true) → IsCommitting now.size [] plan' leads' z →
-      StandsFor now.size now.most words' (record x { task = Some (commit_job clean, plan'); card = card'; seen = seen' }) z
+      StandsFor now.size now.most words' (record x { task = Some (flush_or_suspend clean, plan'); card = card'; seen = seen' }) z
   stands words' plan' card' seen' leads' z j o l f is = record {
     failed = flag words'.fail;
     has_failed = λ e. e;
@@ -127,7 +127,7 @@ module _ (now : Situation) (clean : Bool) (blocks : List OBlock) (a : ℕ) (x : 
   -- one that leads goes on by a step on a device, and its commit stays whole
   pub goes : (turn : Turn) (devices' : Devices (List History)) (next : Want) (later : List Want) (answer : Answer) (plan' : Plan) (t : Shared) → IsCommitting now.size [] (committing clean blocks now.most (next ∷ later) answer) true y → wants_of now.size None (job_for now.size [] (commit_task clean blocks now.most)) (next ∷ later) ≢ [] → CanGoOn now.size [] s.actors a s.shared y t plan' true →
       plan'.job ≡ commit_task clean blocks now.most → IsOfCommit clean now.most plan'.steps → LeadsAt true plan'.steps → (plan'.steps ≢ []) → WordsAgree now.words t → t.origin ≡ by_block now.size zeros devices'.origin → t.cache ≡ by_block now.size zeros devices'.cache → t.mode ≡ s.shared.mode → t.committing ≡ s.shared.committing → t.broken ≡ s.shared.broken → TurnedTo turn s.shared t → DeskTurnedTo turn s.shared t → t.mapping ≡ s.shared.mapping →
-      WorldFollowsBy turn Quietly a s (record now { devices = devices' }) (record x { task = Some (commit_job clean, plan') })
-  goes turn devices' next later answer plan' t is some l j o at unfinished w og ca mo co br turned desk same_map = goes_by now now.words (λ f. f) a x (record x { task = Some (commit_job clean, plan') }) s y g ex ey turn Quietly devices' l.results t (l.results, quiet_are_unnoted y.task l.results l.quiet, refl) l.may l.shared
+      WorldFollowsBy turn Quietly a s (record now { devices = devices' }) (record x { task = Some (flush_or_suspend clean, plan') })
+  goes turn devices' next later answer plan' t is some l j o at unfinished w og ca mo co br turned desk same_map = goes_by now now.words (λ f. f) a x (record x { task = Some (flush_or_suspend clean, plan') }) s y g ex ey turn Quietly devices' l.results t (l.results, quiet_are_unnoted y.task l.results l.quiet, refl) l.may l.shared
       (stands now.words plan' x.card x.seen true (gone y y.task l.results) j o at (λ e n. absurd (unfinished n)) l.at) (λ k. (ap (λ (v : AbstractActor). v.leads) is.is, λ more. subst (λ (v : AbstractActor). IsUnfinished v.task) (sym is.is) some)) w og ca mo co br turned desk
       (ap (λ (v : AbstractActor). v.order) l.at.is ∙ sym (ap (λ (v : AbstractActor). v.order) is.is)) (λ o h. h) same_map (does_none _ _ _ _ _ (is_no_migration clean))

@@ -153,57 +153,57 @@ abbrev pub IsOnlyOf : List Actor → ℕ → Order → Type 0
 IsOnlyOf actors a order = (b : ℕ) (z : Actor) → slice_get actors b ≡ Some z → Contains (held z) order → b ≡ a
 
 -- the job of a run that makes such a commit
-abbrev pub commit_job : (clean : Bool) → Job
-commit_job true = Suspend
-commit_job false = Flush
+abbrev pub flush_or_suspend : (clean : Bool) → Job
+flush_or_suspend true = Suspend
+flush_or_suspend false = Flush
 
 -- Each step of a flush, or of a suspend, which marks its root clean, with each result that it may have: on the words, on the desk, and on the
 -- devices, done or failing.
 pub record CommitStepsFollowed : Type 0 where
   pub looks : (clean : Bool) (now : Situation) (a : ℕ) (x : Actor) (plan : Plan) (s : World) →
-      WantsNext now a x s (commit_job clean) plan (Cell (Look Fail)) →
-      WorldFollows Quietly a s now (stepped_actor now.words (commit_job clean) plan (Look Fail) x)
+      WantsNext now a x s (flush_or_suspend clean) plan (Cell (Look Fail)) →
+      WorldFollows Quietly a s now (stepped_actor now.words (flush_or_suspend clean) plan (Look Fail) x)
   -- a suspend has seen this then
   pub sees : (now : Situation) (block : OBlock) (seen' : List Bool) (a : ℕ) (x : Actor) (plan : Plan) (s : World) →
       WantsNext now a x s Suspend plan (Cell (Look (SealWord block))) →
       WorldFollows Quietly a s now (record (stepped_actor now.words Suspend plan (Look (SealWord block)) x) { seen = seen' })
   pub begins : (clean : Bool) (now : Situation) (nodes allowed : ℕ) (marked : Bool) (a : ℕ) (x : Actor) (plan : Plan) (s : World) →
-      WantsNext now a x s (commit_job clean) plan (Desk (BeginCommit marked allowed)) → now.committing ≡ false →
-      WorldFollowsBy (Begins clean) Quietly a s (record now { committing = true }) (after_step (commit_job clean) plan (Began nodes) x)
+      WantsNext now a x s (flush_or_suspend clean) plan (Desk (BeginCommit marked allowed)) → now.committing ≡ false →
+      WorldFollowsBy (Begins clean) Quietly a s (record now { committing = true }) (after_step (flush_or_suspend clean) plan (Began nodes) x)
   pub is_refused : (clean : Bool) (now : Situation) (allowed : ℕ) (marked : Bool) (refusal : Refusal) (a : ℕ) (x : Actor) (plan : Plan) (s : World) → IsNoBegin refusal →
-      WantsNext now a x s (commit_job clean) plan (Desk (BeginCommit marked allowed)) →
-      WorldFollows Quietly a s now (after_step (commit_job clean) plan (Refused refusal) x)
+      WantsNext now a x s (flush_or_suspend clean) plan (Desk (BeginCommit marked allowed)) →
+      WorldFollows Quietly a s now (after_step (flush_or_suspend clean) plan (Refused refusal) x)
   pub syncs : (clean : Bool) (now : Situation) (device : Dev) (a : ℕ) (x : Actor) (plan : Plan) (s : World) → HoldsBlocks device →
-      WantsNext now a x s (commit_job clean) plan (Device (Sync device)) →
-      WorldFollows Quietly a s (record now { devices = with_device device now.devices (synced (device_in device now.devices)) }) (after_step (commit_job clean) plan Done x)
+      WantsNext now a x s (flush_or_suspend clean) plan (Device (Sync device)) →
+      WorldFollows Quietly a s (record now { devices = with_device device now.devices (synced (device_in device now.devices)) }) (after_step (flush_or_suspend clean) plan Done x)
   pub sync_fails : (clean : Bool) (now : Situation) (device : Dev) (lands : ℕ → Bool) (a : ℕ) (x : Actor) (plan : Plan) (s : World) → HoldsBlocks device →
-      WantsNext now a x s (commit_job clean) plan (Device (Sync device)) →
-      WorldFollows Quietly a s (record now { devices = with_device device now.devices (synced_where lands (device_in device now.devices)) }) (after_step (commit_job clean) plan Fault x)
+      WantsNext now a x s (flush_or_suspend clean) plan (Device (Sync device)) →
+      WorldFollows Quietly a s (record now { devices = with_device device now.devices (synced_where lands (device_in device now.devices)) }) (after_step (flush_or_suspend clean) plan Fault x)
   -- whatever the step leaves of the metadata
   pub on_metadata : (clean : Bool) (now : Situation) (step : DeviceStep) (metadata : List History) (a : ℕ) (x : Actor) (plan : Plan) (s : World) → device_of step ≡ Metadata →
-      WantsNext now a x s (commit_job clean) plan (Device step) →
-      WorldFollowsBy (turn_of step) Quietly a s (record now { devices = with_device Metadata now.devices metadata }) (after_step (commit_job clean) plan Done x)
+      WantsNext now a x s (flush_or_suspend clean) plan (Device step) →
+      WorldFollowsBy (turn_of step) Quietly a s (record now { devices = with_device Metadata now.devices metadata }) (after_step (flush_or_suspend clean) plan Done x)
   pub metadata_fails : (clean : Bool) (now : Situation) (step : DeviceStep) (metadata : List History) (a : ℕ) (x : Actor) (plan : Plan) (s : World) → device_of step ≡ Metadata →
-      WantsNext now a x s (commit_job clean) plan (Device step) →
-      (written : Bool) × IsWrittenAfter step s.shared.root_written written × WorldFollowsBy (Puts written) Quietly a s (record now { devices = with_device Metadata now.devices metadata }) (after_step (commit_job clean) plan Fault x)
+      WantsNext now a x s (flush_or_suspend clean) plan (Device step) →
+      (written : Bool) × IsWrittenAfter step s.shared.root_written written × WorldFollowsBy (Puts written) Quietly a s (record now { devices = with_device Metadata now.devices metadata }) (after_step (flush_or_suspend clean) plan Fault x)
   pub ends : (clean : Bool) (now : Situation) (a : ℕ) (x : Actor) (plan : Plan) (s : World) →
-      WantsNext now a x s (commit_job clean) plan (Desk EndCommit) →
-      WorldFollowsBy Ends Quietly a s (record now { committing = false }) (after_step (commit_job clean) plan Done x)
+      WantsNext now a x s (flush_or_suspend clean) plan (Desk EndCommit) →
+      WorldFollowsBy Ends Quietly a s (record now { committing = false }) (after_step (flush_or_suspend clean) plan Done x)
   -- an order that waits for a flush is given up, where nobody suspends; or none is
   pub gives_up : (now : Situation) (block : OBlock) (a : ℕ) (x : Actor) (plan : Plan) (c : ℕ) (order : Order) (awaiting' : List Order) (s : World) → AreAmongOthers now.actors →
       WantsNext now a x s Flush plan (Desk (ReleaseOrder block)) → slice_get now.orders c ≡ Some (Some order) → IsOnlyOf now.actors a order →
       WorldFollowsBy (GivesUp c) Releases a s (record now { orders = slice_set now.orders c None }) (record (after_step Flush plan Done x) { awaiting = awaiting' })
   pub releases : (clean : Bool) (now : Situation) (block : OBlock) (a : ℕ) (x : Actor) (plan : Plan) (s : World) →
-      WantsNext now a x s (commit_job clean) plan (Desk (ReleaseOrder block)) →
-      WorldFollows Quietly a s now (after_step (commit_job clean) plan Done x)
+      WantsNext now a x s (flush_or_suspend clean) plan (Desk (ReleaseOrder block)) →
+      WorldFollows Quietly a s now (after_step (flush_or_suspend clean) plan Done x)
   pub fails : (clean : Bool) (now : Situation) (failures suspensions : ℕ) (a : ℕ) (x : Actor) (plan : Plan) (s : World) → now.words.fail ≡ fail_word failures suspensions →
-      WantsNext now a x s (commit_job clean) plan (Cell SetFailed) →
-      WorldFollows Quietly a s (record now { words = words_after now.words SetFailed }) (stepped_actor now.words (commit_job clean) plan SetFailed x)
+      WantsNext now a x s (flush_or_suspend clean) plan (Cell SetFailed) →
+      WorldFollows Quietly a s (record now { words = words_after now.words SetFailed }) (stepped_actor now.words (flush_or_suspend clean) plan SetFailed x)
   pub suspends : (now : Situation) (failures suspensions : ℕ) (a : ℕ) (x : Actor) (plan : Plan) (s : World) → now.words.fail ≡ fail_word failures suspensions →
       WantsNext now a x s Suspend plan (Cell SetSuspended) →
       WorldFollows Quietly a s (record now { words = words_after now.words SetSuspended }) (stepped_actor now.words Suspend plan SetSuspended x)
   pub answers : (clean : Bool) (now : Situation) (answer : Answer) (a : ℕ) (x : Actor) (plan : Plan) (orders' awaiting' : List Order) (s : World) →
-      WantsNext now a x s (commit_job clean) plan (End answer) → ((o : Order) → Contains (held x) o → Contains (orders' ++ awaiting') o) →
+      WantsNext now a x s (flush_or_suspend clean) plan (End answer) → ((o : Order) → Contains (held x) o → Contains (orders' ++ awaiting') o) →
       WorldFollows (Answers (commit_there clean) answer) a s now (record x { task = None; orders = orders'; awaiting = awaiting' })
 
 -- a target that was just made over empty devices of these sizes, with so many actors who have nothing to do, and no order

@@ -1,9 +1,10 @@
 -- What the calls do to the parts of a sketch, as steps of its frequencies.
-use Rattle.std.proofs.Common.{◌≡◌, ◌≤◌, ◌<◌, ◌+◌, ◌/◌, ◌^◌, ℕ, min, Bool, true, false, ◌&&◌, nat_lt, List, length, replicate, get_or, set, refl, arith}
+use Rattle.std.proofs.Common.{◌≡◌, ◌≤◌, ◌<◌, ◌+◌, ◌/◌, ◌^◌, ℕ, Bool, true, false, ◌&&◌, nat_lt, List, length, replicate, get_or, set, refl, ◌∙◌, arith}
 use Rattle.std.proofs.lemmas.Bool.Decides.{nat_tests}
 use Rattle.wb_sketch.specs.Sizes.{row_bits, sample_limit}
-use Rattle.wb_sketch.specs.Places.{place_of, row_constant1, row_constant2, row_constant3, row_constant4, door_constant1, door_constant2}
-use Rattle.wb_sketch.specs.Frequencies.{Frequencies, frequencies, empty, counter1, counter2, counter3, counter4, least_of, is_member, estimate_of, raised_at, raised, admitted, halved, reset, counted, accessed}
+use Rattle.wb_sketch.specs.declared.place.Places.{Places}
+use Rattle.wb_sketch.specs.Places.{place_of, places_of, door_constant1, door_constant2}
+use Rattle.wb_sketch.specs.Frequencies.{Frequencies, frequencies, empty, counter1, counter2, counter3, counter4, least_at, least_of, is_member, estimate_of, raised_at, raised, admitted, halved, reset, counted, accessed}
 
 pub member-is : (f : Frequencies) (bits block d1 d2 : ℕ) → bits ≡ row_bits f.cache_blocks
     → d1 ≡ place_of door_constant1 (bits + 3) block → d2 ≡ place_of door_constant2 (bits + 3) block
@@ -11,22 +12,16 @@ pub member-is : (f : Frequencies) (bits block d1 d2 : ℕ) → bits ≡ row_bits
 unfolding is_member
 member-is f bits block d1 d2 b p1 p2 = rw (p1, p2, b) refl
 
-pub least-is : (f : Frequencies) (bits block p1 p2 p3 p4 c1 c2 c3 c4 : ℕ) → bits ≡ row_bits f.cache_blocks
-    → p1 ≡ place_of row_constant1 bits block → p2 ≡ place_of row_constant2 bits block
-    → p3 ≡ place_of row_constant3 bits block → p4 ≡ place_of row_constant4 bits block
-    → c1 ≡ get_or f.row1 p1 0 → c2 ≡ get_or f.row2 p2 0 → c3 ≡ get_or f.row3 p3 0 → c4 ≡ get_or f.row4 p4 0
-    → min (min c1 c2) (min c3 c4) ≡ least_of f block
-unfolding least_of counter1 counter2 counter3 counter4
-least-is f bits block p1 p2 p3 p4 c1 c2 c3 c4 b q1 q2 q3 q4 e1 e2 e3 e4 = rw (e1, e2, e3, e4, q1, q2, q3, q4, b) refl
+pub least-is : (f : Frequencies) (block : ℕ) (at : Places) → at ≡ places_of f.cache_blocks block → least_at f at ≡ least_of f block
+unfolding least_of least_at places_of counter1 counter2 counter3 counter4
+least-is f block at e = rw e refl
 
-pub raised-is : (f : Frequencies) (bits block least p1 p2 p3 p4 : ℕ) (n1 n2 n3 n4 : List ℕ) → bits ≡ row_bits f.cache_blocks
-    → least ≡ least_of f block
-    → p1 ≡ place_of row_constant1 bits block → p2 ≡ place_of row_constant2 bits block
-    → p3 ≡ place_of row_constant3 bits block → p4 ≡ place_of row_constant4 bits block
-    → n1 ≡ raised_at least p1 f.row1 → n2 ≡ raised_at least p2 f.row2 → n3 ≡ raised_at least p3 f.row3 → n4 ≡ raised_at least p4 f.row4
+pub raised-is : (f : Frequencies) (block least : ℕ) (at : Places) (n1 n2 n3 n4 : List ℕ)
+    → at ≡ places_of f.cache_blocks block → least ≡ least_at f at
+    → n1 ≡ raised_at least at.row1 f.row1 → n2 ≡ raised_at least at.row2 f.row2 → n3 ≡ raised_at least at.row3 f.row3 → n4 ≡ raised_at least at.row4 f.row4
     → frequencies f.cache_blocks n1 n2 n3 n4 f.doorkeeper f.sample ≡ raised f block
-unfolding raised
-raised-is f bits block least p1 p2 p3 p4 n1 n2 n3 n4 b l q1 q2 q3 q4 e1 e2 e3 e4 = rw (e1, e2, e3, e4, q1, q2, q3, q4, l, b) refl
+unfolding raised places_of
+raised-is f block least at n1 n2 n3 n4 p l e1 e2 e3 e4 = rw (e1, e2, e3, e4, l ∙ least-is f block at p, p) refl
 
 pub admitted-is : (f : Frequencies) (bits block d1 d2 : ℕ) (once twice : List Bool) → bits ≡ row_bits f.cache_blocks
     → d1 ≡ place_of door_constant1 (bits + 3) block → d2 ≡ place_of door_constant2 (bits + 3) block

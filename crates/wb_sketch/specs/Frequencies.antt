@@ -1,6 +1,7 @@
 -- The frequency sketch: counters, doorkeeper, sample, and what an access makes of them.
 use Rattle.std.specs.Prelude.{◌≡◌, ◌≤◌, ◌<◌, ◌+◌, ◌/◌, ◌^◌, ℕ, min, Bool, true, false, ◌&&◌, ◌==◌, nat_lt, if◌then◌else◌, List, [], ◌∷◌, length, map, replicate, get_or, slice_index, slice_set, set}
 use Rattle.wb_sketch.specs.Sizes.{row_bits, sample_limit}
+use Rattle.wb_sketch.specs.declared.place.Places.{Places}
 use Rattle.wb_sketch.specs.Places.{row_place, door_place, row_constant1, row_constant2, row_constant3, row_constant4, door_constant1, door_constant2}
 
 -- What a sketch says of the accesses since it was made: four rows of counters, each 0 to 15, a doorkeeper,
@@ -56,6 +57,17 @@ counter3 f block = slice_index f.row3 (row_place row_constant3 f.cache_blocks bl
 
 unfoldable pub counter4 : Frequencies → ℕ → ℕ
 counter4 f block = slice_index f.row4 (row_place row_constant4 f.cache_blocks block)
+
+-- these places, one in each row, are places of it
+pub record AreWithin (f : Frequencies) (at : Places) : Type 0 where
+  pub row1 : at.row1 < length f.row1
+  pub row2 : at.row2 < length f.row2
+  pub row3 : at.row3 < length f.row3
+  pub row4 : at.row4 < length f.row4
+
+-- the least of the counters there
+unfoldable pub least_at : Frequencies → Places → ℕ
+least_at f at = min (min (slice_index f.row1 at.row1) (slice_index f.row2 at.row2)) (min (slice_index f.row3 at.row3) (slice_index f.row4 at.row4))
 
 -- the least of a block's four counters
 unfoldable pub least_of : Frequencies → ℕ → ℕ

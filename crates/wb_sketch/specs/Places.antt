@@ -1,6 +1,7 @@
 -- Where a block has its places in a sketch.
 use Rattle.std.specs.Prelude.{◌+◌, ◌-◌, ◌*◌, ◌/◌, ◌%◌, ◌^◌, ℕ}
 use Rattle.wb_sketch.specs.Sizes.{row_bits}
+use Rattle.wb_sketch.specs.declared.place.Places.{Places}
 
 -- the place of a block among 2 ^ bits: the highest bits of its product with a constant, modulo 2 ^ 64
 unfoldable pub place_of : ℕ → ℕ → ℕ → ℕ
@@ -33,3 +34,12 @@ row_place constant cache_blocks block = place_of constant (row_bits cache_blocks
 -- a place of a block in the doorkeeper, which is eight times as wide as a row
 abbrev pub door_place : ℕ → ℕ → ℕ → ℕ
 door_place constant cache_blocks block = place_of constant (row_bits cache_blocks + 3) block
+
+-- where a block has its counters, one in each row
+unfoldable pub places_of : ℕ → ℕ → Places
+places_of cache_blocks block = record {
+  row1 = row_place row_constant1 cache_blocks block;
+  row2 = row_place row_constant2 cache_blocks block;
+  row3 = row_place row_constant3 cache_blocks block;
+  row4 = row_place row_constant4 cache_blocks block;
+}

@@ -19,6 +19,15 @@ pub const DOOR1: u64 = 0xFF51_AFD7_ED55_8CCD;
 
 pub const DOOR2: u64 = 0xC4CE_B9FE_1A85_EC53;
 
+/// Where a block has its counters, one in each row.
+#[derive(Clone, Copy, Debug)]
+pub(crate) struct Places {
+    pub(crate) row1: usize,
+    pub(crate) row2: usize,
+    pub(crate) row3: usize,
+    pub(crate) row4: usize,
+}
+
 /// The place of a block among `2^bits`: the highest bits of its product with a constant, modulo 2^64.
 pub fn place(block: OBlock, constant: u64, bits: u32) -> usize
     requires from { 1 ≤ bits }

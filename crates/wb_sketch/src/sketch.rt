@@ -1,12 +1,13 @@
 //! The sketch: four rows, a doorkeeper and a sample.
 
 ghost use Rattle.std.specs.Prelude.{◌≡◌, ◌≤◌, ◌<◌, ◌+◌, ◌^◌, IfOk, IfErr};
-ghost use Rattle.wb_sketch.specs.Frequencies.{accessed, admitted, counted, empty, estimate_of, is_member, least_of, raised, row_of};
+ghost use Rattle.wb_sketch.specs.Frequencies.{accessed, admitted, counted, empty, estimate_of, is_member, least_at, raised, row_of, AreWithin};
+ghost use Rattle.wb_sketch.specs.Places.{places_of};
 ghost use Rattle.wb_sketch.specs.Packed.{counters_in};
 ghost use Rattle.wb_sketch.specs.Sizes.{IsRowBits, row_bits, sample_limit};
 
 use crate::doorkeeper::Doorkeeper;
-use crate::place::{DOOR1, DOOR2, ROW1, ROW2, ROW3, ROW4, place};
+use crate::place::{DOOR1, DOOR2, Places, ROW1, ROW2, ROW3, ROW4, place};
 use crate::row::Row;
 use std::alloc::Global;
 use std::marker::Model;
@@ -91,7 +92,7 @@ impl Sketch {
         ensures value { result ≡ estimate_of self.now x.0 }
         ensures at_most { result ≤ 16 }
     {
-        let least = self.least(x);
+        let least = self.least(self.places(x));
         if self.is_known(x) { least + 1 } else { least }
     }
 
@@ -128,15 +129,29 @@ impl Sketch {
         self.doorkeeper.contains(door1) && self.doorkeeper.contains(door2)
     }
 
-    /// The least of the block's four counters.
-    fn least(&self, x: OBlock) -> u8
-        ensures value { result ≡ least_of self.now x.0 }
+    /// Where the block has its four counters.
+    fn places(&self, x: OBlock) -> Places
+        ensures value { result ≡ places_of self.now.cache_blocks x.0 }
+        ensures within { AreWithin self.now result }
+    {
+        Places {
+            row1: place(x, ROW1, self.bits),
+            row2: place(x, ROW2, self.bits),
+            row3: place(x, ROW3, self.bits),
+            row4: place(x, ROW4, self.bits),
+        }
+    }
+
+    /// The least of the counters at a block's places.
+    fn least(&self, at: Places) -> u8
+        requires { AreWithin self.now at }
+        ensures value { result ≡ least_at self.now at }
         ensures at_most { result ≤ 15 }
     {
-        let counter1 = self.row1.get(place(x, ROW1, self.bits));
-        let counter2 = self.row2.get(place(x, ROW2, self.bits));
-        let counter3 = self.row3.get(place(x, ROW3, self.bits));
-        let counter4 = self.row4.get(place(x, ROW4, self.bits));
+        let counter1 = self.row1.get(at.row1);
+        let counter2 = self.row2.get(at.row2);
+        let counter3 = self.row3.get(at.row3);
+        let counter4 = self.row4.get(at.row4);
         counter1.min(counter2).min(counter3.min(counter4))
     }
 
@@ -144,11 +159,12 @@ impl Sketch {
     fn raise(&mut self, x: OBlock)
         ensures { self.new ≡ raised self.old x.0 }
     {
-        let least = self.least(x);
-        self.row1.raise(place(x, ROW1, self.bits), least);
-        self.row2.raise(place(x, ROW2, self.bits), least);
-        self.row3.raise(place(x, ROW3, self.bits), least);
-        self.row4.raise(place(x, ROW4, self.bits), least);
+        let at = self.places(x);
+        let least = self.least(at);
+        self.row1.raise(at.row1, least);
+        self.row2.raise(at.row2, least);
+        self.row3.raise(at.row3, least);
+        self.row4.raise(at.row4, least);
     }
 
     /// Makes the block known to the doorkeeper.

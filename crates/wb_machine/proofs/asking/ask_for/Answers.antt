@@ -1,6 +1,6 @@
 use Rattle.std.proofs.Common.{subst}
 use Rattle.wb_promise.specs.declared.job.Job.{Job}
-use Rattle.wb_machine.specs.Members.{HasBits}
+use Rattle.wb_machine.specs.Members.{HasBitsSeen}
 use Rattle.wb_machine.specs.Serving.{IsAskable}
 use Rattle.wb_machine.proofs.Doing.{asked_plainly, served}
 use Rattle.wb_machine.proofs.asking.ask_for.Goals as goal
@@ -9,7 +9,7 @@ pub ask_for_suspend-requires-clause-askable : goal.ask_for_suspend-requires-clau
 ask_for_suspend-requires-clause-askable c = subst (λ (job : Job). IsAskable c.args.commit.now job c.args.step) c.in-Suspend.is c.requires.askable
 
 pub ask_for_suspend-requires-clause-bits : goal.ask_for_suspend-requires-clause-bits
-ask_for_suspend-requires-clause-bits c = subst (λ (job : Job). HasBits c.args.desk.now.geometry.cache_blocks c.args.seen.now job) c.in-Suspend.is c.requires.bits
+ask_for_suspend-requires-clause-bits c = subst (λ (job : Job). HasBitsSeen c.args.desk.now.geometry.cache_blocks c.args.seen.now job) c.in-Suspend.is c.requires.bits
 
 pub returns-in-Suspend-clause-did : goal.returns-in-Suspend-clause-did
 returns-in-Suspend-clause-did c = rw c.in-Suspend.is c.ask_for_suspend.ensures.did

@@ -9,8 +9,8 @@ use Rattle.wb_promise.specs.declared.event.What.{What}
 use Rattle.wb_promise.specs.Effects.{job_of, seen_then, task_then}
 use Rattle.wb_machine.specs.Life.{contents_of}
 use Rattle.wb_types.specs.Limits.{node_count}
-use Rattle.wb_machine.specs.Members.{HasBits, Member}
-use Rattle.wb_machine.specs.Standing.{HasRoom}
+use Rattle.wb_machine.specs.Members.{HasBitsSeen, Member}
+use Rattle.wb_machine.specs.Standing.{IsTaskRoomy}
 use Rattle.wb_runs.specs.Holding.{TaskSuits}
 use Rattle.wb_machine.specs.Serving.{Allows, Steps, may_give_up, is_copied}
 use Rattle.wb_machine.proofs.Stepped.{allows, awaiting_are, buffer_stays, buffer_read, orders_are, performs_so, steps_at}
@@ -29,7 +29,7 @@ perform-requires-clause-enough c =
     let crew = c.args.target.now.crew in
     let cache_blocks = c.args.target.now.desk.geometry.cache_blocks in
     let at : c.args.self.now.task ≡ Some (c.in-Some.job, c.in-Some.task) = ap (λ (v : Member). v.task) (sym c.self.view_is) ∙ c.in-Some.is in
-    let room = subst (λ (t : Option (Job × Plan)). HasRoom cache_blocks c.args.self.now.seen t) at c.requires.roomy in
+    let room = subst (λ (t : Option (Job × Plan)). IsTaskRoomy cache_blocks c.args.self.now.seen t) at c.requires.roomy in
     subst (λ (w : Want). Allows (node_count cache_blocks) w) (sym c.want-want.ensures)
     (allows crew.blocks (node_count cache_blocks) c.in-Some.task (card_of crew c.args.number) (subst (λ (t : Option (Job × Plan)). TaskSuits crew.blocks (card_of crew c.args.number) t) at c.requires.suits) room.0)
 
@@ -37,8 +37,8 @@ pub perform-requires-clause-bits : goal.perform-requires-clause-bits
 perform-requires-clause-bits c =
     let cache_blocks = c.args.target.now.desk.geometry.cache_blocks in
     let at : c.args.self.now.task ≡ Some (c.in-Some.job, c.in-Some.task) = ap (λ (v : Member). v.task) (sym c.self.view_is) ∙ c.in-Some.is in
-    let room = subst (λ (t : Option (Job × Plan)). HasRoom cache_blocks c.args.self.now.seen t) at c.requires.roomy in
-    subst (λ (bits : List Bool). HasBits cache_blocks bits c.in-Some.job) (sym (c.as_slice-seen.ensures.value ∙ ap (λ (v : Member). v.seen) c.self.view_is)) room.1
+    let room = subst (λ (t : Option (Job × Plan)). IsTaskRoomy cache_blocks c.args.self.now.seen t) at c.requires.roomy in
+    subst (λ (bits : List Bool). HasBitsSeen cache_blocks bits c.in-Some.job) (sym (c.as_slice-seen.ensures.value ∙ ap (λ (v : Member). v.seen) c.self.view_is)) room.1
 
 pub returns-then-copies-clause-ok : goal.returns-then-copies-clause-ok
 returns-then-copies-clause-ok c =
