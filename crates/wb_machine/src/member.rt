@@ -103,10 +103,10 @@ impl Member {
         matches!(self.task, Some((Job::Suspend, _)))
     }
 
-    /// Gets a job other than a suspend, if it has none and the job may be started. Each of its steps on a device takes one sector. A migration or replacement
-    /// starts under an order that it has, or under one that the desk gives; it is refused as busy where it gives none. A flush serves
-    /// the replacements that wait for it. `Memory` where there is none for the order, or for the list of what is served; then nothing
-    /// has changed.
+    /// Gets a job other than a suspend, if it has none and the job may be started. Each of its steps on a device takes one
+    /// sector. A migration or replacement starts under an order that it has, or under one that the desk gives; it is refused
+    /// as busy where it gives none. A flush serves the replacements that wait for it. `Memory` where there is none for the
+    /// order, or for the list of what is served; then nothing has changed.
     pub(crate) fn start(
         &mut self,
         alloc: Global,

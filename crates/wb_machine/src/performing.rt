@@ -27,8 +27,8 @@ use wb_types::{Content, Refusal};
 use wb_words::CellStep;
 
 impl Target {
-    /// One step of an actor on a job, which may give up one of these orders and has seen these dirty bits, what it gave, and what it read. `Memory` where what is read, or what a write adds, wants more
-    /// than there is; then no content has changed.
+    /// One step of an actor on a job, which may give up one of these orders and has seen these dirty bits, what it gave, and
+    /// what it read. `Memory` where what is read, or what a write adds, wants more than there is; then no content has changed.
     pub(crate) fn perform(
         &mut self,
         actor: usize,

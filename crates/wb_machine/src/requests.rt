@@ -96,9 +96,9 @@ pub(crate) fn order_for(migration: Migration, block: OBlock) -> Order
     }
 }
 
-/// The task of a job that may be started over a target of this mode whatever the others are at, by an actor of whom these orders wait for a flush: of a read's, write's or migration's steps on
-/// a device each takes one sector, and a flush serves those orders and allows as many nodes as an image may have. `Memory` where there
-/// is none for the list of what it serves.
+/// The task of a job that may be started over a target of this mode whatever the others are at, by an actor of whom these
+/// orders wait for a flush: of a read's, write's or migration's steps on a device each takes one sector, and a flush serves
+/// those orders and allows as many nodes as an image may have. `Memory` where there is none for the list of what it serves.
 pub(crate) fn task_of(
     alloc: Global,
     geometry: &Geometry,

@@ -20,7 +20,8 @@ use wb_flow::OpenTask;
 use wb_promise::{Job, What};
 use wb_types::{Geometry, Mode};
 
-/// An actor gets an opening, if it has no task, and what another actor was opening is given up; over a target that stands it starts once that has failed and while nobody suspends it, and ends it and what everybody was at.
+/// An actor gets an opening, if it has no task, and what another actor was opening is given up; over a target that stands it
+/// starts once that has failed and while nobody suspends it, and ends it and what everybody was at.
 pub(crate) fn open(
     geometry: &Geometry,
     alloc: Global,
