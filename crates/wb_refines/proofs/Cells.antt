@@ -1,5 +1,5 @@
 -- What agrees after a step on the shared words, and what an abstract actor has with so much to come.
-use Rattle.std.proofs.Common.{bit_or, mul_comm, arith, length, set, ◌%◌, ◌+◌, ◌≡◌, ◌≢◌, ◌<◌, ◌==◌, ◌∙◌, cond, inl, inr, ℕ, zero, suc, Bool, true, false, List, ◌∷◌, Option, Some, None, refl, sym, ap, subst}
+use Rattle.std.proofs.Common.{bit_or, mul_comm, arith, length, set, ◌%◌, ◌+◌, ◌≡◌, ◌≢◌, ◌<◌, ◌==◌, ◌∙◌, cond, inl, inr, ℕ, zero, suc, Bool, true, false, List, ◌∷◌, Option, Some, refl, sym, ap, subst}
 use Rattle.std.proofs.lemmas.Bool.{eqb-true, eq-eqb, cases_eq}
 use Rattle.std.proofs.lemmas.Nat.{mod-mul-add}
 use Rattle.wb_words.proofs.Values.{word_at_set, word_at_else}
@@ -9,7 +9,6 @@ use Rattle.wb_types.specs.declared.number.OBlock.{OBlock}
 use Rattle.wb_types.specs.declared.number.CBlock.{CBlock}
 use Rattle.wb_types.specs.declared.refusal.Refusal.{Refusal}
 use Rattle.wb_types.specs.declared.refusal.Refusal.TheVariants.{Failed, Io}
-use Rattle.wb_disk.specs.Device.{Content}
 use Rattle.wb_words.specs.declared.word.Access.{Access}
 use Rattle.wb_words.specs.declared.word.Word.TheVariants.{Seal as SealWord, Number}
 use Rattle.wb_words.specs.declared.card.Hold.TheVariants.{Held as HoldsBlock}
@@ -25,7 +24,7 @@ use Rattle.wb_tasks.specs.declared.step.Answer.TheVariants.{Refused as Refuses}
 use Rattle.wb_tasks.specs.declared.step.Want.{Want}
 use Rattle.wb_tasks.specs.declared.step.Want.TheVariants.{Cell}
 use Rattle.wb_link.specs.Tables.{Seal as SealThere, Job as AbstractJob, Flushing as FlushingFor, Finished as AnsweredDone}
-use Rattle.wb_link.specs.World.{Shared, AbstractActor}
+use Rattle.wb_link.specs.World.{Shared}
 use Rattle.wb_refines.specs.Translation.{answer_for, number_of}
 use Rattle.wb_refines.specs.Models.{SealAgrees, WordsAgree, held_of, held_for, SawSeal, SameImages, SameElse}
 
@@ -69,15 +68,19 @@ saw_plain plan (Cell (Look (Number block)) ∷ ws) card p = absurd p
 saw_plain plan (Cell SetFailed ∷ ws) card p = absurd p
 saw_plain plan ws card p = tt
 
--- the failed bit is there once it was set
-pub failed_flag : (n failures suspensions : ℕ) → n ≡ fail_word failures suspensions → flag (bit_or n 1) ≡ true
-failed_flag n f z e = ap (λ v. flag (bit_or v 1)) e ∙ by_bits (flag f) (flag z)
+-- a target serves no more once one of its two bits was set
+pub flag_set : (suspends : Bool) (n failures suspensions : ℕ) → n ≡ fail_word failures suspensions → flag (bit_or n (cond suspends 2 1)) ≡ true
+flag_set suspends n f z e = ap (λ v. flag (bit_or v (cond suspends 2 1))) e ∙ by_bits suspends (flag f) (flag z)
   where
-    by_bits : (p q : Bool) → flag (bit_or (cond p 1 0 + cond q 2 0) 1) ≡ true
-    by_bits true true = refl
-    by_bits true false = refl
-    by_bits false true = refl
-    by_bits false false = refl
+    by_bits : (s p q : Bool) → flag (bit_or (cond p 1 0 + cond q 2 0) (cond s 2 1)) ≡ true
+    by_bits true true true = refl
+    by_bits true true false = refl
+    by_bits true false true = refl
+    by_bits true false false = refl
+    by_bits false true true = refl
+    by_bits false true false = refl
+    by_bits false false true = refl
+    by_bits false false false = refl
 
 pub refused_undone : (job : AbstractJob) (refusal : Refusal) → answer_for job (Refuses refusal) ≢ AnsweredDone
 refused_undone job Failed e = absurd (cc)

@@ -38,7 +38,7 @@ use Rattle.wb_refines.specs.Translation.{number_of, cell_wants}
 use Rattle.wb_refines.specs.Going.{WinsBeside}
 use Rattle.wb_refines.specs.Models.{SealAgrees, WordsAgree, HasStopped, TellsPlace, held_of, held_for, SawSeal, plan_of}
 use Rattle.wb_refines.specs.Roles.{Role, acting, IsAs, Plays, claim, DoesToo, TakesBeside, StepsFollowed}
-use Rattle.wb_refines.proofs.Cells.{words_else, same_else, flag_of, own_seal, IsPlain, held_plain, saw_plain, failed_flag, counted_agree, sealed_agree}
+use Rattle.wb_refines.proofs.Cells.{words_else, same_else, flag_of, own_seal, IsPlain, held_plain, saw_plain, flag_set, counted_agree, sealed_agree}
 use Rattle.wb_refines.proofs.Holding.{holds_nothing, keeps_owned}
 use Rattle.wb_refines.proofs.Locks.{wins}
 
@@ -199,10 +199,10 @@ module _ (role : Role) (job : BlockJob) (plays : Plays role job) (actors : List 
     results = Done ∷ [];
     may = (tt, tt, tt);
     quiet = (tt, tt);
-    words_agree = record { fail = sym (failed_flag words.fail f z e); seals = w.seals };
+    words_agree = record { fail = sym (flag_set false words.fail f z e); seals = w.seals };
     same = words_else s s.seals true;
     order = refl;
-    at = inr (record { over = tt; refused = λ k. let bad : Refuses refusal ≡ AnswersDone = sym is ∙ k in absurd (cc); script = _; task = refl; nothing = refl; undone = plays.undone refusal told (subst (λ (v : Answer). role.alike v told) is alike); among_others = plays.among_others; leads = refl; below = keeps_owned _ card refl; free = inr (failed_flag words.fail f z e) }, refl);
+    at = inr (record { over = tt; refused = λ k. let bad : Refuses refusal ≡ AnswersDone = sym is ∙ k in absurd (cc); script = _; task = refl; nothing = refl; undone = plays.undone refusal told (subst (λ (v : Answer). role.alike v told) is alike); among_others = plays.among_others; leads = refl; below = keeps_owned _ card refl; free = inr (flag_set false words.fail f z e) }, refl);
   })
 
   -- a block is given back

@@ -56,6 +56,7 @@ use Rattle.wb_runs.proofs.Extents.{MayStart, Within, AllWithin, may_start, cut_w
 use Rattle.wb_runs.proofs.Images.{Images}
 use Rattle.wb_runs.proofs.Metadata.{MetadataKept}
 use Rattle.wb_runs.proofs.Stepping.{done_kept}
+use Rattle.wb_runs.proofs.Given.{given_keeps}
 use Rattle.wb_runs.proofs.Ordering.{OrderInside, OrdersInside, in_orders}
 use Rattle.wb_runs.proofs.Ruling.{each_set, all_rest}
 use Rattle.wb_runs.proofs.Using.{order_inside, replacement_inside}
@@ -295,34 +296,7 @@ module _ (P A : Type 0) (shape : Shape) where
   -- ---- starts
 
   same_seals : (phase : Phase P A) (job : Job) (chosen : Chosen P A) → SealsHere shape phase → SealsHere shape (phase_given phase job chosen)
-  same_seals (Stands t) (Migrate migration block) (Orders cut cache) s = s
-  same_seals (Stands t) (Migrate migration block) Plain s = s
-  same_seals (Stands t) (Migrate migration block) (Cut cut) s = s
-  same_seals (Stands t) (Migrate migration block) (Rattle.wb_promise.specs.Happenings.Looks looks) s = s
-  same_seals (Stands t) (Migrate migration block) (Rattle.wb_promise.specs.Happenings.Begins now) s = s
-  same_seals (Stands t) (Migrate migration block) (Rattle.wb_promise.specs.Happenings.Reaches now commit) s = s
-  same_seals (Stands t) (Migrate migration block) (Rattle.wb_promise.specs.Happenings.Puts new) s = s
-  same_seals (Stands t) (Migrate migration block) (Rattle.wb_promise.specs.Happenings.Commits commit tree) s = s
-  same_seals (Stands t) (Migrate migration block) (Rattle.wb_promise.specs.Happenings.Asks new) s = s
-  same_seals (Stands t) (Migrate migration block) (Opened policy) s = s
-  same_seals (Stands t) (Replace old new) (Orders cut cache) s = s
-  same_seals (Stands t) (Replace old new) Plain s = s
-  same_seals (Stands t) (Replace old new) (Cut cut) s = s
-  same_seals (Stands t) (Replace old new) (Rattle.wb_promise.specs.Happenings.Looks looks) s = s
-  same_seals (Stands t) (Replace old new) (Rattle.wb_promise.specs.Happenings.Begins now) s = s
-  same_seals (Stands t) (Replace old new) (Rattle.wb_promise.specs.Happenings.Reaches now commit) s = s
-  same_seals (Stands t) (Replace old other) (Rattle.wb_promise.specs.Happenings.Puts new) s = s
-  same_seals (Stands t) (Replace old new) (Rattle.wb_promise.specs.Happenings.Commits commit tree) s = s
-  same_seals (Stands t) (Replace old other) (Rattle.wb_promise.specs.Happenings.Asks new) s = s
-  same_seals (Stands t) (Replace old new) (Opened policy) s = s
-  same_seals (Stands t) (Read extent) chosen s = s
-  same_seals (Stands t) (Write extent content) chosen s = s
-  same_seals (Stands t) Flush chosen s = s
-  same_seals (Stands t) Suspend chosen s = s
-  same_seals (Stands t) (Invalidate block) chosen s = s
-  same_seals (Stands t) (Open mode) chosen s = s
-  same_seals Gone job chosen s = s
-  same_seals (Opens mode reading) job chosen s = s
+  same_seals = given_keeps (SealsHere shape) (λ t desk seals. seals)
 
   migration_inside : (migration : Migration) (block : OBlock) → OrderInside shape.geometry (order_for migration block) → (block.0 < shape.geometry.origin_blocks) × MigrationInside shape migration
   migration_inside (Promote c) block i = i

@@ -14,6 +14,7 @@ pub mod Ruling
 pub mod Suiting
 mod Sealing
 pub mod Ordering
+pub mod Given
 pub mod Owning
 pub mod Using
 mod Plans

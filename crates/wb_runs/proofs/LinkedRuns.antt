@@ -36,13 +36,12 @@ use Rattle.wb_runs.specs.Holding.{TaskSuits}
 use Rattle.wb_contents.proofs.Lists.{set_other, set_there, replicated, replicated_there}
 use Rattle.wb_runs.proofs.Lists.{rests, there_rests, free}
 use Rattle.wb_runs.proofs.MetadataRuns.{IsKnown, known_after, known_at_start}
-use Rattle.wb_runs.proofs.Opening.{open_refuses}
 use Rattle.wb_runs.proofs.Modes.{IsAnswer, mode_stays, mode_faults, mode_given}
 use Rattle.wb_runs.proofs.Passing.{target_stands}
 use Rattle.wb_runs.proofs.Claims.{JobClaim, NotedClaim, TaskClaim, AllClaim, Noted, claim_set, noted_of, read_ends, write_ends}
 use Rattle.wb_runs.proofs.Ruling.{each_set}
 use Rattle.wb_runs.proofs.Using.{UsedRightly, used_what, used_start}
-use Rattle.wb_runs.proofs.Opening.{IsOpeningJob, IsServed, InPhase}
+use Rattle.wb_runs.proofs.Opening.{IsOpeningJob, IsServed, InPhase, open_refuses, opens_in}
 use Rattle.wb_runs.proofs.Linking.{TaskHere, IsTask, AtPhase, Linked, others_stay, claims_on, claims_failed}
 
 all_none : (doings : List (Option Doing)) (b : ℕ) (o : Option Doing) → slice_get doings b ≡ Some o → slice_get (nobody doings) b ≡ Some None
@@ -238,18 +237,8 @@ module _ (P A : Type 0) (shape : Shape) where
     answers Gone p = absurd (subst (λ (q : Phase P A). InPhase q job) p (subst (λ (t : Option (Job × Plan)). TaskHere w.phase t) xt (l.here a x e)))
     answers (Opens mode reading) p =
         let alone = subst (λ (q : Phase P A). AtPhase q w.actors) p l.alone in
-        let o = opening job (subst (λ (q : Phase P A). InPhase q job) p (subst (λ (t : Option (Job × Plan)). TaskHere w.phase t) xt (l.here a x e))) in
-        opens_end mode reading alone.0 alone.1 o.0 o.1
-      where
-        opening : (q : Job) → IsOpeningJob mode q → (mode' : Mode) × (q ≡ Open mode')
-        opening (Open mode') i = (mode', refl)
-        opening (Read extent) i = absurd i
-        opening (Write extent content) i = absurd i
-        opening Flush i = absurd i
-        opening Suspend i = absurd i
-        opening (Invalidate block) i = absurd i
-        opening (Migrate migration block) i = absurd i
-        opening (Replace old new) i = absurd i
+        let o = opens_in mode job (subst (λ (q : Phase P A). InPhase q job) p (subst (λ (t : Option (Job × Plan)). TaskHere w.phase t) xt (l.here a x e))) in
+        opens_end mode reading alone.0 alone.1 mode o
 
   -- ---- whoever takes a step
 

@@ -148,6 +148,16 @@ abbrev pub IsOpeningJob : Mode → Job → Type 0
 IsOpeningJob mode (Open opened) = opened ≡ mode
 IsOpeningJob mode job = ⊥
 
+pub opens_in : (mode : Mode) (job : Job) → IsOpeningJob mode job → job ≡ Open mode
+opens_in mode (Open opened) i = ap (λ (m : Mode). Open m) i
+opens_in mode (Read extent) i = absurd i
+opens_in mode (Write extent content) i = absurd i
+opens_in mode Flush i = absurd i
+opens_in mode Suspend i = absurd i
+opens_in mode (Invalidate block) i = absurd i
+opens_in mode (Migrate migration block) i = absurd i
+opens_in mode (Replace old new) i = absurd i
+
 abbrev pub InPhase : {P A : Type 0} → Phase P A → Job → Type 0
 InPhase (Stands t) job = IsServed job
 InPhase (Opens mode r) job = IsOpeningJob mode job
@@ -188,20 +198,10 @@ module _ (P A : Type 0) (shape : Shape) (images : Images) (device : List History
       reached : HasReached shape.geometry images was device
       reached = subst (λ (x : Option RunningCommit). AtOpening shape.geometry images (Some was) x device) e known
 
-      opens_in : (job : Job) → IsOpeningJob mode job → job ≡ Open mode
-      opens_in (Open opened) i = ap (λ (m : Mode). Open m) i
-      opens_in (Read extent) i = absurd i
-      opens_in (Write extent content) i = absurd i
-      opens_in Flush i = absurd i
-      opens_in Suspend i = absurd i
-      opens_in (Invalidate block) i = absurd i
-      opens_in (Migrate migration block) i = absurd i
-      opens_in (Replace old new) i = absurd i
-
       by_cause : (r : Refusal) → Cause mode r → MayRefuse doing r
       by_cause r (inl m) = subst (λ (x : Refusal). MayRefuse doing x) (sym m) tt
       by_cause r (inr (inl n)) = subst (λ (x : Refusal). MayRefuse doing x) (sym n) tt
-      by_cause r (inr (inr past)) = subst (λ (x : Refusal). MayRefuse doing x) (sym past.1) (opens_in doing.job at ∙ ap (λ (m : Mode). Open m) past.0)
+      by_cause r (inr (inr past)) = subst (λ (x : Refusal). MayRefuse doing x) (sym past.1) (opens_in mode doing.job at ∙ ap (λ (m : Mode). Open m) past.0)
 
       by_got : (got : Got) → DoesRead mode shape.geometry left was device None got chosen → Causes (ReadMetadata left) got refusal → MayRefuse (failing doing (ReadMetadata left) got) refusal
       by_got (GotRefused because) d c = subst (λ (x : Refusal). MayRefuse doing x) (sym c) (by_cause because (refused_for P A shape.geometry images device was mode left because chosen reached d))

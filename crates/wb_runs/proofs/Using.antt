@@ -52,6 +52,7 @@ use Rattle.wb_devices.specs.declared.devices.Devices.{Devices}
 use Rattle.wb_contents.proofs.Lists.{replicated}
 use Rattle.wb_runs.proofs.Lists.{free, first_or}
 use Rattle.wb_runs.proofs.Images.{Turns}
+use Rattle.wb_runs.proofs.Given.{given_keeps}
 use Rattle.wb_runs.proofs.Ordering.{OrderInside, OrdersInside, AllOrdersInside, orders_left, order_given, held_of, in_orders}
 use Rattle.wb_runs.proofs.Sealing.{EntriesInside, fresh_taken, all_sealed, Sealed}
 use Rattle.wb_runs.proofs.MetadataRuns.{IsKnown, known_after, known_at_start}
@@ -327,34 +328,7 @@ module _ (P A : Type 0) (shape : Shape) where
 
   -- an order that is given leaves the words
   same_here : (phase : Phase P A) (job : Job) (chosen : Chosen P A) (actors : List Actor) → InPhase phase actors → InPhase (phase_given phase job chosen) actors
-  same_here (Stands t) (Migrate migration block) (Orders cut cache) actors i = i
-  same_here (Stands t) (Migrate migration block) Plain actors i = i
-  same_here (Stands t) (Migrate migration block) (Cut cut) actors i = i
-  same_here (Stands t) (Migrate migration block) (Rattle.wb_promise.specs.Happenings.Looks looks) actors i = i
-  same_here (Stands t) (Migrate migration block) (Rattle.wb_promise.specs.Happenings.Begins now) actors i = i
-  same_here (Stands t) (Migrate migration block) (Rattle.wb_promise.specs.Happenings.Reaches now commit) actors i = i
-  same_here (Stands t) (Migrate migration block) (Rattle.wb_promise.specs.Happenings.Puts new) actors i = i
-  same_here (Stands t) (Migrate migration block) (Rattle.wb_promise.specs.Happenings.Commits commit tree) actors i = i
-  same_here (Stands t) (Migrate migration block) (Rattle.wb_promise.specs.Happenings.Asks new) actors i = i
-  same_here (Stands t) (Migrate migration block) (Opened policy) actors i = i
-  same_here (Stands t) (Replace old new) (Orders cut cache) actors i = i
-  same_here (Stands t) (Replace old new) Plain actors i = i
-  same_here (Stands t) (Replace old new) (Cut cut) actors i = i
-  same_here (Stands t) (Replace old new) (Rattle.wb_promise.specs.Happenings.Looks looks) actors i = i
-  same_here (Stands t) (Replace old new) (Rattle.wb_promise.specs.Happenings.Begins now) actors i = i
-  same_here (Stands t) (Replace old new) (Rattle.wb_promise.specs.Happenings.Reaches now commit) actors i = i
-  same_here (Stands t) (Replace old other) (Rattle.wb_promise.specs.Happenings.Puts new) actors i = i
-  same_here (Stands t) (Replace old new) (Rattle.wb_promise.specs.Happenings.Commits commit tree) actors i = i
-  same_here (Stands t) (Replace old other) (Rattle.wb_promise.specs.Happenings.Asks new) actors i = i
-  same_here (Stands t) (Replace old new) (Opened policy) actors i = i
-  same_here (Stands t) (Read extent) chosen actors i = i
-  same_here (Stands t) (Write extent content) chosen actors i = i
-  same_here (Stands t) Flush chosen actors i = i
-  same_here (Stands t) Suspend chosen actors i = i
-  same_here (Stands t) (Invalidate block) chosen actors i = i
-  same_here (Stands t) (Open mode) chosen actors i = i
-  same_here Gone job chosen actors i = i
-  same_here (Opens mode reading) job chosen actors i = i
+  same_here phase job chosen actors = given_keeps (λ (q : Phase P A). InPhase q actors) (λ t desk here. here) phase job chosen
 
   -- a task of an actor that has none
   starts_task : (phase : Phase P A) (actors : List Actor) (a : ℕ) (x y : Actor) → slice_get actors a ≡ Some x → y.card ≡ x.card → TaskSuits blocks y.card y.task → OrdersInside shape.geometry (held_of y) → (¬ ¬ OfTarget phase (λ t. Unit {0})) → UsedRightly phase actors → UsedRightly phase (slice_set actors a y)

@@ -19,7 +19,7 @@ use Rattle.wb_link.specs.World.{World, Shared, Record, IsAbstractRun, AbstractAc
 use Rattle.wb_refines.specs.Going.{records, shared_after, gone, MayGo}
 use Rattle.wb_refines.specs.Models.{WordsAgree}
 use Rattle.wb_refines.specs.Roles.{Role, TakesBeside}
-use Rattle.wb_refines.proofs.Cells.{failed_flag}
+use Rattle.wb_refines.proofs.Cells.{flag_set}
 use Rattle.wb_refines.proofs.Going.{goes, with_own}
 use Rattle.wb_promise.specs.States.{Actor}
 use Rattle.wb_runs.specs.Holding.{cards_of}
@@ -30,16 +30,6 @@ use Rattle.wb_simulation.specs.Worlds.{zeros, Situation, Agrees, OrdersAgree, Tu
 use Rattle.wb_simulation.proofs.Cells.{Leading, shared_stays, gone_nowhere}
 use Rattle.wb_simulation.proofs.Orders.{who, by_pair, IsDone, IsNoMigration, does_none, orders_on}
 use Rattle.wb_contents.proofs.Lists.{there_is}
-
--- the suspended bit tells that a target serves no more, as the failed bit does
-pub suspended_flag : (n failures suspensions : ℕ) → n ≡ fail_word failures suspensions → flag (bit_or n 2) ≡ true
-suspended_flag n f z e = ap (λ v. flag (bit_or v 2)) e ∙ by_bits (flag f) (flag z)
-  where
-    by_bits : (p q : Bool) → flag (bit_or (cond p 1 0 + cond q 2 0) 2) ≡ true
-    by_bits true true = refl
-    by_bits true false = refl
-    by_bits false true = refl
-    by_bits false false = refl
 
 -- the failed bit is never cleared
 pub failed_stays : (words : Words) (step : CellStep) (failures suspensions : ℕ) → words.fail ≡ fail_word failures suspensions → flag words.fail ≡ true → flag (words_after words step).fail ≡ true
@@ -52,8 +42,8 @@ failed_stays words (Count ReadHit) f z e t = t
 failed_stays words (Count ReadMiss) f z e t = t
 failed_stays words (Count WriteHit) f z e t = t
 failed_stays words (Count WriteMiss) f z e t = t
-failed_stays words SetFailed f z e t = failed_flag words.fail f z e
-failed_stays words SetSuspended f z e t = suspended_flag words.fail f z e
+failed_stays words SetFailed f z e t = flag_set false words.fail f z e
+failed_stays words SetSuspended f z e t = flag_set true words.fail f z e
 failed_stays words step f z e t = t
 
 -- ---- who is there

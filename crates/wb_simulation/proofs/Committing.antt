@@ -32,7 +32,7 @@ use Rattle.wb_refines.specs.Going.{gone, AreQuiet, shared_after}
 use Rattle.wb_refines.specs.Translation.{wants_of, job_for}
 use Rattle.wb_refines.specs.Models.{WordsAgree, SealAgrees}
 use Rattle.wb_refines.specs.Commits.{IsCommitting, IsToBegin, IsOnMetadata, IsNoBegin, IsWrittenAfter, commit_task, commit_there, begin_there, committing, CanGoOn}
-use Rattle.wb_refines.proofs.Cells.{failed_flag}
+use Rattle.wb_refines.proofs.Cells.{flag_set}
 use Rattle.wb_refines.proofs.Committing.{commit_steps_followed as followed_alone}
 use Rattle.wb_promise.specs.declared.job.Job.TheVariants.{Flush, Suspend}
 use Rattle.wb_promise.specs.States.{Actor, with_device}
@@ -43,7 +43,7 @@ use Rattle.wb_simulation.specs.Laws.{turn_of, flush_or_suspend, stepped_actor, I
 use Rattle.wb_simulation.proofs.Telling.{unnoted_none, quiet_are_unnoted}
 use Rattle.wb_types.specs.declared.number.OBlock.{OBlock}
 use Rattle.wb_simulation.proofs.Orders.{does_none}
-use Rattle.wb_simulation.proofs.Among.{goes_on, goes_leading, stays_there, suspended_flag}
+use Rattle.wb_simulation.proofs.Among.{goes_on, goes_leading, stays_there}
 use Rattle.wb_simulation.proofs.Releasing.{released_there}
 use Rattle.wb_simulation.proofs.Steps.{finds_failed}
 use Rattle.wb_simulation.proofs.Leading.{begun_on, commits_on, ended_on, failed_on, has_wants, is_no_migration, as_doing, stands, leads_alone, goes}
@@ -237,7 +237,7 @@ module _ (now : Situation) (clean : Bool) (blocks : List OBlock) (a : ℕ) (x : 
       WorldFollows Quietly a s (record now { words = words_after now.words SetFailed }) (record x { task = Some (flush_or_suspend clean, after (left (Cell SetFailed ∷ []) answer) Done); card = card_after now.words SetFailed x.card })
   fails f z answer e is =
       let plan' = after (left (Cell SetFailed ∷ []) answer) Done in
-      let failed : flag (words_after now.words SetFailed).fail ≡ true = failed_flag now.words.fail f z e in
+      let failed : flag (words_after now.words SetFailed).fail ≡ true = flag_set false now.words.fail f z e in
       let l = followed_alone.fails clean now.size blocks now.most [] s.actors a s.shared y answer is in
       let lead : y.leads ≡ true = ap (λ (v : AbstractActor). v.leads) is.is in
       let runs = g.led a y ey lead in
@@ -281,7 +281,7 @@ module _ (now : Situation) (blocks : List OBlock) (a : ℕ) (x : Actor) (s : Wor
   suspends f z answer e is =
       let plan' = after (committing true blocks now.most (Cell SetSuspended ∷ []) answer) Done in
       let card' = card_after now.words SetSuspended x.card in
-      let over : flag (words_after now.words SetSuspended).fail ≡ true = suspended_flag now.words.fail f z e in
+      let over : flag (words_after now.words SetSuspended).fail ≡ true = flag_set true now.words.fail f z e in
       let l = followed_alone.suspends now.size blocks now.most [] s.actors a s.shared y answer is in
       goes_on now (words_after now.words SetSuspended) (λ k. over) a x (record x { task = Some (Suspend, plan'); card = card' }) s y g ex ey Quietly now.devices l.results (record s.shared { fail = true }) (l.results, quiet_are_unnoted y.task l.results l.quiet, refl) l.may l.shared
       (stands now true blocks a x s y ex ey g (words_after now.words SetSuspended) plan' card' x.seen false (gone y y.task l.results) refl tt tt (λ k n. absurd (cc)) l.at)

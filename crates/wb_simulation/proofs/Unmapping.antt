@@ -37,20 +37,9 @@ use Rattle.wb_simulation.specs.Actors.{write_of, IsLate, IsRequestAt, IsDoing, I
 use Rattle.wb_simulation.specs.Telling.{Quietly, AreUnnoted}
 use Rattle.wb_simulation.specs.Worlds.{Situation, Agrees, OrdersAgree, OrderIsThere, Unmaps, WorldFollowsBy}
 use Rattle.wb_simulation.specs.Laws.{HasNoOrder, UnmapFollowed, UnmapsFollowed, IsRequestJob, WantsNext, after_step}
-use Rattle.wb_simulation.proofs.Orders.{IsDone, MigratesNot, by_pair, does_none, who}
+use Rattle.wb_simulation.proofs.Orders.{IsDone, MigratesNot, by_pair, cache_there, does_none, who}
 use Rattle.wb_simulation.proofs.Among.{own_there, goes_with}
 use Rattle.wb_simulation.proofs.Followed.{doing_of, begins_by}
-
--- each order there is of its cache block
-cache_there : (m : Locations) (c : ℕ) (o : Order) → (order_there m c o).cache ≡ c
-cache_there m c (Promote block cache) = refl
-cache_there m c (Demote block) = refl
-cache_there m c (Clean block) = refl
-cache_there m c (Replace old new cache) = by (is_at (m old.0) c)
-  where
-    by : (t : Bool) → (replacement_there t old.0 new.0 c).cache ≡ c
-    by true = refl
-    by false = refl
 
 -- nobody has an order, so none lives, whatever the entries are
 orders_none : (now : Situation) (a : ℕ) (x x' : Actor) (s : World) (y y' : AbstractActor) (t : Shared) → slice_get now.actors a ≡ Some x → slice_get s.actors a ≡ Some y → Agrees now s → HasNoOrder s → y'.order ≡ y.order → IsDone now.size now.words now.orders x' y' →
