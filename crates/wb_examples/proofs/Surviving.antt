@@ -47,6 +47,25 @@ use Rattle.wb_examples.proofs.Opening.{write_back_starts, Down, down, opening, o
 use Rattle.wb_examples.proofs.Desks.{Setting, shape, desk}
 use Rattle.wb_examples.proofs.Scenes.{Scene, Own, nothing_known, Formatted, at, over, Leads, goes_to, FromNoted, noted_stretch, opened_scene, down_at, setting, devices, devices_size, shape_at, opened_at, known_at, opening_run, Whole, from_opened, small_can, uncut, nothing_lands, may_fail}
 
+-- ---- what is noted
+
+-- of the other sectors, and of the other actors
+pub record Others : Type 0 where
+  pub histories : List History
+  pub finished : List ℕ
+  pub floors : List ℕ
+  pub doings : List (Option Doing)
+
+-- beside that the first sector has this history, of which this entry is finished last, and the first actor is at this
+abbrev pub notes : Others → History → (last : ℕ) → Option Doing → Notes
+notes others history last doing = record { histories = history ∷ others.histories; finished = last ∷ others.finished; floors = 0 ∷ others.floors; doings = doing ∷ others.doings }
+
+-- it has a job, has read this and entered that
+abbrev pub doing_at : Others → Job → List Reading → List Position → (last : ℕ) → Option Doing
+doing_at others job readings entered last = Some (record { job = job; readings = readings; entered = entered; then_finished = last ∷ others.finished; failed = [] })
+
+-- ---- what stands behind a crash
+
 -- the root that was written last, if the newest root has its generation
 pub root_there : (m : List History) (r q : Root) → 2 ≤ length m → r.generation < 2 ^ 64 → q.generation ≡ r.generation → IsNewestRoot (map newest (synced (written (synced m) (r.generation % 2) (spelling r)))) q → q ≡ r
 root_there m r q some fits same n =
@@ -74,7 +93,7 @@ none_after P g i desk m m' q top more crash = record {
     nothing : (sectors : List Bytes) → IsNewestRoot sectors q.stored.root → Represents sectors q.stored.root (nothing_found q.stored.root)
     nothing sectors n = record { newest = n; nodes = λ place. None; reached = λ place e. absurd (cc); reads = ap (λ t. top_read q.stored.root (λ place. None) t) top }
 
-module _ (P A : Type 0) (policy : P) (alloc : A) (s : Setting P 0 Writeback) (metadata cache sectors histories : List History) (first : Bytes) (finished floors : List ℕ) (doings : List (Option Doing)) (content other : Bytes) where
+module _ (P A : Type 0) (policy : P) (alloc : A) (s : Setting P 0 Writeback) (metadata cache sectors : List History) (first : Bytes) (others : Others) (content other : Bytes) where
   open s use {global}
 
   abbrev shape0 : Shape
@@ -116,23 +135,17 @@ module _ (P A : Type 0) (policy : P) (alloc : A) (s : Setting P 0 Writeback) (me
   abbrev durable : Scene P
   durable = here (synced (rooted (bare_commit global shape0.geometry (s.generation + 1)) (synced metadata))) (synced cache) (only content ∷ synced sectors) (words 1 1 1) desk_then (over Flush (task_job shape0 Writeback [] Flush [] []))
 
-  abbrev notes : History → (last : ℕ) → Option Doing → Notes
-  notes history last doing = record { histories = history ∷ histories; finished = last ∷ finished; floors = 0 ∷ floors; doings = doing ∷ doings }
-
-  abbrev doing_at : Job → List Reading → List Position → (last : ℕ) → Option Doing
-  doing_at job readings entered last = Some (record { job = job; readings = readings; entered = entered; then_finished = last ∷ finished; failed = [] })
-
   abbrev n0 : Notes
-  n0 = notes (only first) 0 None
+  n0 = notes others (only first) 0 None
 
   abbrev n1 : Notes
-  n1 = notes history 0 (doing_at (Write first_sector content) [] (record { sector = 0; position = 1 } ∷ []) 0)
+  n1 = notes others history 0 (doing_at others (Write first_sector content) [] (record { sector = 0; position = 1 } ∷ []) 0)
 
   abbrev n2 : Notes
-  n2 = notes history 1 (doing_at (Read first_sector) (record { sector = 0; content = content; latest = Some content } ∷ []) [] 1)
+  n2 = notes others history 1 (doing_at others (Read first_sector) (record { sector = 0; content = content; latest = Some content } ∷ []) [] 1)
 
   abbrev n3 : Notes
-  n3 = notes history 1 (doing_at Flush [] [] 1)
+  n3 = notes others history 1 (doing_at others Flush [] [] 1)
 
   -- ---- what happens
 
@@ -237,20 +250,20 @@ module _ (P A : Type 0) (f : Formatted P A 0 Writeback) where
   abbrev sectors_then : List History
   sectors_then = synced (replicate 63 blank)
 
-  abbrev pub contents_then : List Bytes
+  abbrev contents_then : List Bytes
   contents_then = map newest sectors_then
 
-  abbrev pub finished_then : List ℕ
+  abbrev finished_then : List ℕ
   finished_then = map (λ (c : Bytes). 0) contents_then
 
-  abbrev pub nobody_else : List (Option Doing)
-  nobody_else = replicate (length (nobody (replicate f.sizes.others None))) None
+  abbrev pub others_then : Others
+  others_then = record { histories = map only contents_then; finished = finished_then; floors = finished_then; doings = replicate (length (nobody (replicate f.sizes.others None))) None }
 
   abbrev down0 : Down P A
   down0 = down_at P A 0 Writeback f
 
   pub noted_then : noted (shape_at P A 0 Writeback f) (down P A down0) (formatted (shape_at P A 0 Writeback f)) (opening_run P A 0 Writeback f)
-      ≡ record { histories = only (newest blank) ∷ map only contents_then; finished = 0 ∷ finished_then; floors = 0 ∷ finished_then; doings = None ∷ nobody_else }
+      ≡ notes others_then (only (newest blank)) 0 None
   noted_then = ap (λ (ss : List Bytes). begins (suc (length (nobody (replicate f.sizes.others None)))) ss) (
       ap (λ (w : State P A). shown (shape_at P A 0 Writeback f) w) (opened_is P A down0)
       ∙ origin_shown (shape_at P A 0 Writeback f) (target P A down0).desk.tree.entries (map newest (devices P A 0 Writeback f).cache) (map newest (devices P A 0 Writeback f).origin) (suc f.sizes.k) (bare P A down0).entries refl)
@@ -258,7 +271,7 @@ module _ (P A : Type 0) (f : Formatted P A 0 Writeback) where
   pub survives_from : (content other : Bytes) → Whole P A 0 Writeback f (to_survive (shape_at P A 0 Writeback f) content other)
   survives_from content other = from_opened P A 0 Writeback f (to_survive (shape_at P A 0 Writeback f) content other) (λ n e.
       subst (λ (m : Notes). PassesThrough (shape_at P A 0 Writeback f) (opened_at P A 0 Writeback f) m (to_survive (shape_at P A 0 Writeback f) content other)) (sym (e ∙ noted_then))
-      (survives P A f.policy f.alloc (setting P A 0 Writeback f) (devices P A 0 Writeback f).metadata (devices P A 0 Writeback f).cache sectors_then (map only contents_then) (newest blank) finished_then finished_then nobody_else content other (devices_size P A 0 Writeback f) refl nothing_known (known_at P A 0 Writeback f)))
+      (survives P A f.policy f.alloc (setting P A 0 Writeback f) (devices P A 0 Writeback f).metadata (devices P A 0 Writeback f).cache sectors_then (newest blank) others_then content other (devices_size P A 0 Writeback f) refl nothing_known (known_at P A 0 Writeback f)))
 
 pub can_survive : (P A : Type 0) → CanSurvive P A
 can_survive P A content other = small_can P A 0 0 Writeback write_back_starts (λ shape. to_survive shape content other) (λ f room. survives_from P A f content other)
