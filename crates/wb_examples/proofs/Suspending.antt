@@ -69,10 +69,10 @@ module _ (P A : Type 0) (t : Tiny P A) (content : Bytes) (d0 : Devices (List His
   abbrev state : Scene P → Own → State P A
   state scene own = at P A 0 Writeback (s P A t) scene own
 
-  abbrev opened0 : Scene P
+  abbrev pub opened0 : Scene P
   opened0 = opened_scene P A 0 Writeback (s P A t) d0
 
-  abbrev came0 : Scene P
+  abbrev pub came0 : Scene P
   came0 = came P A 0 Writeback (s P A t) d0
 
   -- ---- where the suspend begins: the block was written to, and is dirty, or has only come
@@ -127,10 +127,10 @@ module _ (P A : Type 0) (t : Tiny P A) (content : Bytes) (d0 : Devices (List His
     abbrev desk_then : DeskState P
     desk_then = ended (commit_begun (stood0 P A t) (stored_tree dirty))
 
-    abbrev suspended : ℕ → Scene P
+    abbrev pub suspended : ℕ → Scene P
     suspended fail = here durable (words_at dirty fail) desk_then (over Suspend (task_job shape0 Writeback [] Suspend [] (first_block ∷ [])))
 
-    abbrev suspending : DeskInvariant unknowing (stood0 P A t) → List (Move P A)
+    abbrev pub suspending : DeskInvariant unknowing (stood0 P A t) → List (Move P A)
     suspending kept =
         goes 1 (Gets Suspend (Looks (first_block ∷ []))
         ∷ goes 2 (Does (Began 1) (Commits (commit P A t dirty kept) (stored_tree dirty))
@@ -196,7 +196,7 @@ module _ (P A : Type 0) (t : Tiny P A) (content : Bytes) (d0 : Devices (List His
       root_is = root_there noded (root P A t dirty) quiet.stored.root (omega (arith, node_size, t.within.meta_from)) may_begin.next (sym quiet.generation) newest_then
 
       -- the metadata once the opening has synced them
-      abbrev read : List History
+      abbrev pub read : List History
       read = synced durable.metadata
 
       read_size : length read ≡ t.meta_sectors
@@ -251,7 +251,7 @@ module _ (P A : Type 0) (t : Tiny P A) (content : Bytes) (d0 : Devices (List His
   all_idle : (own : Own) → AreIdle (record { task = None; card = own.card; orders = []; awaiting = []; buffer = contents_at d0.origin whole; seen = own.seen } ∷ (s P A t).rest)
   all_idle own = nobody_works (record { task = None; card = own.card; orders = []; awaiting = []; buffer = contents_at d0.origin whole; seen = own.seen } ∷ (s P A t).rest) refl (s P A t).idle
 
-  suspending_leads : (dirty : Bool) (own : Own) (known : IsKnown P A shape0 (state (ready dirty) own)) → Leads P A 0 Writeback (s P A t) (state (ready dirty) own) (suspending dirty known.known.is.kept) (suspended dirty (bit_or 0 2))
+  pub suspending_leads : (dirty : Bool) (own : Own) (known : IsKnown P A shape0 (state (ready dirty) own)) → Leads P A 0 Writeback (s P A t) (state (ready dirty) own) (suspending dirty known.known.is.kept) (suspended dirty (bit_or 0 2))
   suspending_leads true own known =
       let kept = known.known.is.kept in
       goes_to P A 0 Writeback (s P A t) _ _ _ (((s P A t).idle, (all_idle own, mapped P A t)) ⨟ (refl, refl, begins P A t true kept may_begin) ⨟ (refl, refl, puts_node true kept) ⨟ (refl, refl, (syncs_node true kept, refl)) ⨟ (refl, refl, puts_root true kept) ⨟ (refl, refl, (syncs_root true kept, refl)) ⨟ ((refl, refl), refl, refl) ⨟ tt) refl
