@@ -231,7 +231,7 @@ module _ (P A : Type 0) (t : Tiny P A) (content : Bytes) (d0 : Devices (List His
           ∷ Does Done (Opened t.policy)
           ∷ [])
 
-      fits_then : length (rooted next read) ≡ t.meta_sectors
+      pub fits_then : length (rooted next read) ≡ t.meta_sectors
       fits_then = length_grown (slice_get read (slot_of next.image.root).0) read (slot_of next.image.root).0 _ ∙ read_size
 
       -- in passthrough only where the block is clean

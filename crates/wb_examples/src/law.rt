@@ -77,7 +77,7 @@ pub fn a_block_can_stay_clean<P, A>()
 {}
 
 /// And one in which, where that block stays clean, the target is opened in passthrough behind the suspend: a write to the block takes it out of the
-/// cache, and goes to the origin alone.
+/// cache, and goes to the origin alone; a flush makes it durable; and behind a crash an opening in write-back shows it.
 pub fn a_block_can_be_passed_by<P, A>()
     ensures { CanPassThrough P A }
 {}
