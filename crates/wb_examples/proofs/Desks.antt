@@ -54,7 +54,7 @@ pub record Setting (P : Type 0) (more : ℕ) (mode : Mode) : Type 0 where
   pub sizes : Sizes more
   pub policy : P
   pub generation : ℕ
-  pub later : generation + 3 < 2 ^ 64
+  pub later : generation + 5 < 2 ^ 64
   pub rest : List Actor
   pub idle : AreIdle rest
 
@@ -85,6 +85,16 @@ lives_first k (suc at) here live e = absurd (nobody k at e)
     nobody zero at e = absurd (cc)
     nobody (suc n) zero e = absurd (cc)
     nobody (suc n) (suc at) e = nobody n at e
+
+-- where the first block stands in the first cache block, and no other stands anywhere, it leaves if it may
+pub leaves_from : (P : Type 0) (policy : P) (d : DeskState P) (k : ℕ) → d.tree.entries ≡ Some (entry_of first_block) ∷ replicate k None → IsSound d.tree → MayUnmap d first_block →
+    DidUnmap (λ p b. policy) first_block d (unmapped d first_cache_block (changed_at d.tree 0 None) policy)
+leaves_from P policy d k e sound may = (
+  λ other. subst (λ (at : ℕ). IsChangedAt d.tree (changed_at d.tree 0 None) at None × (unmapped d first_cache_block (changed_at d.tree 0 None) policy ≡ unmapped d (record { 0 = at }) (changed_at d.tree 0 None) policy))
+      (sym (stands_once first_block k other.cache.0 (subst (λ (es : List (Option Entry)). slice_get (origins es) other.cache.0 ≡ Some (Some first_block.0)) e other.mapped)))
+      (changed d.tree 0 None sound, refl),
+  λ not. absurd (not may),
+)
 
 -- ---- the desk
 
@@ -128,11 +138,7 @@ module _ (P : Type 0) (more : ℕ) (mode : Mode) (s : Setting P more mode) where
   left_by order = unmapped (leaving order) first_cache_block (changed_at stood.tree 0 None) policy
 
   leaves_by : (order : Order) → MayUnmap (leaving order) first_block → DidUnmap (λ p b. (left_by order).policy) first_block (leaving order) (left_by order)
-  leaves_by order may = (
-    λ other. subst (λ (at : ℕ). IsChangedAt (leaving order).tree (left_by order).tree at None × (left_by order ≡ unmapped (leaving order) (record { 0 = at }) (left_by order).tree (left_by order).policy)) (sym (stands_once first_block k other.cache.0 other.mapped))
-        (changed stood.tree 0 None stood_sound, refl),
-    λ not. absurd (not may),
-  )
+  leaves_by order may = leaves_from P policy (leaving order) k refl stood_sound may
 
   -- by a demotion, and by the first half of a replacement
   abbrev pub demoted : DeskState P

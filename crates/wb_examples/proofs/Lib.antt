@@ -13,4 +13,5 @@ mod Through
 mod Marking
 mod Rereading
 mod Suspending
+mod PassingBy
 mod Excluding

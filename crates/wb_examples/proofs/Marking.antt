@@ -11,6 +11,7 @@ use Rattle.wb_format.specs.declared.root.Root.{Root}
 use Rattle.wb_format.specs.Sizes.{IsTop}
 use Rattle.wb_format.specs.NodeWords.{IsLeafWord, entry_word}
 use Rattle.wb_format.proofs.WordLemmas.{IsWord-everywhere}
+use Rattle.wb_format.proofs.Numbers.{zeros_all}
 use Rattle.wb_tree.specs.declared.image.Image.{Image}
 use Rattle.wb_tree.specs.declared.placed.PlacedNode.{PlacedNode}
 use Rattle.wb_tree.specs.Mapping.{Mapping, IsMapping, IsSound, AreInside, changed, each_from, entry_at, exists, nodes_below, place_of}
@@ -71,19 +72,14 @@ stored_mapping dirty = record { size = refl; within = within; once = once }
 abbrev pub leaf_words : Bool → List ℕ
 leaf_words dirty = entry_word (Some (seen_entry dirty)) ∷ replicate 31 0
 
-no_word : (n j : ℕ) → slice_index (replicate n 0) j ≡ 0
-no_word zero j = refl
-no_word (suc n) zero = refl
-no_word (suc n) (suc j) = no_word n j
-
 words_are : (dirty : Bool) (j : ℕ) → slice_index (leaf_words dirty) j ≡ word_at (stored_tree dirty) 1 0 j
 words_are dirty zero = refl
-words_are dirty (suc j) = no_word 31 j ∙ sym (let same : 32 * 0 + suc j ≡ suc j = omega arith in ap (λ (k : ℕ). entry_word (entry_at (stored_tree dirty) k)) same)
+words_are dirty (suc j) = zeros_all 31 j ∙ sym (let same : 32 * 0 + suc j ≡ suc j = omega arith in ap (λ (k : ℕ). entry_word (entry_at (stored_tree dirty) k)) same)
 
 pub leaf_word : (dirty : Bool) (k : ℕ) → IsLeafWord (slice_index (leaf_words dirty) k)
 leaf_word true zero = record { present = λ n. refl; bits_2_and_3 = refl; hint = omega arith; bits_9_to_15 = refl; bits_from_36 = refl }
 leaf_word false zero = record { present = λ n. refl; bits_2_and_3 = refl; hint = omega arith; bits_9_to_15 = refl; bits_from_36 = refl }
-leaf_word dirty (suc k) = subst IsLeafWord (sym (no_word 31 k)) IsLeafWord-zero
+leaf_word dirty (suc k) = subst IsLeafWord (sym (zeros_all 31 k)) IsLeafWord-zero
 
 abbrev pub leaf_node : Bool → ℕ → Node
 leaf_node dirty generation = record {

@@ -36,7 +36,7 @@ use Rattle.wb_examples.proofs.Bare.{BareDesk}
 use Rattle.wb_examples.proofs.Beginning.{bare_commit, begins_bare}
 use Rattle.wb_examples.proofs.Completing.{stored, next_commit, all_read}
 use Rattle.wb_examples.proofs.Shown.{no_seals}
-use Rattle.wb_examples.proofs.Playing.{Move, Gets, Does, goes, ends, played, AreIdle, MayGo, goes_on, if_writes, ◌⨟◌}
+use Rattle.wb_examples.proofs.Playing.{Move, Gets, Does, goes, ends, played, AreIdle, MayGo, goes_on, ◌⨟◌}
 
 -- openings start in write-back
 pub write_back_starts : Writeback ≢ Passthrough
@@ -105,7 +105,7 @@ module _ (P A : Type 0) (d : Down P A) where
 
   pub opening_may : MayGo global shape down opening
   opening_may =
-      if_writes d.mode (AreIdle rest × Unit {0}) d.writes (d.idle, tt)
+      (d.idle, tt)
       ⨟ (refl, refl, refl)
       ⨟ (refl, refl, first_read P A d.mode shape.geometry durable d.alloc global left slot.0 slot.1 (omega (arith, shape.geometry.within.meta_from)))
       ⨟ (refl, refl, all_read A global shape.geometry durable none_then same_size P d.mode d.writes (left - 1) d.alloc global slot.0 slot.1)

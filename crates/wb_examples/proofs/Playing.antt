@@ -5,8 +5,6 @@ use Rattle.std.specs.Prelude.{not}
 use Rattle.wb_types.specs.declared.extent.Extent.{Extent}
 use Rattle.wb_types.specs.declared.mode.Dev.{Dev}
 use Rattle.wb_types.specs.declared.mode.Dev.TheVariants.{Metadata, Cache, Origin}
-use Rattle.wb_types.specs.declared.mode.Mode.{Mode}
-use Rattle.wb_types.specs.declared.mode.Mode.TheVariants.{Writeback, Writethrough, Passthrough}
 use Rattle.wb_types.proofs.Truth.{and_true}
 use Rattle.wb_disk.specs.Device.{Content as Bytes}
 use Rattle.wb_disk.specs.Crash.{Choice}
@@ -126,17 +124,12 @@ abbrev OthersAreIdle : List Actor → Type 0
 OthersAreIdle [] = ⊥
 OthersAreIdle (x ∷ actors) = AreIdle actors
 
--- a mode in which openings start
-abbrev pub is_writing : Mode → Bool
-is_writing Passthrough = false
-is_writing mode = true
-
--- an opening in such a mode is in place where no target stands that could go on, any other job where a target does
+-- an opening is in place where no target stands that could go on, any other job where a target does
 abbrev is_in_place : {P A : Type 0} → Phase P A → Job → Bool
-is_in_place (Stands t) (Open mode) = is_writing mode && not (t.words.fail == 0)
+is_in_place (Stands t) (Open mode) = not (t.words.fail == 0)
 is_in_place (Stands t) (Invalidate block) = false
 is_in_place (Stands t) job = true
-is_in_place Gone (Open mode) = is_writing mode
+is_in_place Gone (Open mode) = true
 is_in_place phase job = false
 
 -- a step that needs nothing shown
@@ -173,12 +166,6 @@ abbrev pub MayGo : {P A : Type 0} → Global → Shape → State P A → List (M
 MayGo global shape w [] = Unit {0}
 MayGo global shape w (Goes ∷ moves) = If (is_plain_task w.phase (task_of (slice_get w.actors 0))) (MayGo global shape (then global shape w Goes) moves)
 MayGo global shape w (move ∷ moves) = Needs shape w move × MayGo global shape (then global shape w move) moves
-
--- what holds where an opening in this mode starts
-pub if_writes : (mode : Mode) (X : Type 0) → mode ≢ Passthrough → X → If (is_writing mode) X
-if_writes Writeback X n x = x
-if_writes Writethrough X n x = x
-if_writes Passthrough X n x = absurd (n refl)
 
 -- what is shown for one, and for those behind it
 infixr 20 ◌⨟◌
@@ -242,9 +229,7 @@ idle_applies {P} {A} w job e f o d = elim d [
 ]
   where
     placed : (phase : Phase P A) (job : Job) → is_in_place phase job ≡ true → IsOutOfPlace phase job → ⊥
-    placed (Stands t) (Open mode) e out =
-        let failed = (and_true (is_writing mode) (not (t.words.fail == 0)) e).1 in
-        absurd (let same : not (t.words.fail == 0) ≡ false = ap (λ n. not (n == 0)) out in cc)
+    placed (Stands t) (Open mode) e out = absurd (let same : not (t.words.fail == 0) ≡ false = ap (λ n. not (n == 0)) out in cc)
     placed (Stands t) (Invalidate block) e out = absurd (cc)
     placed (Stands t) job e out = out tt
     placed Gone (Open mode) e out = out

@@ -1,6 +1,6 @@
 -- A reading of metadata whose newest root is that of a suspend, and names a tree of one node, can be completed: it finds the entry with its dirty
 -- bit, whatever that is.
-use Rattle.std.proofs.Common.{Global, ◌≡◌, ◌∙◌, ◌≤◌, ◌<◌, ◌+◌, ◌^◌, ◌&&◌, ◌==◌, inl, ℕ, Bool, true, false, List, [], ◌∷◌, Option, Some, None, Ok, Err, refl, sym, ap, subst, arith, length, map, slice_get, ◌≢◌}
+use Rattle.std.proofs.Common.{Global, ◌≡◌, ◌∙◌, ◌≤◌, ◌<◌, ◌+◌, ◌^◌, ◌&&◌, ◌==◌, inl, ℕ, zero, suc, Bool, true, false, List, [], ◌∷◌, Option, Some, None, Ok, Err, refl, sym, ap, subst, arith, length, map, slice_get}
 use Rattle.wb_types.specs.declared.mode.Mode.TheVariants.{Passthrough}
 use Rattle.wb_types.specs.declared.mode.Mode.{Mode}
 use Rattle.std.specs.Prelude.{All, Contains, if◌then◌else◌}
@@ -28,6 +28,7 @@ use Rattle.wb_meta.specs.declared.read_steps.ReadSteps.TheVariants.{FirstSlotRea
 use Rattle.wb_meta.specs.declared.read_steps.State.{State as Stored}
 use Rattle.wb_meta.proofs.Storing.{Represents-stored}
 use Rattle.wb_devices.specs.declared.running.RunningCommit.{RunningCommit}
+use Rattle.wb_devices.specs.Clean.{AreAllClean, IsLeftClean}
 use Rattle.wb_tasks.specs.declared.step.Got.TheVariants.{Done, More}
 use Rattle.wb_promise.specs.Happenings.{Reaches, DoesRead}
 use Rattle.wb_runs.proofs.Readings.{same_newest}
@@ -59,6 +60,11 @@ reached_is dirty = ap (λ (n : ℕ). reached_below (stored_tree dirty) n 0) one_
 has_entry : (dirty : Bool) → exists (stored_tree dirty).entries 1 0 ≡ true
 unfolding exists
 has_entry dirty = refl
+
+-- no entry is dirty where that one is not
+all_clean : (dirty : Bool) → dirty ≡ false → AreAllClean (stored_tree dirty)
+all_clean dirty e zero l = e
+all_clean dirty e (suc block) l = refl
 
 -- what stands on a device by the root of a suspend
 pub record StandsOn (P A : Type 0) (t : Tiny P A) (dirty : Bool) (device : List History) : Type 0 where
@@ -92,16 +98,16 @@ module _ (P A : Type 0) (t : Tiny P A) (dirty : Bool) (device : List History) (o
     rest = λ others there. loads others;
   }
 
-  pub root_read : (mode : Mode) → mode ≢ Passthrough → (left : ℕ) (alloc : A) (global : Global) (first : Option Root) → IsInSlot (map newest device) 0 first → 1 ≤ left →
+  pub root_read : (mode : Mode) (left : ℕ) (alloc : A) (global : Global) (first : Option Root) → IsInSlot (map newest device) 0 first → 1 ≤ left →
       DoesRead {P = P} {A = A} mode (geometry P A t) left (FirstSlotRead alloc global first) device None More (Reaches (Some (RootFound global r loader)) None)
   unfolding IsDistinct
-  root_read mode caches left alloc global first slot some = (
+  root_read mode left alloc global first slot some = (
     λ e. absurd (cc),
     inl (
       RootFound global r loader,
       finds alloc global first slot,
       (record { size = sym on.size; root_is = refl; used = record { from = tt; to = tt; apart = tt } }, refl),
-      inl ((some, refl, (λ known e. let same : r ≡ known = cc in ap (λ (x : Root). x.geometry) (sym same)), refl), λ passes. absurd (caches passes)),
+      inl ((some, refl, (λ known e. let same : r ≡ known = cc in ap (λ (x : Root). x.geometry) (sym same)), refl), λ passes state e. absurd (cc)),
       refl,
       tt,
     ),
@@ -152,14 +158,15 @@ module _ (P A : Type 0) (t : Tiny P A) (dirty : Bool) (device : List History) (o
     placed = no_node t.meta_sectors (omega (arith, t.within.meta_from));
   }
 
-  pub all_read : (mode : Mode) → mode ≢ Passthrough → (left : ℕ) (global : Global) → DoesRead {P = P} {A = A} mode (geometry P A t) left (RootFound global r loader) device None Done (Reaches (Some (AllRead stored)) (Some next_commit))
-  all_read mode caches left global = (
+  -- in passthrough only where it was left clean
+  pub all_read : (mode : Mode) → (mode ≡ Passthrough → dirty ≡ false) → (left : ℕ) (global : Global) → DoesRead {P = P} {A = A} mode (geometry P A t) left (RootFound global r loader) device None Done (Reaches (Some (AllRead stored)) (Some next_commit))
+  all_read mode clean left global = (
     λ e. absurd (cc),
     inl (
       AllRead stored,
       completes global,
       fits,
-      inl ((refl, (λ known e. let same : r ≡ known = cc in ap (λ (x : Root). x.geometry) (sym same)), record { is_done = tt; root = r; newest = refl; next = next_commit; commit_is = refl; opens = record { root_is = refl; no_nodes = refl }; steps = refl }), λ passes. absurd (caches passes)),
+      inl ((refl, (λ known e. let same : r ≡ known = cc in ap (λ (x : Root). x.geometry) (sym same)), record { is_done = tt; root = r; newest = refl; next = next_commit; commit_is = refl; opens = record { root_is = refl; no_nodes = refl }; steps = refl }), λ passes state e same. let is : stored ≡ state = cc in subst (λ (x : Stored A). IsLeftClean x) is (refl, all_clean dirty (clean passes))),
       refl,
       on.more,
     ),

@@ -34,6 +34,14 @@ along {P} {A} shape w w' n hs (Is ∷ more) e run passes =
     (subst (λ (m : Notes). Holds (after_all shape (after_all shape w hs) p.0) m) (sym (noted_append shape w n hs p.0)) (p.2, p.3)) in
     (hs ++ p.0, run_append shape w hs p.0 run p.1, r.0, r.1)
 
+-- a stretch, after which the first condition holds, and what goes on from there
+pub stretched : {P A : Type 0} (shape : Shape) (w w' : State P A) (n m : Notes) (hs : List (Happening P A)) (Is : State P A → Notes → Type 0) (conditions : List (State P A → Notes → Type 0)) → after_all shape w hs ≡ w' → noted shape w n hs ≡ m → IsRun shape w hs →
+    Is w' m → PassesThrough shape w' m conditions → PassesThrough shape w n (Is ∷ conditions)
+stretched {P} {A} shape w w' n m hs Is conditions e f run is behind =
+    let Holds : State P A → Notes → Type 0 = λ v k. Is v k × PassesThrough shape v k conditions in
+    let p = subst (λ (v : State P A). Holds v (noted shape w n hs)) (sym e) (subst (λ (k : Notes). Holds w' k) (sym f) (is, behind)) in
+    (hs, run, p.0, p.1)
+
 -- who has a policy and a reading that has read nothing has an allocator, and of several actors there is a first
 pub can_pass : (P A : Type 0) (Suits : Shape → Type 0) (conditions : Shape → List (State P A → Notes → Type 0)) → ((shape : Shape) → Suits shape → HasActors shape) →
     ((policy : P) (alloc : A) (global : Global) (geometry : Geometry) (threshold others : ℕ) (metadata : List History) → Suits (record { geometry = geometry; threshold = threshold; actors = suc others }) → IsFormatted geometry metadata → length metadata ≡ geometry.meta_sectors →

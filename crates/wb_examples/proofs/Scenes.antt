@@ -41,7 +41,7 @@ use Rattle.wb_runs.proofs.MetadataRuns.{IsKnown, known_always}
 use Rattle.wb_examples.proofs.Playing.{Move, played, ends, resting_idle, MayGo, goes_on}
 use Rattle.wb_examples.proofs.Opening.{write_back_starts, Down, down, opening, opening_may, opened, opened_is, none_then, rooted_size, known as opened_known}
 use Rattle.wb_examples.proofs.Desks.{Sizes, geometry_of, shape_of, Setting, shape, desk}
-use Rattle.wb_examples.proofs.Runs.{along, can_pass, first_down}
+use Rattle.wb_examples.proofs.Runs.{along, stretched, can_pass, first_down}
 
 -- ---- what is cut, and what fails
 
@@ -137,10 +137,7 @@ module _ (P A : Type 0) (more : ℕ) (mode : Mode) (s : Setting P more mode) whe
       noted (shape P more mode s) (at scene own) n (played global (shape P more mode s) (at scene own) moves) ≡ m → ((own : Own) → First conditions (at to own) m) → FromNoted to m (Later conditions) → PassesThrough (shape P more mode s) (at scene own) n conditions
   noted_stretch scene to moves n m [] own known r e is behind = tt
   noted_stretch scene to moves n m (Is ∷ conditions) own known r e is behind =
-      let Holds : State P A → Notes → Type 0 = λ w k. Is w k × PassesThrough (shape P more mode s) w k conditions in
-      let hs = played global (shape P more mode s) (at scene own) moves in
-      let p = subst (λ (w : State P A). Holds w (noted (shape P more mode s) (at scene own) n hs)) (sym r.is) (subst (λ (k : Notes). Holds (at to r.own) k) (sym e) (is r.own, behind r.own (known_then scene to moves own r known))) in
-      (hs, goes_on global (shape P more mode s) (at scene own) moves r.may, p.0, p.1)
+      stretched (shape P more mode s) (at scene own) (at to r.own) n m (played global (shape P more mode s) (at scene own) moves) Is conditions r.is e (goes_on global (shape P more mode s) (at scene own) moves r.may) (is r.own) (behind r.own (known_then scene to moves own r known))
 
   pub stretch : (scene to : Scene P) (moves : List (Move P A)) (conditions : List (State P A → Notes → Type 0)) → ((own : Own) → IsKnown P A (shape P more mode s) (at scene own) → Leads (at scene own) moves to) → ((own : Own) (n : Notes) → First conditions (at to own) n) → From to (Later conditions) →
       From scene conditions

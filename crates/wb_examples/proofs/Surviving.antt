@@ -6,7 +6,9 @@ use Rattle.std.proofs.lemmas.List.{length-map}
 use Rattle.std.proofs.lemmas.List.Elements.{All-nil}
 use lib.ListN.{get_or}
 use Rattle.std.proofs.Math.Nat.{mod-lt}
+use Rattle.wb_types.specs.declared.entry.Entry.{Entry}
 use Rattle.wb_types.specs.declared.geometry.Geometry.{Geometry}
+use Rattle.wb_types.specs.declared.number.OBlock.{OBlock}
 use Rattle.wb_types.specs.declared.mode.Mode.TheVariants.{Writeback}
 use Rattle.wb_types.specs.declared.mode.Dev.{Dev}
 use Rattle.wb_types.specs.declared.mode.Dev.TheVariants.{Metadata, Cache, Origin}
@@ -32,8 +34,8 @@ use Rattle.wb_promise.specs.States.{Shape, State}
 use Rattle.wb_promise.specs.Happenings.{Cut, task_job}
 use Rattle.wb_promise.specs.Effects.{all_resting}
 use Rattle.wb_promise.specs.Clerk.{Notes, Doing, Reading, Position, begins, nobody, formatted}
-use Rattle.wb_promise.specs.Headline.{shown, noted}
-use Rattle.wb_examples.specs.Possible.{first_sector, PassesThrough, to_survive, CanSurvive}
+use Rattle.wb_promise.specs.Headline.{shown, noted, cached_from}
+use Rattle.wb_examples.specs.Possible.{first_sector, PassesThrough, StandsNowhere, to_survive, CanSurvive}
 use Rattle.wb_runs.proofs.Images.{Images}
 use Rattle.wb_runs.proofs.Metadata.{Quiet}
 use Rattle.wb_runs.proofs.MetadataRuns.{IsKnown}
@@ -41,11 +43,30 @@ use Rattle.wb_runs.proofs.Formatted.{HasNoTree}
 use Rattle.wb_runs.proofs.Rooted.{rooted}
 use Rattle.wb_runs.proofs.Spelling.{spelling, spelled_root}
 use Rattle.wb_examples.proofs.Beginning.{bare_root, bare_commit}
-use Rattle.wb_examples.proofs.Shown.{written_same, origin_shown}
+use Rattle.wb_examples.proofs.Shown.{written_same, origin_shown, nowhere}
 use Rattle.wb_examples.proofs.Playing.{Move, Gets, Moves, Reads, Fails, Stops, goes, played, ends, resting_idle, MayGo, goes_on, ◌⨟◌}
 use Rattle.wb_examples.proofs.Opening.{write_back_starts, Down, down, opening, opening_may, opened_is, target, bare, Idle, flushing, flushing_may}
 use Rattle.wb_examples.proofs.Desks.{Setting, shape, desk}
 use Rattle.wb_examples.proofs.Scenes.{Scene, Own, nothing_known, Formatted, at, over, Leads, goes_to, FromNoted, noted_stretch, opened_scene, down_at, setting, devices, devices_size, shape_at, opened_at, known_at, opening_run, Whole, from_opened, small_can, uncut, nothing_lands, may_fail}
+
+-- ---- what is noted
+
+-- of the other sectors, and of the other actors
+pub record Others : Type 0 where
+  pub histories : List History
+  pub finished : List ℕ
+  pub floors : List ℕ
+  pub doings : List (Option Doing)
+
+-- beside that the first sector has this history, of which this entry is finished last, and the first actor is at this
+abbrev pub notes : Others → History → (last : ℕ) → Option Doing → Notes
+notes others history last doing = record { histories = history ∷ others.histories; finished = last ∷ others.finished; floors = 0 ∷ others.floors; doings = doing ∷ others.doings }
+
+-- it has a job, has read this and entered that
+abbrev pub doing_at : Others → Job → List Reading → List Position → (last : ℕ) → Option Doing
+doing_at others job readings entered last = Some (record { job = job; readings = readings; entered = entered; then_finished = last ∷ others.finished; failed = [] })
+
+-- ---- what stands behind a crash
 
 -- the root that was written last, if the newest root has its generation
 pub root_there : (m : List History) (r q : Root) → 2 ≤ length m → r.generation < 2 ^ 64 → q.generation ≡ r.generation → IsNewestRoot (map newest (synced (written (synced m) (r.generation % 2) (spelling r)))) q → q ≡ r
@@ -74,7 +95,62 @@ none_after P g i desk m m' q top more crash = record {
     nothing : (sectors : List Bytes) → IsNewestRoot sectors q.stored.root → Represents sectors q.stored.root (nothing_found q.stored.root)
     nothing sectors n = record { newest = n; nodes = λ place. None; reached = λ place e. absurd (cc); reads = ap (λ t. top_read q.stored.root (λ place. None) t) top }
 
-module _ (P A : Type 0) (policy : P) (alloc : A) (s : Setting P 0 Writeback) (metadata cache sectors histories : List History) (first : Bytes) (finished floors : List ℕ) (doings : List (Option Doing)) (content other : Bytes) where
+-- such a crash may be
+pub keeps : (device : Dev) (sectors : List History) → Applies device nothing_lands sectors
+keeps device sectors = record { inside = All-nil _; there = λ at h e. omega arith }
+
+-- Power is lost behind a flush whose root names no tree, and an opening in write-back shows the origin, since nothing is cached.
+module _ (P A : Type 0) (policy : P) (alloc : A) (s : Setting P 0 Writeback) (desk_then : DeskState P) (metadata cache sectors : List History) (content : Bytes) where
+  abbrev there : Shape
+  there = shape P 0 Writeback s
+
+  abbrev flushed : List History
+  flushed = synced (rooted (bare_commit s.global there.geometry desk_then.generation) (synced metadata))
+
+  module _ (images : Images) (quiet : Quiet there.geometry images desk_then flushed) (later : desk_then.generation + 2 < 2 ^ 64) (size : length metadata ≡ s.sizes.meta_sectors) (many : length sectors ≡ 63) where
+    root_is : quiet.stored.root ≡ bare_root there.geometry desk_then.generation
+    root_is = root_there metadata (bare_root there.geometry desk_then.generation) quiet.stored.root (omega (arith, size, s.sizes.within.meta_from)) (omega (arith, later)) (sym quiet.generation)
+        ((quiet.stores.represents (map newest flushed) (read-left flushed)).newest)
+
+    pub crash_of : Crashed flushed (crashed Metadata nothing_lands flushed)
+    crash_of = Crashed-crashed_from Metadata nothing_lands 0 flushed
+
+    pub none_there : HasNoTree there.geometry (crashed Metadata nothing_lands flushed)
+    none_there = none_after P there.geometry images desk_then flushed (crashed Metadata nothing_lands flushed) quiet (ap (λ (r : Root). r.top) root_is) (omega (arith, ap (λ (r : Root). r.generation) root_is, later)) crash_of
+
+    pub size_there : length (crashed Metadata nothing_lands flushed) ≡ there.geometry.meta_sectors
+    size_there = crash_of.size ∙ quiet.stores.size ∙ ap (λ (g : Geometry). g.meta_sectors) quiet.same
+
+    abbrev pub again : Down P A
+    again = record {
+      mode = Writeback;
+      writes = write_back_starts;
+      policy = policy;
+      alloc = alloc;
+      global = s.global;
+      shape = there;
+      metadata = crashed Metadata nothing_lands flushed;
+      cache = crashed Cache nothing_lands (synced cache);
+      origin = only content ∷ crashed_from Origin nothing_lands 1 (synced sectors);
+      none = none_there;
+      size = size_there;
+      rest = all_resting s.rest;
+      idle = resting_idle s.rest;
+    }
+
+    -- what it leads to
+    abbrev opened_again : State P A
+    opened_again = ends s.global there (down P A again) (opening P A again)
+
+    pub again_shown : slice_get (shown there opened_again) 0 ≡ Some content
+    again_shown = ap (λ (w : State P A). slice_get (shown there w) 0) (opened_is P A again)
+        ∙ ap (λ (ss : List Bytes). slice_get ss 0) (origin_shown there (target P A again).desk.tree.entries (map newest (synced again.cache)) (map newest (synced again.origin)) there.geometry.cache_blocks (bare P A again).entries
+        (length-map (synced again.origin) newest ∙ length-map again.origin (λ (h : History). only (newest h)) ∙ ap (λ (n : ℕ). suc n) ((Crashed-crashed_from Origin nothing_lands 1 (synced sectors)).size ∙ length-map sectors (λ (h : History). only (newest h)) ∙ many)))
+
+    pub again_nowhere : (block : OBlock) → StandsNowhere block opened_again
+    again_nowhere block = subst (λ (w : State P A). StandsNowhere block w) (sym (opened_is P A again)) (ap (λ (es : List (Option Entry)). cached_from block.0 0 es) (bare P A again).entries ∙ nowhere block.0 0 there.geometry.cache_blocks)
+
+module _ (P A : Type 0) (policy : P) (alloc : A) (s : Setting P 0 Writeback) (metadata cache sectors : List History) (first : Bytes) (others : Others) (content other : Bytes) where
   open s use {global}
 
   abbrev shape0 : Shape
@@ -116,23 +192,17 @@ module _ (P A : Type 0) (policy : P) (alloc : A) (s : Setting P 0 Writeback) (me
   abbrev durable : Scene P
   durable = here (synced (rooted (bare_commit global shape0.geometry (s.generation + 1)) (synced metadata))) (synced cache) (only content ∷ synced sectors) (words 1 1 1) desk_then (over Flush (task_job shape0 Writeback [] Flush [] []))
 
-  abbrev notes : History → (last : ℕ) → Option Doing → Notes
-  notes history last doing = record { histories = history ∷ histories; finished = last ∷ finished; floors = 0 ∷ floors; doings = doing ∷ doings }
-
-  abbrev doing_at : Job → List Reading → List Position → (last : ℕ) → Option Doing
-  doing_at job readings entered last = Some (record { job = job; readings = readings; entered = entered; then_finished = last ∷ finished; failed = [] })
-
   abbrev n0 : Notes
-  n0 = notes (only first) 0 None
+  n0 = notes others (only first) 0 None
 
   abbrev n1 : Notes
-  n1 = notes history 0 (doing_at (Write first_sector content) [] (record { sector = 0; position = 1 } ∷ []) 0)
+  n1 = notes others history 0 (doing_at others (Write first_sector content) [] (record { sector = 0; position = 1 } ∷ []) 0)
 
   abbrev n2 : Notes
-  n2 = notes history 1 (doing_at (Read first_sector) (record { sector = 0; content = content; latest = Some content } ∷ []) [] 1)
+  n2 = notes others history 1 (doing_at others (Read first_sector) (record { sector = 0; content = content; latest = Some content } ∷ []) [] 1)
 
   abbrev n3 : Notes
-  n3 = notes history 1 (doing_at Flush [] [] 1)
+  n3 = notes others history 1 (doing_at others Flush [] [] 1)
 
   -- ---- what happens
 
@@ -170,49 +240,20 @@ module _ (P A : Type 0) (policy : P) (alloc : A) (s : Setting P 0 Writeback) (me
   failing_may : (own : Own) → MayGo global shape0 (at P A 0 Writeback s durable own) failing
   failing_may own = (s.idle, (refl, uncut first_sector (omega arith))) ⨟ (may_fail _, (refl, tt)) ⨟ tt
 
-  keeps : (device : Dev) (sectors : List History) → Applies device nothing_lands sectors
-  keeps device sectors = record { inside = All-nil _; there = λ at h e. omega arith }
-
   -- ---- the second opening, which finds the root of the flush, and shows the origin, since nothing is cached
 
   module _ (size : length metadata ≡ s.sizes.meta_sectors) (many : length sectors ≡ 63) (own : Own) (known : IsKnown P A shape0 (at P A 0 Writeback s durable own)) where
     abbrev settled : State P A
     settled = at P A 0 Writeback s durable own
 
-    abbrev down_again : State P A
-    down_again = lead (lead settled failing) crash
-
     quiet : Quiet shape0.geometry known.images desk_then settled.devices.metadata
     quiet = elim known.known.stands [ inl q ↦ q | inr broken ↦ absurd (let busy = broken.busy in cc) ]
 
-    root_is : quiet.stored.root ≡ bare_root shape0.geometry (s.generation + 1)
-    root_is = root_there metadata (bare_root shape0.geometry (s.generation + 1)) quiet.stored.root (omega (arith, size, s.sizes.within.meta_from)) (omega (arith, s.later)) (sym quiet.generation)
-        ((quiet.stores.represents (map newest settled.devices.metadata) (read-left settled.devices.metadata)).newest)
+    later : desk_then.generation + 2 < 2 ^ 64
+    later = omega (arith, s.later)
 
-    crash_of : Crashed settled.devices.metadata down_again.devices.metadata
-    crash_of = Crashed-crashed_from Metadata nothing_lands 0 settled.devices.metadata
-
-    abbrev again : Down P A
-    again = record {
-      mode = Writeback;
-      writes = write_back_starts;
-      policy = policy;
-      alloc = alloc;
-      global = global;
-      shape = shape0;
-      metadata = crashed Metadata nothing_lands settled.devices.metadata;
-      cache = crashed Cache nothing_lands settled.devices.cache;
-      origin = only content ∷ crashed_from Origin nothing_lands 1 (synced sectors);
-      none = none_after P shape0.geometry known.images desk_then settled.devices.metadata down_again.devices.metadata quiet (ap (λ (r : Root). r.top) root_is) (omega (arith, ap (λ (r : Root). r.generation) root_is, s.later)) crash_of;
-      size = crash_of.size ∙ quiet.stores.size ∙ ap (λ (g : Geometry). g.meta_sectors) quiet.same;
-      rest = all_resting s.rest;
-      idle = resting_idle s.rest;
-    }
-
-    last_shown : slice_get (shown shape0 (ends global shape0 (down P A again) (opening P A again))) 0 ≡ Some content
-    last_shown = ap (λ (w : State P A). slice_get (shown shape0 w) 0) (opened_is P A again)
-        ∙ ap (λ (ss : List Bytes). slice_get ss 0) (origin_shown shape0 (target P A again).desk.tree.entries (map newest (synced again.cache)) (map newest (synced again.origin)) shape0.geometry.cache_blocks (bare P A again).entries
-        (length-map (synced again.origin) newest ∙ length-map again.origin (λ (h : History). only (newest h)) ∙ ap (λ (n : ℕ). suc n) ((Crashed-crashed_from Origin nothing_lands 1 (synced sectors)).size ∙ length-map sectors (λ (h : History). only (newest h)) ∙ many)))
+    abbrev down_then : Down P A
+    down_then = again P A policy alloc s desk_then metadata cache sectors content known.images quiet later size many
 
     last_stretches : PassesThrough shape0 settled n3 (drop 3 conditions)
     last_stretches = (
@@ -223,7 +264,7 @@ module _ (P A : Type 0) (policy : P) (alloc : A) (s : Setting P 0 Writeback) (me
         played global shape0 (lead settled failing) crash,
         goes_on global shape0 (lead settled failing) crash (record { metadata = keeps Metadata _; cache = keeps Cache _; origin = keeps Origin _ } ⨟ tt),
         refl,
-        (played global shape0 (down P A again) (opening P A again), goes_on global shape0 (down P A again) (opening P A again) (opening_may P A again), (tt, last_shown), tt),
+        (played global shape0 (down P A down_then) (opening P A down_then), goes_on global shape0 (down P A down_then) (opening P A down_then) (opening_may P A down_then), (tt, again_shown P A policy alloc s desk_then metadata cache sectors content known.images quiet later size many), tt),
       ),
     )
 
@@ -237,20 +278,20 @@ module _ (P A : Type 0) (f : Formatted P A 0 Writeback) where
   abbrev sectors_then : List History
   sectors_then = synced (replicate 63 blank)
 
-  abbrev pub contents_then : List Bytes
+  abbrev contents_then : List Bytes
   contents_then = map newest sectors_then
 
-  abbrev pub finished_then : List ℕ
+  abbrev finished_then : List ℕ
   finished_then = map (λ (c : Bytes). 0) contents_then
 
-  abbrev pub nobody_else : List (Option Doing)
-  nobody_else = replicate (length (nobody (replicate f.sizes.others None))) None
+  abbrev pub others_then : Others
+  others_then = record { histories = map only contents_then; finished = finished_then; floors = finished_then; doings = replicate (length (nobody (replicate f.sizes.others None))) None }
 
   abbrev down0 : Down P A
   down0 = down_at P A 0 Writeback f
 
   pub noted_then : noted (shape_at P A 0 Writeback f) (down P A down0) (formatted (shape_at P A 0 Writeback f)) (opening_run P A 0 Writeback f)
-      ≡ record { histories = only (newest blank) ∷ map only contents_then; finished = 0 ∷ finished_then; floors = 0 ∷ finished_then; doings = None ∷ nobody_else }
+      ≡ notes others_then (only (newest blank)) 0 None
   noted_then = ap (λ (ss : List Bytes). begins (suc (length (nobody (replicate f.sizes.others None)))) ss) (
       ap (λ (w : State P A). shown (shape_at P A 0 Writeback f) w) (opened_is P A down0)
       ∙ origin_shown (shape_at P A 0 Writeback f) (target P A down0).desk.tree.entries (map newest (devices P A 0 Writeback f).cache) (map newest (devices P A 0 Writeback f).origin) (suc f.sizes.k) (bare P A down0).entries refl)
@@ -258,7 +299,7 @@ module _ (P A : Type 0) (f : Formatted P A 0 Writeback) where
   pub survives_from : (content other : Bytes) → Whole P A 0 Writeback f (to_survive (shape_at P A 0 Writeback f) content other)
   survives_from content other = from_opened P A 0 Writeback f (to_survive (shape_at P A 0 Writeback f) content other) (λ n e.
       subst (λ (m : Notes). PassesThrough (shape_at P A 0 Writeback f) (opened_at P A 0 Writeback f) m (to_survive (shape_at P A 0 Writeback f) content other)) (sym (e ∙ noted_then))
-      (survives P A f.policy f.alloc (setting P A 0 Writeback f) (devices P A 0 Writeback f).metadata (devices P A 0 Writeback f).cache sectors_then (map only contents_then) (newest blank) finished_then finished_then nobody_else content other (devices_size P A 0 Writeback f) refl nothing_known (known_at P A 0 Writeback f)))
+      (survives P A f.policy f.alloc (setting P A 0 Writeback f) (devices P A 0 Writeback f).metadata (devices P A 0 Writeback f).cache sectors_then (newest blank) others_then content other (devices_size P A 0 Writeback f) refl nothing_known (known_at P A 0 Writeback f)))
 
 pub can_survive : (P A : Type 0) → CanSurvive P A
 can_survive P A content other = small_can P A 0 0 Writeback write_back_starts (λ shape. to_survive shape content other) (λ f room. survives_from P A f content other)

@@ -5,7 +5,8 @@ use Rattle.std.proofs.lemmas.Option.{slice_get-map}
 use Rattle.std.specs.Int.Bits.{bit_or, or_zero_l}
 use Rattle.std.proofs.lemmas.List.{length-map}
 use Rattle.wb_types.proofs.Lists.{Contains-first, Contains-one}
-use Rattle.wb_types.specs.declared.mode.Mode.TheVariants.{Writeback}
+use Rattle.wb_types.specs.declared.mode.Mode.{Mode}
+use Rattle.wb_types.specs.declared.mode.Mode.TheVariants.{Writeback, Passthrough}
 use Rattle.wb_types.specs.declared.mode.Dev.TheVariants.{Metadata}
 use Rattle.wb_types.specs.declared.number.OBlock.{OBlock}
 use Rattle.wb_disk.specs.Device.{Content as Bytes, History, newest, only, synced, written}
@@ -48,7 +49,7 @@ use Rattle.wb_examples.proofs.Playing.{Move, Gets, Moves, Does, AreIdle, goes, g
 use Rattle.wb_examples.proofs.Scenes.{Scene, Own, nothing_known, Formatted, Tiny, formatted_of, tiny_can, at, over, Leads, goes_to, From, FromNoted, noted_stretch, stretch, opened_scene, devices, devices_size, cache_size, origin_size, known_at, opened_at, shape_at, from_opened, uncut, whole}
 use Rattle.wb_examples.proofs.Runs.{along}
 use Rattle.wb_examples.proofs.Blocks.{first_written, sync_gives, filled, came, promotes, promoting, promoting_leads}
-use Rattle.wb_examples.proofs.Surviving.{root_there, noted_then, contents_then, finished_then, nobody_else}
+use Rattle.wb_examples.proofs.Surviving.{Others, notes, doing_at, root_there, noted_then, others_then}
 use Rattle.wb_examples.proofs.Marking.{seen_entry, image, leaf_place, leaf_node, stored_tree, none_changed, s, stood0, root, commit, begins}
 use Rattle.wb_examples.proofs.Desks.{shape}
 use Rattle.wb_examples.proofs.Rereading.{StandsOn, loader, stored, root_read, next_commit, all_read}
@@ -68,10 +69,10 @@ module _ (P A : Type 0) (t : Tiny P A) (content : Bytes) (d0 : Devices (List His
   abbrev state : Scene P → Own → State P A
   state scene own = at P A 0 Writeback (s P A t) scene own
 
-  abbrev opened0 : Scene P
+  abbrev pub opened0 : Scene P
   opened0 = opened_scene P A 0 Writeback (s P A t) d0
 
-  abbrev came0 : Scene P
+  abbrev pub came0 : Scene P
   came0 = came P A 0 Writeback (s P A t) d0
 
   -- ---- where the suspend begins: the block was written to, and is dirty, or has only come
@@ -126,10 +127,10 @@ module _ (P A : Type 0) (t : Tiny P A) (content : Bytes) (d0 : Devices (List His
     abbrev desk_then : DeskState P
     desk_then = ended (commit_begun (stood0 P A t) (stored_tree dirty))
 
-    abbrev suspended : ℕ → Scene P
+    abbrev pub suspended : ℕ → Scene P
     suspended fail = here durable (words_at dirty fail) desk_then (over Suspend (task_job shape0 Writeback [] Suspend [] (first_block ∷ [])))
 
-    abbrev suspending : DeskInvariant unknowing (stood0 P A t) → List (Move P A)
+    abbrev pub suspending : DeskInvariant unknowing (stood0 P A t) → List (Move P A)
     suspending kept =
         goes 1 (Gets Suspend (Looks (first_block ∷ []))
         ∷ goes 2 (Does (Began 1) (Commits (commit P A t dirty kept) (stored_tree dirty))
@@ -172,18 +173,18 @@ module _ (P A : Type 0) (t : Tiny P A) (content : Bytes) (d0 : Devices (List His
 
     -- ---- an opening behind it
 
-    abbrev starting : List (Move P A)
-    starting = goes 1 (Gets (Open Writeback) Plain ∷ [])
+    abbrev pub starting : Mode → List (Move P A)
+    starting mode = goes 1 (Gets (Open mode) Plain ∷ [])
 
     module _ (own : Own) (known : IsKnown P A shape0 (state (suspended 2) own)) where
       abbrev settled : State P A
       settled = state (suspended 2) own
 
-      abbrev started : State P A
-      started = ends t.global shape0 settled starting
+      abbrev pub started : Mode → State P A
+      started mode = ends t.global shape0 settled (starting mode)
 
-      starts : IsRun shape0 settled (played t.global shape0 settled starting)
-      starts = goes_on t.global shape0 settled starting (((s P A t).idle, tt) ⨟ tt)
+      pub starts : (mode : Mode) → IsRun shape0 settled (played t.global shape0 settled (starting mode))
+      starts mode = goes_on t.global shape0 settled (starting mode) (((s P A t).idle, tt) ⨟ tt)
 
       quiet : Quiet shape0.geometry known.images desk_then durable.metadata
       quiet = elim known.known.stands [ inl q ↦ q | inr broken ↦ absurd (let busy = broken.busy in cc) ]
@@ -195,13 +196,13 @@ module _ (P A : Type 0) (t : Tiny P A) (content : Bytes) (d0 : Devices (List His
       root_is = root_there noded (root P A t dirty) quiet.stored.root (omega (arith, node_size, t.within.meta_from)) may_begin.next (sym quiet.generation) newest_then
 
       -- the metadata once the opening has synced them
-      abbrev read : List History
+      abbrev pub read : List History
       read = synced durable.metadata
 
       read_size : length read ≡ t.meta_sectors
       read_size = length-map durable.metadata _ ∙ length-map rooted_there _ ∙ root_size
 
-      on : StandsOn P A t dirty read
+      pub on : StandsOn P A t dirty read
       on = record {
         size = read_size;
         newest_root = subst (λ (ss : List Bytes). IsNewestRoot ss (root P A t dirty)) (sym (newest-synced durable.metadata)) (subst (λ (r : Root). IsNewestRoot (map newest durable.metadata) r) root_is newest_then);
@@ -216,10 +217,10 @@ module _ (P A : Type 0) (t : Tiny P A) (content : Bytes) (d0 : Devices (List His
       abbrev next : RunningCommit
       next = next_commit P A t dirty read on
 
-      slot : (first : Option Root) × IsInSlot (map newest read) 0 first
+      pub slot : (first : Option Root) × IsInSlot (map newest read) 0 first
       slot = some_slot P A Writeback shape0.geometry read (omega (arith, read_size, t.within.meta_from))
 
-      abbrev opening : List (Move P A)
+      abbrev pub opening : List (Move P A)
       opening =
           Does Done (Begins (Begun t.alloc t.global))
           ∷ goes 2 (Does More (Reaches (Some (FirstSlotRead t.alloc t.global slot.0)) None)
@@ -230,15 +231,16 @@ module _ (P A : Type 0) (t : Tiny P A) (content : Bytes) (d0 : Devices (List His
           ∷ Does Done (Opened t.policy)
           ∷ [])
 
-      fits_then : length (rooted next read) ≡ t.meta_sectors
+      pub fits_then : length (rooted next read) ≡ t.meta_sectors
       fits_then = length_grown (slice_get read (slot_of next.image.root).0) read (slot_of next.image.root).0 _ ∙ read_size
 
-      opens : IsRun shape0 started (played t.global shape0 started opening)
-      opens = goes_on t.global shape0 started opening (
+      -- in passthrough only where the block is clean
+      pub opens : (mode : Mode) → (mode ≡ Passthrough → dirty ≡ false) → IsRun shape0 (started mode) (played t.global shape0 (started mode) opening)
+      opens mode clean = goes_on t.global shape0 (started mode) opening (
           (refl, refl, refl)
-          ⨟ (refl, refl, first_read P A Writeback shape0.geometry read t.alloc t.global t.meta_sectors slot.0 slot.1 (omega (arith, t.within.meta_from)))
-          ⨟ (refl, refl, root_read P A t dirty read on Writeback (λ e. absurd (cc)) (t.meta_sectors - 1) t.alloc t.global slot.0 slot.1 (omega (arith, t.within.meta_from)))
-          ⨟ (refl, refl, all_read P A t dirty read on Writeback (λ e. absurd (cc)) (t.meta_sectors - 1 - 1) t.global)
+          ⨟ (refl, refl, first_read P A mode shape0.geometry read t.alloc t.global t.meta_sectors slot.0 slot.1 (omega (arith, t.within.meta_from)))
+          ⨟ (refl, refl, root_read P A t dirty read on mode (t.meta_sectors - 1) t.alloc t.global slot.0 slot.1 (omega (arith, t.within.meta_from)))
+          ⨟ (refl, refl, all_read P A t dirty read on mode clean (t.meta_sectors - 1 - 1) t.global)
           ⨟ (refl, refl, (comes_next next read NodesSynced WriteRoot read_size refl refl, root_does next read on.more refl))
           ⨟ (refl, refl, (comes_next (record next { steps = RootWritten }) (rooted next read) RootWritten (Sync Metadata) fits_then refl refl, refl))
           ⨟ (refl, refl, (tt, refl))
@@ -249,7 +251,7 @@ module _ (P A : Type 0) (t : Tiny P A) (content : Bytes) (d0 : Devices (List His
   all_idle : (own : Own) → AreIdle (record { task = None; card = own.card; orders = []; awaiting = []; buffer = contents_at d0.origin whole; seen = own.seen } ∷ (s P A t).rest)
   all_idle own = nobody_works (record { task = None; card = own.card; orders = []; awaiting = []; buffer = contents_at d0.origin whole; seen = own.seen } ∷ (s P A t).rest) refl (s P A t).idle
 
-  suspending_leads : (dirty : Bool) (own : Own) (known : IsKnown P A shape0 (state (ready dirty) own)) → Leads P A 0 Writeback (s P A t) (state (ready dirty) own) (suspending dirty known.known.is.kept) (suspended dirty (bit_or 0 2))
+  pub suspending_leads : (dirty : Bool) (own : Own) (known : IsKnown P A shape0 (state (ready dirty) own)) → Leads P A 0 Writeback (s P A t) (state (ready dirty) own) (suspending dirty known.known.is.kept) (suspended dirty (bit_or 0 2))
   suspending_leads true own known =
       let kept = known.known.is.kept in
       goes_to P A 0 Writeback (s P A t) _ _ _ (((s P A t).idle, (all_idle own, mapped P A t)) ⨟ (refl, refl, begins P A t true kept may_begin) ⨟ (refl, refl, puts_node true kept) ⨟ (refl, refl, (syncs_node true kept, refl)) ⨟ (refl, refl, puts_root true kept) ⨟ (refl, refl, (syncs_root true kept, refl)) ⨟ ((refl, refl), refl, refl) ⨟ tt) refl
@@ -264,45 +266,39 @@ module _ (P A : Type 0) (t : Tiny P A) (content : Bytes) (d0 : Devices (List His
       let gives = sync_gives (synced (devices_at true).cache) content (sync_gives (devices_at true).cache content (first_written (filled d0).cache content (omega (arith, filled_size)))) in
       slice_get-map newest (synced (synced (devices_at true).cache)) 0 ∙ ap (λ (o : Option History). option_map newest o) gives.1 ∙ ap (λ (c : Bytes). Some c) gives.2
 
-  pub dirty_end : (own : Own) (known : IsKnown P A shape0 (state (suspended true 2) own)) (n : Notes) → IsFloorAt 1 (noted shape0 (state (suspended true 2) own) n (played t.global shape0 (state (suspended true 2) own) (starting true))) →
+  pub dirty_end : (own : Own) (known : IsKnown P A shape0 (state (suspended true 2) own)) (n : Notes) → IsFloorAt 1 (noted shape0 (state (suspended true 2) own) n (played t.global shape0 (state (suspended true 2) own) (starting true Writeback))) →
       PassesThrough shape0 (state (suspended true 2) own) n (drop 3 (to_suspend shape0 content))
   dirty_end own known n floor = (
-    played t.global shape0 (state (suspended true 2) own) (starting true),
-    starts true own known,
+    played t.global shape0 (state (suspended true 2) own) (starting true Writeback),
+    starts true own known Writeback,
     (refl, floor),
-    (played t.global shape0 (started true own known) (opening true own known), opens true own known, (refl, refl, ap (λ (o : Option Bytes). Some (unwrap_or o [])) shows), tt),
+    (played t.global shape0 (started true own known Writeback) (opening true own known), opens true own known Writeback (λ e. absurd (cc)), (refl, refl, ap (λ (o : Option Bytes). Some (unwrap_or o [])) shows), tt),
   )
 
   pub clean_end : (own : Own) (known : IsKnown P A shape0 (state (suspended false 2) own)) (n : Notes) → PassesThrough shape0 (state (suspended false 2) own) n (drop 2 to_stay_clean)
-  clean_end own known n = along shape0 (state (suspended false 2) own) (started false own known) n (played t.global shape0 (state (suspended false 2) own) (starting false)) (drop 2 to_stay_clean) refl (starts false own known)
-      (played t.global shape0 (started false own known) (opening false own known), opens false own known, (refl, refl), tt)
+  clean_end own known n = along shape0 (state (suspended false 2) own) (started false own known Writeback) n (played t.global shape0 (state (suspended false 2) own) (starting false Writeback)) (drop 2 to_stay_clean) refl (starts false own known Writeback)
+      (played t.global shape0 (started false own known Writeback) (opening false own known), opens false own known Writeback (λ e. refl), (refl, refl), tt)
 
 -- ---- the whole run with a block that is dirty, with what is noted
 
-module _ (P A : Type 0) (t : Tiny P A) (room : 64 ≤ t.threshold) (content first : Bytes) (histories : List History) (finished floors : List ℕ) (doings : List (Option Doing)) (d : Devices (List History)) (cache_some : 64 ≤ length d.cache) (origin_some : 64 ≤ length d.origin) (metadata_size : length d.metadata ≡ t.meta_sectors) where
+module _ (P A : Type 0) (t : Tiny P A) (room : 64 ≤ t.threshold) (content first : Bytes) (others : Others) (d : Devices (List History)) (cache_some : 64 ≤ length d.cache) (origin_some : 64 ≤ length d.origin) (metadata_size : length d.metadata ≡ t.meta_sectors) where
   abbrev conditions : List (State P A → Notes → Type 0)
   conditions = to_suspend (shape0 P A t content d cache_some origin_some metadata_size) content
 
   abbrev history : History
   history = record { first = first; later = content ∷ [] }
 
-  abbrev notes : History → (last : ℕ) → Option Doing → Notes
-  notes history last doing = record { histories = history ∷ histories; finished = last ∷ finished; floors = 0 ∷ floors; doings = doing ∷ doings }
-
-  abbrev doing_at : Job → List Position → (last : ℕ) → Option Doing
-  doing_at job entered last = Some (record { job = job; readings = []; entered = entered; then_finished = last ∷ finished; failed = [] })
-
   abbrev n0 : Notes
-  n0 = notes (only first) 0 None
+  n0 = notes others (only first) 0 None
 
   abbrev n1 : Notes
-  n1 = notes (only first) 0 (doing_at promotes [] 0)
+  n1 = notes others (only first) 0 (doing_at others promotes [] [] 0)
 
   abbrev n2 : Notes
-  n2 = notes history 0 (doing_at (Write first_sector content) (record { sector = 0; position = 1 } ∷ []) 0)
+  n2 = notes others history 0 (doing_at others (Write first_sector content) [] (record { sector = 0; position = 1 } ∷ []) 0)
 
   abbrev n3 : Notes
-  n3 = notes history 1 (doing_at Suspend [] 1)
+  n3 = notes others history 1 (doing_at others Suspend [] [] 1)
 
   abbrev scene : ℕ → Scene P
   scene fail = suspended P A t content d cache_some origin_some metadata_size true fail
@@ -321,7 +317,7 @@ can_suspend P A content = tiny_can P A 64 (λ shape. to_suspend shape content) (
     let f : Formatted P A 0 Writeback = formatted_of t in
     from_opened P A 0 Writeback f (to_suspend (shape_at P A 0 Writeback f) content) (λ n e.
     subst (λ (m : Notes). PassesThrough (shape_at P A 0 Writeback f) (opened_at P A 0 Writeback f) m (to_suspend (shape_at P A 0 Writeback f) content)) (sym (e ∙ noted_then P A f))
-    (passes P A t room content (newest blank) (map only (contents_then P A f)) (finished_then P A f) (finished_then P A f) (nobody_else P A f) (devices P A 0 Writeback f) (cache_size P A 0 Writeback f) (omega (arith, origin_size P A 0 Writeback f)) (devices_size P A 0 Writeback f) nothing_known (known_at P A 0 Writeback f))))
+    (passes P A t room content (newest blank) (others_then P A f) (devices P A 0 Writeback f) (cache_size P A 0 Writeback f) (omega (arith, origin_size P A 0 Writeback f)) (devices_size P A 0 Writeback f) nothing_known (known_at P A 0 Writeback f))))
 
 -- ---- and with one that is clean
 

@@ -3,7 +3,7 @@ use Rattle.std.specs.Prelude.{Bool, true, false, ◌≡◌, ◌≤◌, ◌∷◌
 use Rattle.wb_types.specs.declared.entry.Entry.{Entry}
 use Rattle.wb_types.specs.declared.extent.Extent.{Extent}
 use Rattle.wb_types.specs.declared.mode.Mode.{Mode}
-use Rattle.wb_types.specs.declared.mode.Mode.TheVariants.{Writeback, Writethrough}
+use Rattle.wb_types.specs.declared.mode.Mode.TheVariants.{Writeback, Writethrough, Passthrough}
 use Rattle.wb_types.specs.declared.mode.Dev.TheVariants.{Cache, Origin}
 use Rattle.wb_types.specs.declared.refusal.Refusal.TheVariants.{Memory}
 use Rattle.wb_types.specs.declared.number.OBlock.{OBlock}
@@ -296,3 +296,20 @@ to_stay_clean =
 
 abbrev pub CanStayClean : (P A : Type 0) → Type 0
 CanStayClean P A = CanPass P A (IsSmallest 64) (λ shape. to_stay_clean)
+
+-- Behind a suspend that stored it clean, an opening in passthrough takes the block where it is. A write to it takes it out of the cache first, and then
+-- goes to the origin alone; a flush makes it durable; power is lost; and a second opening, in write-back, finds nothing cached, and shows it.
+abbrev pub to_pass_through : {P A : Type 0} → Shape → Bytes → List (State P A → Notes → Type 0)
+to_pass_through shape content =
+    (λ w n. IsPromoted w × IsSealedClean w)
+    ∷ (λ w n. AboutToAnswer Suspend w × IsStored false w)
+    ∷ (λ w n. StandsIn Passthrough w × StandsCached first_block w × IsSealedClean w)
+    ∷ (λ w n. FirstWants (Write first_sector content) (Device (WriteExtent Origin first_sector)) w × StandsNowhere first_block w)
+    ∷ (λ w n. AboutToAnswer (Write first_sector content) w × StandsNowhere first_block w × ReadGives w.devices.origin 0 content)
+    ∷ (λ w n. AboutToAnswer Flush w × IsFloorAt 0 n)
+    ∷ (λ w n. (w.phase ≡ Gone) × IsFloorAt 1 n)
+    ∷ (λ w n. StandsIn Writeback w × StandsNowhere first_block w × (slice_get (shown shape w) 0 ≡ Some content))
+    ∷ []
+
+abbrev pub CanPassThrough : (P A : Type 0) → Type 0
+CanPassThrough P A = (content : Bytes) → CanPass P A (IsSmallest 64) (λ shape. to_pass_through shape content)

@@ -1,7 +1,7 @@
 //! Runs that there are, and answers that the promise refuses.
 
 ghost use Rattle.wb_examples.specs.Excluded.{ExcludesWrongAnswers, ExcludesWrongSuspends};
-ghost use Rattle.wb_examples.specs.Possible.{CanDemote, CanFlush, CanGiveUp, CanOpen, CanPromote, CanReplace, CanStartAgain, CanStayClean, CanSurvive, CanSuspend, CanWriteBack, CanWriteHalf, CanWriteThrough};
+ghost use Rattle.wb_examples.specs.Possible.{CanDemote, CanFlush, CanGiveUp, CanOpen, CanPassThrough, CanPromote, CanReplace, CanStartAgain, CanStayClean, CanSurvive, CanSuspend, CanWriteBack, CanWriteHalf, CanWriteThrough};
 
 /// From any formatted metadata there is a run, over any policy, in which an opening is answered done and its target stands.
 pub fn a_target_can_be_opened<P, A>()
@@ -74,6 +74,12 @@ pub fn a_target_can_be_suspended<P, A>()
 /// And one in which that block, where it was not written to, is stored and taken as clean.
 pub fn a_block_can_stay_clean<P, A>()
     ensures { CanStayClean P A }
+{}
+
+/// And one in which, where that block stays clean, the target is opened in passthrough behind the suspend: a write to the block takes it out of the
+/// cache, and goes to the origin alone; a flush makes it durable; and behind a crash an opening in write-back shows it.
+pub fn a_block_can_be_passed_by<P, A>()
+    ensures { CanPassThrough P A }
 {}
 
 /// The definitions of the promise tell right answers from wrong ones: of a read, a write and an opening on a sector to which two contents
