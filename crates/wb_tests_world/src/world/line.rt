@@ -78,7 +78,7 @@ pub enum Line {
     Opened(u64, u32, u32),
 }
 
-/// What its lines say together, and they.
+/// What the lines say together, and the lines.
 pub type Row = (&'static str, &'static [Line]);
 
 pub const FIRST_SECTOR: Extent = Extent { first: 0, count: 1 };
