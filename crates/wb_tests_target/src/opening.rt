@@ -1,6 +1,6 @@
 //! Openings that are refused, and what they leave.
 
-use crate::fixture::{Asked, Lent, Memory, formatted, shows, worked, write_and_read};
+use crate::fixture::{Lent, Memory, formatted, shows, worked, write_and_read};
 use crate::questions::{Question, answered, answered_over, answered_under};
 use std::alloc::Global;
 use std::sync::Wait;
@@ -35,16 +35,13 @@ fn a_value_out_of_range_is_refused_before_the_root_is_written(rt: HostRuntime) -
     Ok(())
 }
 
-/// Whether it has the status line of a new target.
-pub fn tells_status(asked: &Asked<'_, impl Wait>) -> bool {
-    asked.tells(
-        "1 2/4 64 0/4 0 0 0 0 0 0 0 1 writeback 2 migration_threshold 2048 tinylfu 2 promote_min 2 rw -",
-    )
-}
+/// The status line of a new target.
+pub const NEW_LINE: &str =
+    "1 2/4 64 0/4 0 0 0 0 0 0 0 1 writeback 2 migration_threshold 2048 tinylfu 2 promote_min 2 rw -";
 
 #[test]
 fn a_status_line_tells_how_a_target_is(rt: HostRuntime) -> Result<(), Fail> {
-    assert!(rt; answered(&rt, rt.alloc(), Question::TellsStatus)?);
+    assert!(rt; answered(&rt, rt.alloc(), Question::Tells(NEW_LINE))?);
     Ok(())
 }
 

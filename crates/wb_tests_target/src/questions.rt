@@ -5,7 +5,7 @@ use crate::faults::{Rounds, shows_allowed};
 use crate::fixture::{Asked, Lent, Memory, client_of, formatted, open_with, shows, worked};
 use crate::messages::{goes_by_threshold, invalidates, is_in_another_mode, takes_settings};
 use crate::modes::{displaces, writes_durably, writes_through};
-use crate::opening::{caches_at_the_third, tells_status, was_opened};
+use crate::opening::{caches_at_the_third, was_opened};
 use crate::requests::{defers, refuses, settles_all, settles_alone};
 use crate::retiring::writes_twice;
 use crate::suspends::is_kept;
@@ -34,7 +34,8 @@ pub enum Question {
     CarriesOutAll,
     /// Whether a sector begins with this byte.
     Shows(u64, u8),
-    TellsStatus,
+    /// Whether this is its status line.
+    Tells(&'static str),
     /// Whether each of five sectors is shown as one of these rounds wrote it.
     ShowsAllowed(Rounds),
     /// Whether it was opened once.
@@ -140,7 +141,7 @@ fn answer(
         Question::CarriesOutAll => carries_out_all(rt, target, client),
         Question::Shows(at, byte) => shows(rt, client, at, byte),
         Question::ShowsAllowed(rounds) => shows_allowed(rt, client, rounds),
-        Question::TellsStatus => tells_status(&asked),
+        Question::Tells(line) => asked.tells(line),
         Question::WasOpened => was_opened(rt, target),
         Question::WritesTwice => writes_twice(client),
         Question::WritesThrough => writes_through(&asked, client),

@@ -1,7 +1,7 @@
 //! Suspends, and what the next opening finds.
 
 use crate::fixture::{Asked, Lent, Memory, client_of, formatted, open, shows};
-use crate::opening::tells_status;
+use crate::opening::NEW_LINE;
 use crate::questions::{Question, answered_over, done_by};
 use std::alloc::Global;
 use std::sync::Wait;
@@ -68,7 +68,7 @@ fn is_over(rt: &impl Wait, alloc: Global) -> Result<bool, Refusal> {
         alloc,
         target: &target,
     };
-    let told = tells_status(&asked);
+    let told = asked.tells(NEW_LINE);
     let refused = matches!(target.client(rt, devices), Err((_, Refusal::Failed)));
     Ok(first.is_ok() && again == Err(Refusal::Failed) && told && refused)
 }

@@ -11,6 +11,22 @@ use wb_policy::{Policy, TinyLfu};
 use wb_target::{Client, Errand, Sent, Target};
 use wb_types::{Refusal, SECTOR_BYTES, Sector};
 
+/// Whether errands by clients on threads of their own end, and tell these, in order.
+pub fn all_tell<R: Threads + Wait + Sync, D: Disk + Drop + Send, E: Errand + Send + Drop>(
+    rt: &R,
+    target: &Target<TinyLfu>,
+    errands: Vec<Sent<D, E>>,
+    wanted: &[E::Told],
+) -> Result<bool, AllocError>
+where
+    E::Told: PartialEq,
+{
+    let returned = target.together(rt, errands)?;
+    let mut pairs = wanted.iter().zip(&returned);
+    let told = pairs.all(|pair| matches!(&pair.1.told, Ok(told) if told == pair.0));
+    Ok(told && returned.len() == wanted.len())
+}
+
 /// Reads a sector so many times, and tells whether each was answered.
 #[derive(Drop)]
 struct Reads {
@@ -55,20 +71,10 @@ const READ: Names = ["read_m.img", "read_c.img", "read_o.img"];
 const READ_LINE: &str =
     "1 2/4 64 0/4 0 400 0 0 0 0 0 1 writeback 2 migration_threshold 2048 tinylfu 2 promote_min 2 rw -";
 
-/// Whether each of them was answered.
-fn all_read<R: Threads + Wait + Sync>(
-    rt: &R,
-    target: &Target<TinyLfu>,
-    errands: Vec<Sent<FileDisk, Reads>>,
-) -> Result<bool, AllocError> {
-    let returned = target.together(rt, errands)?;
-    Ok(returned.iter().all(|one| one.told == Ok(true)))
-}
-
 #[test]
 fn four_clients_read_one_sector(rt: HostRuntime) -> Result<(), Fail> {
     let target = target_over(&rt, &READ)?;
-    let read = all_read(&rt, &target, readers(&rt, &READ)?);
+    let read = all_tell(&rt, &target, readers(&rt, &READ)?, &[true; 4]);
     let asked = Asked {
         rt: &rt,
         alloc: rt.alloc(),
@@ -124,26 +130,13 @@ fn writers(rt: &HostRuntime, names: &Names) -> Result<Vec<Sent<FileDisk, Writes>
 
 const WRITTEN: Names = ["written_m.img", "written_c.img", "written_o.img"];
 
-/// Whether each of them read what it wrote.
-fn all_written<R: Threads + Wait + Sync>(
-    rt: &R,
-    target: &Target<TinyLfu>,
-    errands: Vec<Sent<FileDisk, Writes>>,
-) -> Result<bool, AllocError> {
-    let returned = target.together(rt, errands)?;
-    Ok(
-        returned.len() == 2
-            && WRITES
-                .iter()
-                .zip(&returned)
-                .all(|pair| pair.1.told == Ok(Some(pair.0.1))),
-    )
-}
+/// What each of them reads then.
+const READ_BACK: [Option<u8>; 2] = [Some(WRITES[0].1), Some(WRITES[1].1)];
 
 #[test]
 fn clients_read_what_they_wrote_each_in_its_place(rt: HostRuntime) -> Result<(), Fail> {
     let target = target_over(&rt, &WRITTEN)?;
-    let written = all_written(&rt, &target, writers(&rt, &WRITTEN)?);
+    let written = all_tell(&rt, &target, writers(&rt, &WRITTEN)?, &READ_BACK);
     let promotions = target.counts(&rt).promotions;
     drop(target);
     assert!(rt; promotions == 2 && written?);

@@ -2,13 +2,12 @@
 
 use crate::caching::order_replacement;
 use crate::files::{Images, Names, client_over, images, target_over};
+use crate::threads::all_tell;
 use crate::workers::{Holding, Signals, await_signal};
-use std::alloc::AllocError;
 use std::sync::Wait;
 use std::sync::atomic::{AtomicU64, Ordering};
 use std::test::Fail;
 use std::thread;
-use std::thread::Threads;
 use std::time::{Clock, Duration};
 use wb_devices::Devices;
 use wb_disk::{Disk, FileDisk};
@@ -110,23 +109,6 @@ fn all_three<'a>(
     Ok(sent)
 }
 
-/// Whether they end as they are to.
-fn end_so<R: Threads + Wait + Sync, C: Clock + Sync>(
-    rt: &R,
-    target: &Target<TinyLfu>,
-    errands: Vec<Sent<Failing, Beside<'_, C>>>,
-    wanted: &[Result<(), Refusal>; 3],
-) -> Result<bool, AllocError> {
-    let returned = target.together(rt, errands)?;
-    Ok(
-        returned.len() == 3
-            && wanted
-                .iter()
-                .zip(&returned)
-                .all(|pair| pair.1.told == Ok(*pair.0)),
-    )
-}
-
 /// Files, the call of the worker's cache that fails, if any, and how the three end: a flush waits for the commit that runs, and is told where
 /// that fails.
 const ROWS: [(Names, Option<u64>, [Result<(), Refusal>; 3]); 2] = [
@@ -150,7 +132,7 @@ fn a_flush_waits_for_the_commit_that_runs(rt: HostRuntime) -> Result<(), Fail> {
         let answered = AtomicU64::new(0);
         let ordered = order(&rt, &target, images(&rt, names)?);
         let errands = all_three(&rt, names, *call, &signals, &answered)?;
-        let ended = end_so(&rt, &target, errands, wanted);
+        let ended = all_tell(&rt, &target, errands, wanted);
         drop(target);
         assert!(rt; ordered? && ended?);
     }

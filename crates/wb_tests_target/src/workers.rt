@@ -3,12 +3,11 @@
 use crate::files::{Images, Names, client_over, images, target_over};
 use crate::fixture::{Asked, Lent, shows, worked, write_and_read};
 use crate::questions::{Question, answered};
-use std::alloc::AllocError;
+use crate::threads::all_tell;
 use std::sync::Wait;
 use std::sync::atomic::{AtomicU64, Ordering};
 use std::test::Fail;
 use std::thread;
-use std::thread::Threads;
 use std::time::{Clock, Duration};
 use wb_disk::{Disk, FileDisk};
 use wb_policy::{Order, Policy, TinyLfu};
@@ -212,16 +211,6 @@ fn both<'a>(
     Ok(both)
 }
 
-/// Whether a worker that stands before its steps, and a client beside it, both end as they are to.
-fn both_end<R: Threads + Wait + Sync, C: Clock + Sync>(
-    rt: &R,
-    target: &Target<TinyLfu>,
-    errands: Vec<Sent<FileDisk, Beside<'_, C>>>,
-) -> Result<bool, AllocError> {
-    let returned = target.together(rt, errands)?;
-    Ok(returned.iter().all(|one| one.told == Ok(true)))
-}
-
 /// Whether a client shows block 3 as it was written.
 fn shows_third(rt: &impl Wait, target: &Target<TinyLfu>, images: Images) -> Result<bool, Refusal> {
     let mut client = client_over(rt, target, images)?;
@@ -237,7 +226,7 @@ fn a_worker_that_a_gate_holds_keeps_its_block_alone(rt: HostRuntime) -> Result<(
     let target = target_over(&rt, &HELD)?;
     let signals = Signals::new();
     let ordered = order_third(&rt, &target, images(&rt, &HELD)?);
-    let ended = both_end(&rt, &target, both(&rt, &signals)?);
+    let ended = all_tell(&rt, &target, both(&rt, &signals)?, &[true, true]);
     let shown = shows_third(&rt, &target, images(&rt, &HELD)?);
     let asked = Asked {
         rt: &rt,

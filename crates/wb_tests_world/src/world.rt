@@ -14,13 +14,16 @@ mod views;
 
 use self::demotions::DEMOTIONS;
 use self::flushes::FLUSHES;
-use self::line::{Act, FIRST_SECTOR, Line, OPENING, READING, Row, Task, WRITING};
+use self::line::{
+    Act, FIRST_SECTOR, LOOK_FAIL, LOOK_LOCK, LOOK_NUMBER, LOOK_SEAL, Line, OPEN, OPENING, OWN,
+    READING, Row, Task, WRITING,
+};
 use self::openings::{CRASHES, FAILURES, OPENINGS, ROOTS};
 use self::passthrough::PASSTHROUGH;
 use self::promotions::PROMOTIONS;
 use self::replacements::REPLACEMENTS;
 use self::requests::{FAILED_REQUESTS, REQUESTS, WRITE_AND_READ, WRITTEN_AND_GIVEN};
-use self::runs::ran;
+use self::runs::{FLUSHING, ran};
 use self::suspends::SUSPENDS;
 use self::views::VIEWS;
 use std::alloc::Global;
@@ -116,14 +119,38 @@ fn does(world: &mut World, event: Event, what: What) -> bool {
     world.event(event).is_ok() && last(world) == what
 }
 
-/// Whether an actor's next steps are these, with these results.
+/// Whether an actor's next step is this, with this result.
+fn stepped(world: &mut World, actor: usize, want: Want, got: Got) -> bool {
+    does(world, Event::Step(actor), What::Stepped(want, got))
+}
+
+/// Whether its next steps are these, with these results.
 fn steps(world: &mut World, actor: usize, wants: &[(Want, Got)]) -> bool {
     for (want, got) in wants {
-        if !does(world, Event::Step(actor), What::Stepped(*want, *got)) {
+        if !stepped(world, actor, *want, *got) {
             return false;
         }
     }
     true
+}
+
+/// Whether its next steps look at words, and see these numbers.
+fn sees(world: &mut World, actor: usize, words: &[(Want, u64)]) -> bool {
+    words.iter().all(|(want, number)| stepped(world, actor, *want, Got::Word(*number)))
+}
+
+/// Whether its next steps are these, and each is done.
+fn takes(world: &mut World, actor: usize, wants: &[Want]) -> bool {
+    wants
+        .iter()
+        .all(|want| stepped(world, actor, *want, Got::Done))
+}
+
+/// Whether its next steps own the first block, which is free, and see this seal and this number of it.
+fn owns(world: &mut World, actor: usize, seal: u64, number: u64) -> bool {
+    sees(world, actor, &[(LOOK_FAIL, 0), (LOOK_LOCK, 0)])
+        && takes(world, actor, &[OWN])
+        && sees(world, actor, &[(LOOK_SEAL, seal), (LOOK_NUMBER, number)])
 }
 
 /// Whether these contents are one, and each byte of it this one.
@@ -150,6 +177,11 @@ fn shows(world: &mut World, at: u64, byte: u8) -> bool {
     }
 }
 
+/// Whether it shows each of these so.
+fn shows_all(world: &mut World, sectors: &[(u64, u8)]) -> bool {
+    sectors.iter().all(|(at, byte)| shows(world, *at, *byte))
+}
+
 /// A write of this byte.
 fn write(sectors: Extent, byte: u8) -> Job {
     Job::Write(sectors, [byte; SECTOR_BYTES])
@@ -160,6 +192,7 @@ fn job_of(task: Task) -> Job {
         Task::Open => Job::Open(Mode::Writeback),
         Task::Read => Job::Read(FIRST_SECTOR),
         Task::Write => write(FIRST_SECTOR, 7),
+        Task::Flush => Job::Flush,
     }
 }
 
@@ -169,6 +202,7 @@ fn steps_of(task: Task) -> &'static [(Want, Got)] {
         Task::Open => &OPENING,
         Task::Read => &READING,
         Task::Write => &WRITING,
+        Task::Flush => &FLUSHING,
     }
 }
 
@@ -190,7 +224,10 @@ fn begins(world: &mut World, actor: usize, task: Task, count: usize) -> bool {
 const MOST_STEPS: usize = 200;
 
 /// Whether a task starts, and its actor's steps lead to an answer that says done.
-fn finishes(world: &mut World, event: Event, actor: usize) -> bool {
+fn finishes(world: &mut World, event: Event) -> bool {
+    let Event::Start(actor, _) = event else {
+        return false;
+    };
     if !does(world, event, What::Started) {
         return false;
     }
@@ -205,6 +242,23 @@ fn finishes(world: &mut World, event: Event, actor: usize) -> bool {
     false
 }
 
+/// Whether these do, one after the other.
+fn all_finish(world: &mut World, alloc: Global, acts: &[Act]) -> Result<bool, Refusal> {
+    for act in acts {
+        let event = event_of(alloc, *act)?;
+        if !finishes(world, event) {
+            return Ok(false);
+        }
+    }
+    Ok(true)
+}
+
+/// Whether this stops all, and actor 0 then opens the target.
+fn opens_after(world: &mut World, alloc: Global, crash: Act) -> Result<bool, Refusal> {
+    let event = event_of(alloc, crash)?;
+    Ok(does(world, event, What::Stopped) && all_finish(world, alloc, &[OPEN])?)
+}
+
 /// Whether a line goes as it says.
 fn goes(world: &mut World, alloc: Global, line: &Line) -> Result<bool, Refusal> {
     match line {
@@ -214,12 +268,13 @@ fn goes(world: &mut World, alloc: Global, line: &Line) -> Result<bool, Refusal> 
         }
         Line::Begins(actor, task, count) => Ok(begins(world, *actor, *task, *count)),
         Line::Steps(actor, task, count) => Ok(steps_as(world, *actor, *task, *count)),
-        Line::Finishes(act, actor) => {
-            let event = event_of(alloc, *act)?;
-            Ok(finishes(world, event, *actor))
-        }
+        Line::Sees(actor, words) => Ok(sees(world, *actor, words)),
+        Line::Takes(actor, wants) => Ok(takes(world, *actor, wants)),
+        Line::Owns(actor, seal, number) => Ok(owns(world, *actor, *seal, *number)),
+        Line::Finishes(acts) => all_finish(world, alloc, acts),
+        Line::OpensAfter(crash) => opens_after(world, alloc, *crash),
         Line::Gives(byte) => Ok(has_read(world, *byte)),
-        Line::Shows(at, byte) => Ok(shows(world, *at, *byte)),
+        Line::Shows(sectors) => Ok(shows_all(world, sectors)),
         Line::Hides(at) => Ok(world.view(*at).is_none()),
         Line::Opened(generation, mapped, dirty) => {
             Ok(world.opened() == Some((*generation, *mapped, *dirty)))
@@ -245,9 +300,9 @@ fn play(alloc: Global, lines: &[Line]) -> Result<Option<usize>, Refusal> {
 
 /// Plays each row, and fails by the name of one that does not go as it says.
 fn compare(alloc: Global, rows: &[Row]) -> Result<(), Fail> {
-    for row in rows {
-        if play(alloc, row.lines)? != None {
-            return Err(Fail::from(row.name));
+    for (name, lines) in rows {
+        if play(alloc, lines)? != None {
+            return Err(Fail::from(*name));
         }
     }
     Ok(())

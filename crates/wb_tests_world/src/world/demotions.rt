@@ -1,80 +1,61 @@
 //! Blocks that leave the cache, or are written back: what the cache and the origin show of them.
 
-use super::line::{Act, Line, Row};
+use super::line::{Act, BLOCK, BOTH_SECTORS, DEMOTE, FLUSH, Line, OPEN, PROMOTE, Row};
 use wb_promise::What;
-use wb_types::{CBlock, Extent, Mode, OBlock, Refusal};
-
-const BOTH_SECTORS: Extent = Extent { first: 0, count: 2 };
-
-const FIRST_BLOCK: OBlock = OBlock(0);
-
-const OPENED: Line = Line::Finishes(Act::Open(0, Mode::Writeback), 0);
-
-const PROMOTED: Line = Line::Finishes(Act::Promote(0, FIRST_BLOCK, CBlock(0)), 0);
+use wb_types::{CBlock, OBlock, Refusal};
 
 /// Behind a promotion this is written to the cache.
-const WRITTEN: Line = Line::Finishes(Act::WriteOf(0, BOTH_SECTORS, 0x22), 0);
+const WRITE: Act = Act::WriteOf(0, BOTH_SECTORS, 0x22);
 
-const DEMOTED: Line = Line::Finishes(Act::Demote(0, FIRST_BLOCK), 0);
+/// That is shown, and nothing behind it.
+const WRITTEN: Line = Line::Shows(&[(0, 0x22), (1, 0x22), (2, 0)]);
 
-const CLEANED: Line = Line::Finishes(Act::Clean(0, FIRST_BLOCK), 0);
-
-const FLUSHED: Line = Line::Finishes(Act::Flush(0), 0);
+const CLEAN: Act = Act::Clean(0, BLOCK);
 
 pub const DEMOTIONS: [Row; 4] = [
-    Row {
-        name: "a demoted block is shown from the origin, with what was written to the cache",
-        lines: &[
-            OPENED,
-            PROMOTED,
-            WRITTEN,
+    (
+        "a demoted block is shown from the origin, with what was written to the cache",
+        &[
+            Line::Finishes(&[OPEN, PROMOTE, WRITE]),
             Line::Opened(1, 1, 1),
-            DEMOTED,
+            Line::Finishes(&[DEMOTE]),
             Line::Opened(1, 0, 0),
-            Line::Shows(0, 0x22),
-            Line::Shows(1, 0x22),
-            Line::Shows(2, 0),
+            WRITTEN,
         ],
-    },
-    Row {
-        name: "a block that was written back stays where it is, and is dirty no longer",
-        lines: &[
-            OPENED,
-            PROMOTED,
-            WRITTEN,
-            CLEANED,
+    ),
+    (
+        "a block that was written back stays where it is, and is dirty no longer",
+        &[
+            Line::Finishes(&[OPEN, PROMOTE, WRITE, CLEAN]),
             Line::Opened(1, 1, 0),
-            Line::Shows(0, 0x22),
             WRITTEN,
+            Line::Finishes(&[WRITE]),
             Line::Opened(1, 1, 1),
         ],
-    },
-    Row {
-        name: "a cache block takes a block again after a flush that began once its own had left",
-        lines: &[
-            OPENED,
-            PROMOTED,
-            DEMOTED,
+    ),
+    (
+        "a cache block takes a block again after a flush that began once its own had left",
+        &[
+            Line::Finishes(&[OPEN, PROMOTE, DEMOTE]),
             Line::Does(
                 Act::Promote(0, OBlock(1), CBlock(0)),
                 What::Refused(Refusal::Busy),
             ),
-            FLUSHED,
-            Line::Finishes(Act::Promote(0, OBlock(1), CBlock(0)), 0),
+            Line::Finishes(&[FLUSH, Act::Promote(0, OBlock(1), CBlock(0))]),
             Line::Opened(2, 1, 0),
         ],
-    },
-    Row {
-        name: "a block that is nowhere is neither demoted nor written back, and one has one order at a time",
-        lines: &[
-            OPENED,
-            Line::Does(Act::Demote(0, FIRST_BLOCK), What::Refused(Refusal::Busy)),
-            Line::Does(Act::Clean(0, FIRST_BLOCK), What::Refused(Refusal::Busy)),
-            PROMOTED,
-            Line::Does(Act::Demote(0, FIRST_BLOCK), What::Started),
-            Line::Does(Act::Clean(1, FIRST_BLOCK), What::Refused(Refusal::Busy)),
-            Line::Does(Act::Demote(1, FIRST_BLOCK), What::Refused(Refusal::Busy)),
+    ),
+    (
+        "a block that is nowhere is neither demoted nor written back, and one has one order at a time",
+        &[
+            Line::Finishes(&[OPEN]),
+            Line::Does(DEMOTE, What::Refused(Refusal::Busy)),
+            Line::Does(CLEAN, What::Refused(Refusal::Busy)),
+            Line::Finishes(&[PROMOTE]),
+            Line::Does(DEMOTE, What::Started),
+            Line::Does(Act::Clean(1, BLOCK), What::Refused(Refusal::Busy)),
+            Line::Does(Act::Demote(1, BLOCK), What::Refused(Refusal::Busy)),
             Line::Opened(1, 1, 0),
         ],
-    },
+    ),
 ];

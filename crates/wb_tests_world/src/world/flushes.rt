@@ -1,90 +1,59 @@
 //! Flushes over a target that was opened by actor 0.
 
 use super::line::{
-    Act, BEGIN, CACHE, DONE, END, FIRST_READ, LOOK_FAIL, Line, METADATA, ORIGIN, ROOT, Row,
-    SECOND_READ, Task,
+    Act, BEGIN, BUSY, CACHE, FAILED, LOOK_FAIL, Line, ORIGIN, ORIGIN_FAILED, Row, SET_FAILED, Task,
 };
 use wb_disk::Base;
 use wb_promise::What;
-use wb_tasks::{Answer, CellStep, Got, Want};
-use wb_types::{Dev, Mode, Refusal};
-
-const SET_FAILED: Want = Want::Cell(CellStep::SetFailed);
-
-const BUSY: Want = Want::End(Answer::Refused(Refusal::Busy));
-
-const FAILED: Want = Want::End(Answer::Refused(Refusal::Failed));
-
-const ORIGIN_FAILED: Want = Want::End(Answer::Refused(Refusal::Io(Dev::Origin)));
+use wb_tasks::Got;
+use wb_types::Refusal;
 
 /// Nothing is mapped, so no image has a node.
 pub const FLUSHES: [Row; 4] = [
-    Row {
-        name: "a flush syncs cache and origin, writes a root and ends its commit",
-        lines: &[
+    (
+        "a flush syncs cache and origin, writes a root and ends its commit",
+        &[
             Line::Begins(0, Task::Open, 8),
-            Line::Does(Act::Flush(1), What::Started),
-            Line::Does(Act::Step(1), What::Stepped(LOOK_FAIL, Got::Word(0))),
-            Line::Does(Act::Step(1), What::Stepped(BEGIN, Got::Began(0))),
-            Line::Does(Act::Step(1), What::Stepped(CACHE, Got::Done)),
-            Line::Does(Act::Step(1), What::Stepped(ORIGIN, Got::Done)),
-            Line::Does(Act::Step(1), What::Stepped(METADATA, Got::Done)),
-            Line::Does(Act::Step(1), What::Stepped(ROOT, Got::Done)),
-            Line::Does(Act::Step(1), What::Stepped(METADATA, Got::Done)),
-            Line::Does(Act::Step(1), What::Stepped(END, Got::Done)),
-            Line::Does(Act::Step(1), What::Stepped(DONE, Got::Done)),
+            Line::Begins(1, Task::Flush, 9),
         ],
-    },
-    Row {
-        name: "a flush is refused as busy while another's commit runs",
-        lines: &[
+    ),
+    (
+        "a flush is refused as busy while another's commit runs",
+        &[
             Line::Begins(0, Task::Open, 8),
-            Line::Does(Act::Flush(1), What::Started),
-            Line::Does(Act::Step(1), What::Stepped(LOOK_FAIL, Got::Word(0))),
-            Line::Does(Act::Step(1), What::Stepped(BEGIN, Got::Began(0))),
-            Line::Does(Act::Flush(2), What::Started),
-            Line::Does(Act::Step(2), What::Stepped(LOOK_FAIL, Got::Word(0))),
+            Line::Begins(1, Task::Flush, 2),
+            Line::Begins(2, Task::Flush, 1),
             Line::Does(
                 Act::Step(2),
                 What::Stepped(BEGIN, Got::Refused(Refusal::Busy)),
             ),
-            Line::Does(Act::Step(2), What::Stepped(BUSY, Got::Done)),
-            Line::Does(Act::Step(1), What::Stepped(CACHE, Got::Done)),
+            Line::Takes(2, &[BUSY]),
+            Line::Takes(1, &[CACHE]),
         ],
-    },
-    Row {
-        name: "a flush whose sync fails sets the failed bit, and the next one finds it",
-        lines: &[
+    ),
+    (
+        "a flush whose sync fails sets the failed bit, and the next one finds it",
+        &[
             Line::Begins(0, Task::Open, 8),
-            Line::Does(Act::Flush(1), What::Started),
-            Line::Does(Act::Step(1), What::Stepped(LOOK_FAIL, Got::Word(0))),
-            Line::Does(Act::Step(1), What::Stepped(BEGIN, Got::Began(0))),
-            Line::Does(Act::Step(1), What::Stepped(CACHE, Got::Done)),
+            Line::Begins(1, Task::Flush, 3),
             Line::Does(
                 Act::Fault(1, Base::Durable),
                 What::Stepped(ORIGIN, Got::Fault),
             ),
-            Line::Does(Act::Step(1), What::Stepped(SET_FAILED, Got::Done)),
-            Line::Does(Act::Step(1), What::Stepped(ORIGIN_FAILED, Got::Done)),
+            Line::Takes(1, &[SET_FAILED, ORIGIN_FAILED]),
             Line::Does(Act::Flush(2), What::Started),
-            Line::Does(Act::Step(2), What::Stepped(LOOK_FAIL, Got::Word(1))),
-            Line::Does(Act::Step(2), What::Stepped(FAILED, Got::Done)),
+            Line::Sees(2, &[(LOOK_FAIL, 1)]),
+            Line::Takes(2, &[FAILED]),
         ],
-    },
-    Row {
-        name: "a crash ends a flush, and what it had begun is opened again",
-        lines: &[
+    ),
+    (
+        "a crash ends a flush, and what it had begun is opened again",
+        &[
             Line::Begins(0, Task::Open, 8),
-            Line::Does(Act::Flush(1), What::Started),
-            Line::Does(Act::Step(1), What::Stepped(LOOK_FAIL, Got::Word(0))),
+            Line::Begins(1, Task::Flush, 1),
             Line::Does(Act::Crash, What::Stopped),
             Line::Does(Act::Step(1), What::Skipped),
-            Line::Does(Act::Open(1, Mode::Writeback), What::Started),
-            Line::Does(Act::Step(1), What::Stepped(METADATA, Got::Done)),
-            Line::Does(Act::Step(1), What::Stepped(CACHE, Got::Done)),
-            Line::Does(Act::Step(1), What::Stepped(ORIGIN, Got::Done)),
-            Line::Does(Act::Step(1), What::Stepped(FIRST_READ, Got::More)),
-            Line::Does(Act::Step(1), What::Stepped(SECOND_READ, Got::Done)),
+            Line::Begins(1, Task::Open, 5),
         ],
-    },
+    ),
 ];

@@ -3,7 +3,7 @@
 use wb_disk::Base;
 use wb_promise::What;
 use wb_tasks::{Answer, CellStep, DeskStep, DeviceStep, Got, Want};
-use wb_types::{CBlock, Dev, Extent, Mode, OBlock};
+use wb_types::{CBlock, Dev, Extent, Mode, OBlock, Refusal};
 use wb_words::{Access, Kind, Word};
 
 /// What is to happen.
@@ -40,13 +40,14 @@ pub enum Act {
     CrashButOf(Dev, u64, u64),
 }
 
-/// A task whose steps are listed: an opening over what was formatted in write-back mode, and a read and a write of the first
-/// sector over words that nobody has changed.
+/// A task whose steps are listed: an opening over what was formatted in write-back mode, a read and a write of the first sector
+/// over words that nobody has changed, and a flush where nothing is mapped.
 #[derive(Clone, Copy)]
 pub enum Task {
     Open,
     Read,
     Write,
+    Flush,
 }
 
 #[derive(Clone, Copy)]
@@ -57,29 +58,51 @@ pub enum Line {
     Begins(usize, Task, usize),
     /// Its next steps are those.
     Steps(usize, Task, usize),
-    /// This starts, and this actor's steps then lead to an answer that says done.
-    Finishes(Act, usize),
+    /// An actor's next steps look at words, and see these numbers.
+    Sees(usize, &'static [(Want, u64)]),
+    /// Its next steps are these, and each is done.
+    Takes(usize, &'static [Want]),
+    /// Its next steps own the first block, which is free, and see this seal and this number of it.
+    Owns(usize, u64, u64),
+    /// These start one after the other, and the steps of each lead to an answer that says done.
+    Finishes(&'static [Act]),
+    /// This stops all, and an opening in write-back mode by actor 0 then leads to an answer that says done.
+    OpensAfter(Act),
     /// The last step read one sector full of this byte.
     Gives(u8),
-    /// The target shows this sector full of this byte.
-    Shows(u64, u8),
+    /// The target shows each of these sectors full of its byte.
+    Shows(&'static [(u64, u8)]),
     /// Nothing shows this sector.
     Hides(u64),
     /// The target's newest root is of this generation, so many blocks are mapped, and so many of these are dirty.
     Opened(u64, u32, u32),
 }
 
-#[derive(Clone, Copy)]
-pub struct Row {
-    pub name: &'static str,
-    pub lines: &'static [Line],
-}
+/// What the lines say together, and the lines.
+pub type Row = (&'static str, &'static [Line]);
 
 pub const FIRST_SECTOR: Extent = Extent { first: 0, count: 1 };
 
 pub const SECOND_SECTOR: Extent = Extent { first: 1, count: 1 };
 
+pub const BOTH_SECTORS: Extent = Extent { first: 0, count: 2 };
+
 pub const BLOCK: OBlock = OBlock(0);
+
+/// What actor 0 does, with the first block and the first cache block.
+pub const OPEN: Act = Act::Open(0, Mode::Writeback);
+
+pub const OPEN_THROUGH: Act = Act::Open(0, Mode::Writethrough);
+
+pub const PASS: Act = Act::Open(0, Mode::Passthrough);
+
+pub const PROMOTE: Act = Act::Promote(0, BLOCK, CBlock(0));
+
+pub const DEMOTE: Act = Act::Demote(0, BLOCK);
+
+pub const FLUSH: Act = Act::Flush(0);
+
+pub const SUSPEND: Act = Act::Suspend(0);
 
 pub const METADATA: Want = Want::Device(DeviceStep::Sync(Dev::Metadata));
 
@@ -95,6 +118,16 @@ pub const SECOND_READ: Want = Want::Device(DeviceStep::ReadMetadata(3));
 pub const ROOT: Want = Want::Device(DeviceStep::WriteRoot);
 
 pub const DONE: Want = Want::End(Answer::Done);
+
+pub const BUSY: Want = Want::End(Answer::Refused(Refusal::Busy));
+
+pub const FAILED: Want = Want::End(Answer::Refused(Refusal::Failed));
+
+pub const CACHE_FAILED: Want = Want::End(Answer::Refused(Refusal::Io(Dev::Cache)));
+
+pub const ORIGIN_FAILED: Want = Want::End(Answer::Refused(Refusal::Io(Dev::Origin)));
+
+pub const SET_FAILED: Want = Want::Cell(CellStep::SetFailed);
 
 pub const LOOK_FAIL: Want = Want::Cell(CellStep::Look(Word::Fail));
 

@@ -1,8 +1,8 @@
 //! Openings, and what they answer.
 
 use super::line::{
-    Act, CACHE, DONE, FIRST_READ, FIRST_SECTOR, Line, METADATA, ORIGIN, ROOT, Row, SECOND_READ,
-    Task,
+    Act, CACHE, CACHE_FAILED, DONE, FIRST_READ, FIRST_SECTOR, Line, METADATA, ORIGIN, ROOT, Row,
+    SECOND_READ, Task,
 };
 use wb_disk::Base;
 use wb_promise::What;
@@ -11,13 +11,11 @@ use wb_types::{Dev, Mode, Refusal};
 
 const METADATA_FAILED: Want = Want::End(Answer::Refused(Refusal::Io(Dev::Metadata)));
 
-const CACHE_FAILED: Want = Want::End(Answer::Refused(Refusal::Io(Dev::Cache)));
-
 /// Openings of which no step fails.
 pub const OPENINGS: [Row; 6] = [
-    Row {
-        name: "without a target only an opening starts, in any mode",
-        lines: &[
+    (
+        "without a target only an opening starts, in any mode",
+        &[
             Line::Does(Act::Read(0, FIRST_SECTOR), What::Skipped),
             Line::Does(Act::Flush(0), What::Skipped),
             Line::Does(Act::Open(64, Mode::Writeback), What::Skipped),
@@ -25,43 +23,42 @@ pub const OPENINGS: [Row; 6] = [
             Line::Does(Act::Open(0, Mode::Passthrough), What::Started),
             Line::Does(Act::Open(0, Mode::Writeback), What::Skipped),
         ],
-    },
-    Row {
-        name: "an opening syncs the metadata, the cache and the origin",
-        lines: &[
+    ),
+    (
+        "an opening syncs the metadata, the cache and the origin",
+        &[
             Line::Begins(3, Task::Open, 1),
             Line::Does(Act::Step(2), What::Skipped),
-            Line::Does(Act::Step(3), What::Stepped(CACHE, Got::Done)),
-            Line::Does(Act::Step(3), What::Stepped(ORIGIN, Got::Done)),
+            Line::Takes(3, &[CACHE, ORIGIN]),
         ],
-    },
-    Row {
-        name: "an opening reads both slots of metadata that were formatted",
-        lines: &[
+    ),
+    (
+        "an opening reads both slots of metadata that were formatted",
+        &[
             Line::Begins(0, Task::Open, 5),
             Line::Does(Act::Crash, What::Stopped),
             Line::Does(Act::Step(0), What::Skipped),
         ],
-    },
-    Row {
-        name: "an opening writes its root into the other slot, and makes it durable",
-        lines: &[
+    ),
+    (
+        "an opening writes its root into the other slot, and makes it durable",
+        &[
             Line::Begins(0, Task::Open, 5),
             Line::Does(Act::CrashOf(Dev::Metadata, 1, 1), What::Skipped),
-            Line::Does(Act::Step(0), What::Stepped(ROOT, Got::Done)),
+            Line::Takes(0, &[ROOT]),
             Line::Does(Act::Step(1), What::Skipped),
-            Line::Does(Act::Step(0), What::Stepped(METADATA, Got::Done)),
+            Line::Takes(0, &[METADATA]),
             Line::Does(Act::CrashOf(Dev::Metadata, 1, 1), What::Skipped),
             Line::Does(Act::CrashOf(Dev::Metadata, 1, 0), What::Stopped),
             Line::Does(Act::Step(0), What::Skipped),
         ],
-    },
-    Row {
-        name: "an opening is answered done, and no other starts over its target",
-        lines: &[
+    ),
+    (
+        "an opening is answered done, and no other starts over its target",
+        &[
             Line::Begins(5, Task::Open, 7),
             Line::Does(Act::Fault(5, Base::Newest), What::Skipped),
-            Line::Does(Act::Step(5), What::Stepped(DONE, Got::Done)),
+            Line::Takes(5, &[DONE]),
             Line::Does(Act::Step(5), What::Skipped),
             Line::Does(Act::Fault(5, Base::Newest), What::Skipped),
             Line::Does(Act::Open(5, Mode::Writeback), What::Skipped),
@@ -69,67 +66,67 @@ pub const OPENINGS: [Row; 6] = [
             Line::Does(Act::Flush(64), What::Skipped),
             Line::Does(Act::CrashOf(Dev::Metadata, 1, 1), What::Skipped),
         ],
-    },
-    Row {
-        name: "an opening gives up the one that was at work",
-        lines: &[
+    ),
+    (
+        "an opening gives up the one that was at work",
+        &[
             Line::Begins(0, Task::Open, 1),
             Line::Does(Act::Open(1, Mode::Writeback), What::Started),
             Line::Does(Act::Step(0), What::Skipped),
             Line::Steps(1, Task::Open, 1),
         ],
-    },
+    ),
 ];
 
 /// Openings of which a sync or a read fails.
 pub const FAILURES: [Row; 5] = [
-    Row {
-        name: "a sync that fails refuses the opening, and another may begin",
-        lines: &[
+    (
+        "a sync that fails refuses the opening, and another may begin",
+        &[
             Line::Begins(0, Task::Open, 1),
             Line::Does(
                 Act::Fault(0, Base::Durable),
                 What::Stepped(CACHE, Got::Fault),
             ),
             Line::Does(Act::Fault(0, Base::Durable), What::Skipped),
-            Line::Does(Act::Step(0), What::Stepped(CACHE_FAILED, Got::Done)),
+            Line::Takes(0, &[CACHE_FAILED]),
             Line::Does(Act::Step(0), What::Skipped),
             Line::Does(Act::Open(0, Mode::Writeback), What::Started),
             Line::Does(
                 Act::Fault(0, Base::Newest),
                 What::Stepped(METADATA, Got::Fault),
             ),
-            Line::Does(Act::Step(0), What::Stepped(METADATA_FAILED, Got::Done)),
+            Line::Takes(0, &[METADATA_FAILED]),
         ],
-    },
-    Row {
-        name: "a read of metadata that fails refuses the opening",
-        lines: &[
+    ),
+    (
+        "a read of metadata that fails refuses the opening",
+        &[
             Line::Begins(0, Task::Open, 3),
             Line::Does(
                 Act::Fault(0, Base::Newest),
                 What::Stepped(FIRST_READ, Got::Fault),
             ),
             Line::Does(Act::Fault(0, Base::Newest), What::Skipped),
-            Line::Does(Act::Step(0), What::Stepped(METADATA_FAILED, Got::Done)),
+            Line::Takes(0, &[METADATA_FAILED]),
             Line::Does(Act::Step(0), What::Skipped),
             Line::Does(Act::Open(1, Mode::Writeback), What::Started),
         ],
-    },
-    Row {
-        name: "a read that fails behind one that was done refuses the opening",
-        lines: &[
+    ),
+    (
+        "a read that fails behind one that was done refuses the opening",
+        &[
             Line::Begins(0, Task::Open, 4),
             Line::Does(
                 Act::Fault(0, Base::Durable),
                 What::Stepped(SECOND_READ, Got::Fault),
             ),
-            Line::Does(Act::Step(0), What::Stepped(METADATA_FAILED, Got::Done)),
+            Line::Takes(0, &[METADATA_FAILED]),
         ],
-    },
-    Row {
-        name: "a failing read names sectors of the metadata, with 0 or 1",
-        lines: &[
+    ),
+    (
+        "a failing read names sectors of the metadata, with 0 or 1",
+        &[
             Line::Begins(0, Task::Open, 3),
             Line::Does(Act::FaultOf(0, Dev::Cache, 0, 1), What::Skipped),
             Line::Does(Act::FaultOf(0, Dev::Metadata, 4, 1), What::Skipped),
@@ -138,12 +135,12 @@ pub const FAILURES: [Row; 5] = [
                 Act::FaultOf(0, Dev::Metadata, 3, 0),
                 What::Stepped(FIRST_READ, Got::Fault),
             ),
-            Line::Does(Act::Step(0), What::Stepped(METADATA_FAILED, Got::Done)),
+            Line::Takes(0, &[METADATA_FAILED]),
         ],
-    },
-    Row {
-        name: "a failing sync names sectors of its own device, with 0 or 1",
-        lines: &[
+    ),
+    (
+        "a failing sync names sectors of its own device, with 0 or 1",
+        &[
             Line::Does(Act::Open(0, Mode::Writeback), What::Started),
             Line::Does(Act::FaultOf(0, Dev::Cache, 0, 1), What::Skipped),
             Line::Does(Act::FaultOf(0, Dev::Metadata, 4, 1), What::Skipped),
@@ -153,28 +150,28 @@ pub const FAILURES: [Row; 5] = [
                 What::Stepped(METADATA, Got::Fault),
             ),
         ],
-    },
+    ),
 ];
 
 /// Openings whose root fails.
 pub const ROOTS: [Row; 3] = [
-    Row {
-        name: "a write of the root that fails has landed where it is said",
-        lines: &[
+    (
+        "a write of the root that fails has landed where it is said",
+        &[
             Line::Begins(0, Task::Open, 5),
             Line::Does(
                 Act::FaultOf(0, Dev::Metadata, 1, 1),
                 What::Stepped(ROOT, Got::Fault),
             ),
             Line::Does(Act::CrashOf(Dev::Metadata, 1, 2), What::Skipped),
-            Line::Does(Act::Step(0), What::Stepped(METADATA_FAILED, Got::Done)),
+            Line::Takes(0, &[METADATA_FAILED]),
             Line::Does(Act::Step(0), What::Skipped),
             Line::Does(Act::CrashOf(Dev::Metadata, 1, 1), What::Stopped),
         ],
-    },
-    Row {
-        name: "a write of the root that fails has not landed where it is said",
-        lines: &[
+    ),
+    (
+        "a write of the root that fails has not landed where it is said",
+        &[
             Line::Begins(0, Task::Open, 5),
             Line::Does(Act::FaultOf(0, Dev::Cache, 1, 0), What::Skipped),
             Line::Does(
@@ -182,64 +179,62 @@ pub const ROOTS: [Row; 3] = [
                 What::Stepped(ROOT, Got::Fault),
             ),
             Line::Does(Act::CrashOf(Dev::Metadata, 1, 1), What::Skipped),
-            Line::Does(Act::Step(0), What::Stepped(METADATA_FAILED, Got::Done)),
+            Line::Takes(0, &[METADATA_FAILED]),
         ],
-    },
-    Row {
-        name: "a sync of the root that fails refuses the opening, whose root a crash may keep",
-        lines: &[
+    ),
+    (
+        "a sync of the root that fails refuses the opening, whose root a crash may keep",
+        &[
             Line::Begins(0, Task::Open, 6),
             Line::Does(
                 Act::Fault(0, Base::Durable),
                 What::Stepped(METADATA, Got::Fault),
             ),
-            Line::Does(Act::Step(0), What::Stepped(METADATA_FAILED, Got::Done)),
+            Line::Takes(0, &[METADATA_FAILED]),
             Line::Does(Act::CrashOf(Dev::Metadata, 1, 1), What::Stopped),
             Line::Does(Act::Open(0, Mode::Writeback), What::Started),
         ],
-    },
+    ),
 ];
 
 /// Openings before and after a crash.
 pub const CRASHES: [Row; 4] = [
-    Row {
-        name: "a crash ends the target, and the next opening is answered done over its root",
-        lines: &[
+    (
+        "a crash ends the target, and the next opening is answered done over its root",
+        &[
             Line::Begins(0, Task::Open, 8),
             Line::Does(Act::Crash, What::Stopped),
             Line::Does(Act::Flush(0), What::Skipped),
             Line::Begins(63, Task::Open, 5),
             Line::Does(Act::CrashOf(Dev::Metadata, 0, 1), What::Skipped),
-            Line::Does(Act::Step(63), What::Stepped(ROOT, Got::Done)),
-            Line::Does(Act::Step(63), What::Stepped(METADATA, Got::Done)),
-            Line::Does(Act::Step(63), What::Stepped(DONE, Got::Done)),
+            Line::Takes(63, &[ROOT, METADATA, DONE]),
         ],
-    },
-    Row {
-        name: "a root that a crash has kept is the one over which the next opening writes",
-        lines: &[
+    ),
+    (
+        "a root that a crash has kept is the one over which the next opening writes",
+        &[
             Line::Begins(0, Task::Open, 6),
             Line::Does(Act::CrashOf(Dev::Metadata, 1, 1), What::Stopped),
             Line::Begins(0, Task::Open, 5),
             Line::Does(Act::CrashOf(Dev::Metadata, 0, 1), What::Skipped),
-            Line::Does(Act::Step(0), What::Stepped(ROOT, Got::Done)),
+            Line::Takes(0, &[ROOT]),
             Line::Does(Act::CrashOf(Dev::Metadata, 0, 1), What::Stopped),
         ],
-    },
-    Row {
-        name: "a root that a crash has not kept is written once more",
-        lines: &[
+    ),
+    (
+        "a root that a crash has not kept is written once more",
+        &[
             Line::Begins(0, Task::Open, 6),
             Line::Does(Act::CrashOf(Dev::Metadata, 1, 0), What::Stopped),
             Line::Begins(0, Task::Open, 5),
             Line::Does(Act::CrashOf(Dev::Metadata, 1, 1), What::Skipped),
-            Line::Does(Act::Step(0), What::Stepped(ROOT, Got::Done)),
+            Line::Takes(0, &[ROOT]),
             Line::Does(Act::CrashOf(Dev::Metadata, 1, 1), What::Stopped),
         ],
-    },
-    Row {
-        name: "a crash ends an opening, and keeps contents that are there",
-        lines: &[
+    ),
+    (
+        "a crash ends an opening, and keeps contents that are there",
+        &[
             Line::Does(Act::Open(0, Mode::Writeback), What::Started),
             Line::Does(Act::CrashOf(Dev::Cache, 0, 1), What::Skipped),
             Line::Does(Act::CrashOf(Dev::Origin, 640, 0), What::Skipped),
@@ -249,5 +244,5 @@ pub const CRASHES: [Row; 4] = [
             Line::Does(Act::Crash, What::Stopped),
             Line::Does(Act::Open(0, Mode::Writeback), What::Started),
         ],
-    },
+    ),
 ];

@@ -1,8 +1,8 @@
 //! Blocks that make way for others: what the cache and the origin show of both.
 
-use super::line::{Act, FIRST_SECTOR, Line, Row};
+use super::line::{Act, FIRST_SECTOR, FLUSH, Line, OPEN, PROMOTE, Row};
 use wb_promise::What;
-use wb_types::{CBlock, Extent, Mode, OBlock, Refusal};
+use wb_types::{CBlock, Extent, OBlock, Refusal};
 
 const OLD: OBlock = OBlock(0);
 
@@ -16,78 +16,62 @@ const NEW_SECTOR: Extent = Extent {
 
 const BUSY: What = What::Refused(Refusal::Busy);
 
-const OPENED: Line = Line::Finishes(Act::Open(0, Mode::Writeback), 0);
-
-const PROMOTED: Line = Line::Finishes(Act::Promote(0, OLD, CBlock(0)), 0);
-
 /// Behind a promotion this is written to the cache.
-const WRITTEN: Line = Line::Finishes(Act::WriteOf(0, FIRST_SECTOR, 0x22), 0);
+const WRITE: Act = Act::WriteOf(0, FIRST_SECTOR, 0x22);
 
-const LEFT: Line = Line::Finishes(Act::Replace(0, OLD, NEW), 0);
+const REPLACE: Act = Act::Replace(0, OLD, NEW);
 
-const FLUSHED: Line = Line::Finishes(Act::Flush(0), 0);
-
-const FOLLOWS: Act = Act::Promote(0, NEW, CBlock(0));
+const FOLLOW: Act = Act::Promote(0, NEW, CBlock(0));
 
 pub const REPLACEMENTS: [Row; 4] = [
-    Row {
-        name: "a block follows one that went home, after a flush of its actor",
-        lines: &[
-            OPENED,
-            PROMOTED,
-            WRITTEN,
-            LEFT,
+    (
+        "a block follows one that went home, after a flush of its actor",
+        &[
+            Line::Finishes(&[OPEN, PROMOTE, WRITE, REPLACE]),
             Line::Opened(1, 0, 0),
-            Line::Shows(0, 0x22),
-            Line::Does(FOLLOWS, BUSY),
-            FLUSHED,
-            Line::Finishes(FOLLOWS, 0),
+            Line::Shows(&[(0, 0x22)]),
+            Line::Does(FOLLOW, BUSY),
+            Line::Finishes(&[FLUSH, FOLLOW]),
             Line::Opened(2, 1, 0),
-            Line::Shows(0, 0x22),
-            Line::Finishes(Act::WriteOf(0, NEW_SECTOR, 0x33), 0),
+            Line::Shows(&[(0, 0x22)]),
+            Line::Finishes(&[Act::WriteOf(0, NEW_SECTOR, 0x33)]),
             Line::Opened(2, 1, 1),
-            Line::Shows(64, 0x33),
+            Line::Shows(&[(64, 0x33)]),
         ],
-    },
-    Row {
-        name: "another's flush is not enough, nor may another follow",
-        lines: &[
-            OPENED,
-            PROMOTED,
-            LEFT,
-            Line::Finishes(Act::Flush(1), 1),
-            Line::Does(FOLLOWS, BUSY),
+    ),
+    (
+        "another's flush is not enough, nor may another follow",
+        &[
+            Line::Finishes(&[OPEN, PROMOTE, REPLACE, Act::Flush(1)]),
+            Line::Does(FOLLOW, BUSY),
             Line::Does(Act::Promote(1, NEW, CBlock(0)), BUSY),
             Line::Does(Act::Promote(1, OBlock(2), CBlock(0)), BUSY),
-            FLUSHED,
+            Line::Finishes(&[FLUSH]),
             Line::Does(Act::Promote(1, NEW, CBlock(0)), BUSY),
-            Line::Finishes(FOLLOWS, 0),
+            Line::Finishes(&[FOLLOW]),
             Line::Opened(3, 1, 0),
         ],
-    },
-    Row {
-        name: "only a mapped block makes way, and only for one that is nowhere; once it has left it does not again",
-        lines: &[
-            OPENED,
+    ),
+    (
+        "only a mapped block makes way, and only for one that is nowhere; once it has left it does not again",
+        &[
+            Line::Finishes(&[OPEN]),
             Line::Does(Act::Replace(0, OLD, NEW), BUSY),
-            PROMOTED,
+            Line::Finishes(&[PROMOTE]),
             Line::Does(Act::Replace(0, OLD, OLD), BUSY),
-            LEFT,
+            Line::Finishes(&[REPLACE]),
             Line::Does(Act::Replace(0, OLD, NEW), BUSY),
-            FLUSHED,
+            Line::Finishes(&[FLUSH]),
             Line::Does(Act::Replace(0, OLD, NEW), BUSY),
         ],
-    },
-    Row {
-        name: "a crash ends an order that waits for a flush",
-        lines: &[
-            OPENED,
-            PROMOTED,
-            LEFT,
-            Line::Does(Act::Crash, What::Stopped),
-            OPENED,
-            Line::Does(FOLLOWS, What::Started),
+    ),
+    (
+        "a crash ends an order that waits for a flush",
+        &[
+            Line::Finishes(&[OPEN, PROMOTE, REPLACE]),
+            Line::OpensAfter(Act::Crash),
+            Line::Does(FOLLOW, What::Started),
             Line::Opened(2, 0, 0),
         ],
-    },
+    ),
 ];

@@ -1,15 +1,16 @@
 //! A list of events by `run`: a write, a flush, a write that no flush has made durable, a crash, an opening, and a read.
 
 use super::line::{
-    Act, BEGIN, CACHE, COUNT_READ, COUNT_WRITE, DONE, END, FINISH, FIRST_SECTOR, LOOK_FAIL,
-    LOOK_LOCK, LOOK_NUMBER, LOOK_SEAL, METADATA, OPENING, ORIGIN, OWN, OWN_NO_MORE, READ_FIRST,
-    READ_SECOND, ROOT, SHARE, SHARE_NO_MORE, WRITE_FIRST, WRITE_SECOND, WRITING,
+    Act, BEGIN, BOTH_SECTORS, CACHE, COUNT_READ, COUNT_WRITE, DONE, END, FINISH, FIRST_SECTOR,
+    FLUSH, LOOK_FAIL, LOOK_LOCK, LOOK_NUMBER, LOOK_SEAL, METADATA, OPEN, OPENING, ORIGIN, OWN,
+    OWN_NO_MORE, READ_FIRST, READ_SECOND, ROOT, SHARE, SHARE_NO_MORE, WRITE_FIRST, WRITE_SECOND,
+    WRITING,
 };
 use super::{event_of, small};
 use std::alloc::Global;
 use wb_promise::{Event, Record, What};
 use wb_tasks::{Got, Want};
-use wb_types::{Dev, Extent, Mode, Refusal, SECTOR_BYTES};
+use wb_types::{Dev, Refusal, SECTOR_BYTES};
 use wb_world::run;
 
 /// What happens, what it does, and the steps that actor 0 then does.
@@ -20,10 +21,8 @@ struct Part {
     steps: &'static [(Want, Got)],
 }
 
-const BOTH_SECTORS: Extent = Extent { first: 0, count: 2 };
-
 /// A flush of no node.
-const FLUSHING: [(Want, Got); 9] = [
+pub const FLUSHING: [(Want, Got); 9] = [
     (LOOK_FAIL, Got::Word(0)),
     (BEGIN, Got::Began(0)),
     (CACHE, Got::Done),
@@ -67,7 +66,7 @@ const READING_BOTH: [(Want, Got); 10] = [
 /// The first sector keeps what the flush made durable, the second one what was written after it.
 const PARTS: [Part; 7] = [
     Part {
-        act: Act::Open(0, Mode::Writeback),
+        act: OPEN,
         does: What::Started,
         steps: &OPENING,
     },
@@ -77,7 +76,7 @@ const PARTS: [Part; 7] = [
         steps: &WRITING,
     },
     Part {
-        act: Act::Flush(0),
+        act: FLUSH,
         does: What::Started,
         steps: &FLUSHING,
     },
@@ -92,7 +91,7 @@ const PARTS: [Part; 7] = [
         steps: &[],
     },
     Part {
-        act: Act::Open(0, Mode::Writeback),
+        act: OPEN,
         does: What::Started,
         steps: &OPENING,
     },
