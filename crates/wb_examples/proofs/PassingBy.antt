@@ -1,6 +1,6 @@
 -- A run in which the block that a suspend stored clean is passed by: an opening in passthrough takes it where it is, and a write takes it out of the
 -- cache, and goes to the origin.
-use Rattle.std.proofs.Common.{◌≡◌, ◌∙◌, ◌≤◌, ◌+◌, ◌-◌, ◌<◌, ◌^◌, inl, inr, ℕ, zero, suc, Bool, true, false, List, [], ◌∷◌, ◌++◌, Option, Some, None, refl, sym, ap, subst, arith, length, map, replicate, slice_get}
+use Rattle.std.proofs.Common.{◌≡◌, ◌∙◌, ◌≤◌, ◌+◌, ◌<◌, ◌^◌, inl, inr, ℕ, suc, true, false, List, [], ◌∷◌, Option, Some, None, refl, sym, subst, arith, length, map, replicate}
 use Rattle.std.specs.Prelude.{drop}
 use Rattle.std.proofs.lemmas.List.{length-map}
 use Rattle.std.specs.Int.Bits.{bit_or, or_zero_l}
@@ -32,14 +32,14 @@ use Rattle.wb_promise.specs.declared.job.Job.TheVariants.{Write, Flush, Suspend}
 use Rattle.wb_promise.specs.States.{Shape, State}
 use Rattle.wb_promise.specs.Happenings.{Happening, Asks, Cut, task_job}
 use Rattle.wb_promise.specs.Effects.{all_resting, card_by, sealing_steps, IsRun}
-use Rattle.wb_promise.specs.Clerk.{Notes, Doing, begins, nobody}
+use Rattle.wb_promise.specs.Clerk.{Notes, begins, nobody}
 use Rattle.wb_promise.specs.Headline.{noted, shown}
 use Rattle.wb_runs.proofs.MetadataRuns.{IsKnown, known_always}
 use Rattle.wb_runs.proofs.Rooted.{rooted}
 use Rattle.wb_examples.specs.Possible.{PassesThrough, StandsIn, StandsCached, IsSealedClean, first_sector, first_block, first_cache_block, to_pass_through, CanPassThrough}
 use Rattle.wb_examples.proofs.Opening.{Down, down, opening, opening_may, Idle, flushing, flushing_may}
 use Rattle.wb_examples.proofs.Beginning.{bare_commit}
-use Rattle.wb_examples.proofs.Playing.{Move, Gets, Moves, Does, Stops, goes, goes_on, played, ends, resting_idle, ◌⨟◌}
+use Rattle.wb_examples.proofs.Playing.{Move, Gets, Moves, Does, Stops, goes, goes_on, played, resting_idle, ◌⨟◌}
 use Rattle.wb_examples.proofs.Runs.{along, stretched}
 use Rattle.wb_examples.proofs.Desks.{Setting, shape, leaves_from}
 use Rattle.wb_examples.proofs.Scenes.{Scene, Own, nothing_known, Formatted, Tiny, formatted_of, tiny_can, at, over, Leads, goes_to, FromNoted, noted_stretch, devices, devices_size, cache_size, shape_at, opened_at, known_at, from_opened, uncut, nothing_lands}

@@ -36,7 +36,7 @@ use Rattle.wb_promise.specs.declared.job.Job.TheVariants.{Write, Suspend, Open}
 use Rattle.wb_promise.specs.States.{Shape, State}
 use Rattle.wb_promise.specs.Happenings.{Plain, Cut, Looks, Begins, Reaches, Puts, Commits, Opened, AreMapped, DoesPut, task_job}
 use Rattle.wb_promise.specs.Effects.{contents_at, IsRun}
-use Rattle.wb_promise.specs.Clerk.{Notes, Doing, Position}
+use Rattle.wb_promise.specs.Clerk.{Notes}
 use Rattle.wb_promise.specs.Headline.{noted}
 use Rattle.wb_runs.proofs.Metadata.{Quiet, unknowing}
 use Rattle.wb_runs.proofs.MetadataRuns.{IsKnown}
