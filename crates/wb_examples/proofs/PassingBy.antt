@@ -95,13 +95,15 @@ module _ (P A : Type 0) (t : Tiny P A) (metadata cache sectors : List History) (
   abbrev task : TaskJob
   task = task_job shape0 Passthrough [] job (first_sector ∷ []) []
 
+  -- the block stands where it stood before
   abbrev pub passing : Scene P
   passing = here metadata cache origin (words 0 2 0) desk_opened None
 
-  -- the write comes to the origin next, and has been there then
+  -- the write comes to the origin next
   abbrev left : Scene P
   left = here metadata cache origin (words 1 0 0) desk_left (Some (job, record { job = task; steps = Device (WriteExtent Origin first_sector) ∷ Cell (Finish first_block) ∷ Cell (Count WriteHit) ∷ Cell (Release Owned first_block) ∷ []; answer = Finished }))
 
+  -- and has come there
   abbrev wrote : Scene P
   wrote = here metadata cache (written origin 0 content) (words 0 0 1) desk_left (over job task)
 

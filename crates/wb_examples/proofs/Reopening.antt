@@ -1,5 +1,5 @@
 -- Power is lost once a root without a tree was made durable, and an opening in write-back shows the origin, since nothing is cached.
-use Rattle.std.proofs.Common.{false, ◌≡◌, ◌∙◌, ◌<◌, ◌≤◌, ◌+◌, ◌%◌, ◌^◌, inl, inr, ℕ, List, [], Option, Some, None, sym, ap, subst, arith, length, map, slice_get}
+use Rattle.std.proofs.Common.{◌≡◌, ◌∙◌, ◌<◌, ◌≤◌, ◌+◌, ◌%◌, ◌^◌, inl, inr, ℕ, false, List, [], Option, Some, None, sym, ap, subst, arith, length, map, slice_get}
 use Rattle.std.specs.Prelude.{option_map}
 use Rattle.std.proofs.lemmas.Option.{slice_get-get_or, slice_get-map}
 use Rattle.std.proofs.lemmas.List.{length-map}
@@ -9,13 +9,15 @@ use Rattle.std.proofs.Math.Nat.{mod-lt}
 use Rattle.wb_types.specs.declared.entry.Entry.{Entry}
 use Rattle.wb_types.specs.declared.geometry.Geometry.{Geometry}
 use Rattle.wb_types.specs.declared.number.OBlock.{OBlock}
+use Rattle.wb_types.specs.declared.mode.Mode.{Mode}
 use Rattle.wb_types.specs.declared.mode.Mode.TheVariants.{Writeback}
 use Rattle.wb_types.specs.declared.mode.Dev.{Dev}
 use Rattle.wb_types.specs.declared.mode.Dev.TheVariants.{Metadata, Cache, Origin}
 use Rattle.wb_disk.specs.Device.{Content as Bytes, History, Crashed, newest, only, synced, written}
-use Rattle.wb_disk.specs.Crash.{Applies, crashed}
+use Rattle.wb_disk.specs.Crash.{Choice, Applies, crashed}
 use Rattle.wb_disk.specs.Memory.{blank}
-use Rattle.wb_disk.specs.declared.crash_choice.Base.TheVariants.{Durable}
+use Rattle.wb_disk.specs.declared.crash_choice.Base.{Base}
+use Rattle.wb_disk.specs.declared.crash_choice.Base.TheVariants.{Durable, Newest}
 use Rattle.wb_disk.proofs.Leaving.{newest-synced, read-left, crash-left, left-crashed}
 use Rattle.wb_disk.proofs.Crashes.{Crashed-crashed_from}
 use Rattle.wb_format.specs.declared.root.Root.{Root}
@@ -25,26 +27,20 @@ use Rattle.wb_meta.specs.Representing.{Represents}
 use Rattle.wb_meta.proofs.Histories.{newest-added}
 use Rattle.wb_tree.specs.Reading.{IsNewestRoot, nothing_found, top_read}
 use Rattle.wb_desk.specs.Desks.{DeskState}
+use Rattle.wb_devices.specs.declared.devices.Devices.{Devices}
 use Rattle.wb_promise.specs.States.{Shape, State}
+use Rattle.wb_promise.specs.Happenings.{MayStop}
 use Rattle.wb_promise.specs.Effects.{all_resting}
 use Rattle.wb_promise.specs.Headline.{shown, cached_from}
 use Rattle.wb_examples.specs.Possible.{StandsNowhere}
 use Rattle.wb_runs.proofs.Images.{Images}
-use Rattle.wb_runs.proofs.Metadata.{Quiet}
+use Rattle.wb_runs.proofs.Metadata.{Quiet, AtDesk}
 use Rattle.wb_runs.proofs.Formatted.{HasNoTree}
 use Rattle.wb_runs.proofs.Spelling.{spelling, spelled_root}
 use Rattle.wb_examples.proofs.Shown.{written_same, origin_shown, nowhere}
 use Rattle.wb_examples.proofs.Playing.{ends, resting_idle}
 use Rattle.wb_examples.proofs.Opening.{write_back_starts, Down, down, opening, opened_is, target, bare}
-use Rattle.wb_examples.proofs.Desks.{Setting, shape, desk}
-use Rattle.wb_examples.proofs.Scenes.{devices}
-use Rattle.wb_types.specs.declared.mode.Mode.{Mode}
-use Rattle.wb_disk.specs.Crash.{Choice}
-use Rattle.wb_disk.specs.declared.crash_choice.Base.{Base}
-use Rattle.wb_disk.specs.declared.crash_choice.Base.TheVariants.{Newest}
-use Rattle.wb_devices.specs.declared.devices.Devices.{Devices}
-use Rattle.wb_promise.specs.Happenings.{MayStop}
-use Rattle.wb_runs.proofs.Metadata.{AtDesk}
+use Rattle.wb_examples.proofs.Desks.{Setting, shape}
 
 -- the root that was written last, if the newest root has its generation
 pub root_there : (m : List History) (r q : Root) → 2 ≤ length m → r.generation < 2 ^ 64 → q.generation ≡ r.generation → IsNewestRoot (map newest (synced (written (synced m) (r.generation % 2) (spelling r)))) q → q ≡ r
