@@ -8,6 +8,7 @@ mod Desks
 mod Runs
 mod Scenes
 mod Blocks
+mod Reopening
 mod Surviving
 mod Through
 mod Marking

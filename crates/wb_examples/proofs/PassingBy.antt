@@ -1,13 +1,17 @@
--- A run in which the block that a suspend stored clean is passed by: an opening in passthrough takes it where it is, and a write takes it out of the
--- cache, and goes to the origin.
-use Rattle.std.proofs.Common.{◌≡◌, ◌∙◌, ◌≤◌, ◌+◌, ◌-◌, ◌<◌, ◌^◌, inl, inr, ℕ, zero, suc, Bool, true, false, List, [], ◌∷◌, ◌++◌, Option, Some, None, refl, sym, ap, subst, arith, length, map, replicate, slice_get}
+-- A run in which the block that a suspend stored clean is passed by: an opening in passthrough takes it where it is, a write takes it out of the cache
+-- and goes to the origin, and behind a flush and a crash an opening in write-back shows that.
+use Rattle.std.proofs.Common.{◌≡◌, ◌∙◌, ◌≤◌, ◌+◌, ◌<◌, ◌^◌, ℕ, suc, true, false, List, [], ◌∷◌, Option, Some, None, refl, sym, ap, subst, arith, length, map, replicate}
 use Rattle.std.specs.Prelude.{drop}
 use Rattle.std.proofs.lemmas.List.{length-map}
 use Rattle.std.specs.Int.Bits.{bit_or, or_zero_l}
 use Rattle.wb_types.specs.declared.mode.Mode.TheVariants.{Writeback, Passthrough}
-use Rattle.wb_types.specs.declared.mode.Dev.TheVariants.{Metadata, Cache, Origin}
+use Rattle.wb_types.specs.declared.mode.Dev.TheVariants.{Cache, Origin}
 use Rattle.wb_disk.specs.Device.{Content as Bytes, History, newest, only, synced, written}
 use Rattle.wb_disk.specs.Memory.{blank}
+use Rattle.wb_disk.specs.Crash.{crashed, crashed_from}
+use Rattle.wb_disk.specs.declared.crash_choice.Base.TheVariants.{Durable}
+use Rattle.wb_disk.proofs.Crashes.{Crashed-crashed_from}
+use Rattle.wb_format.specs.declared.root.Root.{Root}
 use Rattle.wb_words.specs.SharedWords.{Words, fresh_words}
 use Rattle.wb_words.specs.Cards.{blank_card}
 use Rattle.wb_words.specs.declared.word.Access.TheVariants.{Owned}
@@ -18,7 +22,6 @@ use Rattle.wb_desk.specs.Desks.{DeskState}
 use Rattle.wb_desk.specs.Commits.{commit_begun}
 use Rattle.wb_desk.specs.Entries.{unmapped}
 use Rattle.wb_stage.specs.Asking.{ended}
-use Rattle.wb_runs.proofs.Metadata.{Quiet}
 use Rattle.wb_desk.specs.Opening.{opened}
 use Rattle.wb_tasks.specs.Plan.{Plan}
 use Rattle.wb_tasks.specs.Tables.{TaskJob}
@@ -32,19 +35,20 @@ use Rattle.wb_promise.specs.declared.job.Job.TheVariants.{Write, Flush, Suspend}
 use Rattle.wb_promise.specs.States.{Shape, State}
 use Rattle.wb_promise.specs.Happenings.{Happening, Asks, Cut, task_job}
 use Rattle.wb_promise.specs.Effects.{all_resting, card_by, sealing_steps, IsRun}
-use Rattle.wb_promise.specs.Clerk.{Notes, Doing, begins, nobody}
+use Rattle.wb_promise.specs.Clerk.{Notes, begins, nobody}
 use Rattle.wb_promise.specs.Headline.{noted, shown}
 use Rattle.wb_runs.proofs.MetadataRuns.{IsKnown, known_always}
 use Rattle.wb_runs.proofs.Rooted.{rooted}
 use Rattle.wb_examples.specs.Possible.{PassesThrough, StandsIn, StandsCached, IsSealedClean, first_sector, first_block, first_cache_block, to_pass_through, CanPassThrough}
 use Rattle.wb_examples.proofs.Opening.{Down, down, opening, opening_may, Idle, flushing, flushing_may}
-use Rattle.wb_examples.proofs.Beginning.{bare_commit}
-use Rattle.wb_examples.proofs.Playing.{Move, Gets, Moves, Does, Stops, goes, goes_on, played, ends, resting_idle, ◌⨟◌}
+use Rattle.wb_examples.proofs.Beginning.{bare_commit, bare_root}
+use Rattle.wb_examples.proofs.Playing.{Move, Gets, Moves, Does, Stops, goes, goes_on, played, resting_idle, ◌⨟◌}
 use Rattle.wb_examples.proofs.Runs.{along, stretched}
 use Rattle.wb_examples.proofs.Desks.{Setting, shape, leaves_from}
 use Rattle.wb_examples.proofs.Scenes.{Scene, Own, nothing_known, Formatted, Tiny, formatted_of, tiny_can, at, over, Leads, goes_to, FromNoted, noted_stretch, devices, devices_size, cache_size, shape_at, opened_at, known_at, from_opened, uncut, nothing_lands}
 use Rattle.wb_examples.proofs.Blocks.{first_written, promotes, promoting, promoting_leads}
-use Rattle.wb_examples.proofs.Surviving.{Others, notes, doing_at, noted_then, others_then, keeps, again, again_shown, again_nowhere}
+use Rattle.wb_examples.proofs.Surviving.{Others, notes, doing_at, noted_then, others_then}
+use Rattle.wb_examples.proofs.Reopening.{may_stop, again, again_shown, again_nowhere}
 use Rattle.wb_examples.proofs.Marking.{seen_entry, leaf_place, stored_tree, geometry, root, s}
 use Rattle.wb_examples.proofs.Rereading.{next_commit}
 use Rattle.wb_examples.proofs.Suspending.{opened0, came0, suspended, suspending, suspending_leads, starting, started, starts, read, on, fits_then, opening as opening_behind, opens}
@@ -58,14 +62,14 @@ begun_notes actors (first ∷ contents) some = (first, record { histories = map 
 
 module _ (P A : Type 0) (t : Tiny P A) (metadata cache sectors : List History) (size : length metadata ≡ t.meta_sectors) (many : length sectors ≡ 63) (old content first : Bytes) (others : Others) where
   -- as it was at the first opening, but for the others, who know nothing any more
-  abbrev pub s2 : Setting P 0 Writeback
-  s2 = record (s P A t) { rest = all_resting (s P A t).rest; idle = resting_idle (s P A t).rest }
+  abbrev pub s_then : Setting P 0 Writeback
+  s_then = record (s P A t) { rest = all_resting (s P A t).rest; idle = resting_idle (s P A t).rest }
 
   abbrev shape0 : Shape
-  shape0 = shape P 0 Writeback s2
+  shape0 = shape P 0 Writeback s_then
 
   abbrev state : Scene P → Own → State P A
-  state scene own = at P A 0 Writeback s2 scene own
+  state scene own = at P A 0 Writeback s_then scene own
 
   -- ---- where it is
 
@@ -79,8 +83,8 @@ module _ (P A : Type 0) (t : Tiny P A) (metadata cache sectors : List History) (
   abbrev words : (cell seal number : ℕ) → Words
   words cell seal number = record { cells = cell ∷ []; seals = seal ∷ []; numbers = number ∷ []; read_hits = 0; read_misses = 0; write_hits = number; write_misses = 0; fail = 0 }
 
-  abbrev here : List History → Words → DeskState P → Option (Job × Plan) → Scene P
-  here origin words desk task = record { devices = record { metadata = metadata; cache = cache; origin = origin }; words = words; desk = desk; task = task; orders = []; awaiting = []; buffer = [] }
+  abbrev here : (metadata cache origin : List History) → Words → DeskState P → Option (Job × Plan) → Scene P
+  here metadata cache origin words desk task = record { devices = record { metadata = metadata; cache = cache; origin = origin }; words = words; desk = desk; task = task; orders = []; awaiting = []; buffer = [] }
 
   abbrev origin : List History
   origin = only old ∷ sectors
@@ -91,14 +95,17 @@ module _ (P A : Type 0) (t : Tiny P A) (metadata cache sectors : List History) (
   abbrev task : TaskJob
   task = task_job shape0 Passthrough [] job (first_sector ∷ []) []
 
+  -- the block stands where it stood before
   abbrev pub passing : Scene P
-  passing = here origin (words 0 2 0) desk_opened None
+  passing = here metadata cache origin (words 0 2 0) desk_opened None
 
+  -- the write comes to the origin next
   abbrev left : Scene P
-  left = here origin (words 1 0 0) desk_left (Some (job, record { job = task; steps = Device (WriteExtent Origin first_sector) ∷ Cell (Finish first_block) ∷ Cell (Count WriteHit) ∷ Cell (Release Owned first_block) ∷ []; answer = Finished }))
+  left = here metadata cache origin (words 1 0 0) desk_left (Some (job, record { job = task; steps = Device (WriteExtent Origin first_sector) ∷ Cell (Finish first_block) ∷ Cell (Count WriteHit) ∷ Cell (Release Owned first_block) ∷ []; answer = Finished }))
 
+  -- and has come there
   abbrev wrote : Scene P
-  wrote = here (written origin 0 content) (words 0 0 1) desk_left (over job task)
+  wrote = here metadata cache (written origin 0 content) (words 0 0 1) desk_left (over job task)
 
   -- ---- what happens
 
@@ -108,14 +115,14 @@ module _ (P A : Type 0) (t : Tiny P A) (metadata cache sectors : List History) (
   abbrev writing : List (Move P A)
   writing = Moves ∷ goes 3 []
 
-  leaving_leads : (own : Own) → IsKnown P A shape0 (state passing own) → Leads P A 0 Writeback s2 (state passing own) leaving left
-  leaving_leads own known = goes_to P A 0 Writeback s2 _ _ _ (
-      (s2.idle, (refl, uncut first_sector (omega arith)))
+  leaving_leads : (own : Own) → IsKnown P A shape0 (state passing own) → Leads P A 0 Writeback s_then (state passing own) leaving left
+  leaving_leads own known = goes_to P A 0 Writeback s_then _ _ _ (
+      (s_then.idle, (refl, uncut first_sector (omega arith)))
       ⨟ (refl, refl, leaves_from P t.policy desk_opened 0 refl known.known.is.sound (record { cache = first_cache_block; mapped = refl; removed = tt }))
       ⨟ tt) refl
 
-  writing_leads : (own : Own) → Leads P A 0 Writeback s2 (state left own) writing wrote
-  writing_leads own = goes_to P A 0 Writeback s2 _ _ _ ((tt, omega arith) ⨟ tt) refl
+  writing_leads : (own : Own) → Leads P A 0 Writeback s_then (state left own) writing wrote
+  writing_leads own = goes_to P A 0 Writeback s_then _ _ _ ((tt, omega arith) ⨟ tt) refl
 
   -- ---- what is noted
 
@@ -140,7 +147,7 @@ module _ (P A : Type 0) (t : Tiny P A) (metadata cache sectors : List History) (
   -- ---- the flush, the crash and the opening behind them
 
   abbrev idle_there : Own → Idle P
-  idle_there own = record { global = t.global; shape = shape0; words = words 0 0 1; desk = desk_left; devices = wrote.devices; actor = record { task = None; card = own.card; orders = []; awaiting = []; buffer = []; seen = own.seen }; rest = s2.rest; others = s2.idle }
+  idle_there own = record { global = t.global; shape = shape0; words = words 0 0 1; desk = desk_left; devices = wrote.devices; actor = record { task = None; card = own.card; orders = []; awaiting = []; buffer = []; seen = own.seen }; rest = s_then.rest; others = s_then.idle }
 
   abbrev flush : List (Move P A)
   flush = goes 1 (flushing P A (idle_there nothing_known))
@@ -149,51 +156,54 @@ module _ (P A : Type 0) (t : Tiny P A) (metadata cache sectors : List History) (
   desk_then = ended (commit_begun desk_left desk_left.tree)
 
   abbrev durable : Scene P
-  durable = record (here (only content ∷ synced sectors) (words 0 0 1) desk_then (over Flush (task_job shape0 Passthrough [] Flush [] []))) {
-    devices = record {
-      metadata = synced (rooted (bare_commit t.global shape0.geometry desk_then.generation) (synced metadata));
-      cache = synced cache;
-      origin = only content ∷ synced sectors;
-    };
-  }
+  durable = here (synced (rooted (bare_commit t.global shape0.geometry desk_then.generation) (synced metadata))) (synced cache) (only content ∷ synced sectors) (words 0 0 1) desk_then (over Flush (task_job shape0 Passthrough [] Flush [] []))
 
-  flush_leads : (own : Own) → IsKnown P A shape0 (state wrote own) → Leads P A 0 Writeback s2 (state wrote own) flush durable
-  flush_leads own known = goes_to P A 0 Writeback s2 _ _ _ (flushing_may P A (idle_there own) (record { images = known.images; known = known.known; entries = refl }) (record { idle = refl; next = omega (arith, (s P A t).later) })) refl
+  flush_leads : (own : Own) → IsKnown P A shape0 (state wrote own) → Leads P A 0 Writeback s_then (state wrote own) flush durable
+  flush_leads own known = goes_to P A 0 Writeback s_then _ _ _ (flushing_may P A (idle_there own) (record { images = known.images; known = known.known; entries = refl }) (record { idle = refl; next = omega (arith, (s P A t).later) })) refl
 
   abbrev crash : List (Move P A)
   crash = goes 1 (Stops nothing_lands ∷ [])
 
   module _ (own : Own) (known : IsKnown P A shape0 (state durable own)) where
-    quiet : Quiet shape0.geometry known.images desk_then durable.devices.metadata
-    quiet = elim known.known.stands [ inl q ↦ q | inr broken ↦ absurd (let busy = broken.busy in cc) ]
+    abbrev last_root : Root
+    last_root = bare_root shape0.geometry desk_then.generation
 
-    later : desk_then.generation + 2 < 2 ^ 64
-    later = omega (arith, (s P A t).later)
+    abbrev cache_left : List History
+    cache_left = crashed Cache nothing_lands (synced cache)
+
+    abbrev origin_left : List History
+    origin_left = only content ∷ crashed_from Origin nothing_lands 1 (synced sectors)
+
+    later : last_root.generation + 2 < 2 ^ 64
+    later = omega (arith, s_then.later)
+
+    all_there : length origin_left ≡ 64
+    all_there = ap (λ (n : ℕ). suc n) ((Crashed-crashed_from Origin nothing_lands 1 (synced sectors)).size ∙ length-map sectors (λ (h : History). only (newest h)) ∙ many)
 
     abbrev down_then : Down P A
-    down_then = again P A t.policy t.alloc s2 desk_then metadata cache sectors content known.images quiet later size many
+    down_then = again P A t.policy t.alloc Writeback s_then desk_then last_root metadata known.images known.known refl refl refl later size nothing_lands cache_left origin_left
 
     behind_flush : PassesThrough shape0 (state durable own) n3 (drop 3 conditions)
     behind_flush = (
       played t.global shape0 (state durable own) crash,
-      goes_on t.global shape0 (state durable own) crash (record { metadata = keeps Metadata _; cache = keeps Cache _; origin = keeps Origin _ } ⨟ tt),
+      goes_on t.global shape0 (state durable own) crash (may_stop Durable _ ⨟ tt),
       (refl, refl),
       (
         played t.global shape0 (down P A down_then) (opening P A down_then),
         goes_on t.global shape0 (down P A down_then) (opening P A down_then) (opening_may P A down_then),
         (
           refl,
-          again_nowhere P A t.policy t.alloc s2 desk_then metadata cache sectors content known.images quiet later size many first_block,
-          again_shown P A t.policy t.alloc s2 desk_then metadata cache sectors content known.images quiet later size many,
+          again_nowhere P A t.policy t.alloc Writeback s_then desk_then last_root metadata known.images known.known refl refl refl later size nothing_lands cache_left origin_left first_block,
+          again_shown P A t.policy t.alloc Writeback s_then desk_then last_root metadata known.images known.known refl refl refl later size nothing_lands cache_left origin_left content all_there refl,
         ),
         tt,
       ),
     )
 
-  pub passes : FromNoted P A 0 Writeback s2 passing n0 conditions
-  passes own0 known0 = noted_stretch P A 0 Writeback s2 passing left leaving n0 n1 conditions own0 known0 (leaving_leads own0 known0) refl (λ own. ((refl, refl), refl)) (λ own1 known1.
-      noted_stretch P A 0 Writeback s2 left wrote writing n1 n2 (drop 1 conditions) own1 known1 (writing_leads own1) refl (λ own. ((refl, refl), refl, first_written origin content (omega arith))) (λ own2 known2.
-      noted_stretch P A 0 Writeback s2 wrote durable flush n2 n3 (drop 2 conditions) own2 known2 (flush_leads own2 known2) refl (λ own. ((refl, refl), refl)) behind_flush))
+  pub passes : FromNoted P A 0 Writeback s_then passing n0 conditions
+  passes own0 known0 = noted_stretch P A 0 Writeback s_then passing left leaving n0 n1 conditions own0 known0 (leaving_leads own0 known0) refl (λ own. ((refl, refl), refl)) (λ own1 known1.
+      noted_stretch P A 0 Writeback s_then left wrote writing n1 n2 (drop 1 conditions) own1 known1 (writing_leads own1) refl (λ own. ((refl, refl), refl, first_written origin content (omega arith))) (λ own2 known2.
+      noted_stretch P A 0 Writeback s_then wrote durable flush n2 n3 (drop 2 conditions) own2 known2 (flush_leads own2 known2) refl (λ own. ((refl, refl), refl)) behind_flush))
 
 -- ---- the whole run
 
@@ -263,7 +273,7 @@ module _ (P A : Type 0) (t : Tiny P A) (room : 64 ≤ t.threshold) (content : By
     opens_then = opens P A t [] d cache_some origin_some metadata_size false own known Passthrough (λ e. refl)
 
     abbrev there : State P A
-    there = at P A 0 Writeback (s2 P A t metadata_then cache_then sectors_then size_then many_then old content first others) (passing P A t metadata_then cache_then sectors_then size_then many_then old content first others) own_then
+    there = at P A 0 Writeback (s_then P A t metadata_then cache_then sectors_then size_then many_then old content first others) (passing P A t metadata_then cache_then sectors_then size_then many_then old content first others) own_then
 
     known_then : IsKnown P A whole_shape there
     known_then = known_always P A whole_shape reopening to_open (known_always P A whole_shape ready to_start known starts_then) opens_then

@@ -1,6 +1,6 @@
 -- Plays a run in which the first actor alone is at work, from a list of what comes next: what happens at each, where it leads, and what is to
 -- be shown for it. Steps that give what they must need nothing shown.
-use Rattle.std.proofs.Common.{Global, ◌≡◌, ◌≢◌, ◌≤◌, ◌+◌, ◌⊎◌, inl, inr, ℕ, zero, suc, Bool, true, false, ◌&&◌, ◌==◌, List, [], ◌∷◌, ◌++◌, Option, Some, None, refl, ap, arith, length, slice_get, replicate}
+use Rattle.std.proofs.Common.{Global, ◌≡◌, ◌≤◌, ◌+◌, ◌⊎◌, inl, inr, ℕ, zero, suc, Bool, true, false, ◌&&◌, ◌==◌, List, [], ◌∷◌, ◌++◌, Option, Some, None, refl, ap, arith, length, slice_get, replicate}
 use Rattle.std.specs.Prelude.{not}
 use Rattle.wb_types.specs.declared.extent.Extent.{Extent}
 use Rattle.wb_types.specs.declared.mode.Dev.{Dev}

@@ -36,7 +36,7 @@ use Rattle.wb_promise.specs.declared.job.Job.TheVariants.{Write, Suspend, Open}
 use Rattle.wb_promise.specs.States.{Shape, State}
 use Rattle.wb_promise.specs.Happenings.{Plain, Cut, Looks, Begins, Reaches, Puts, Commits, Opened, AreMapped, DoesPut, task_job}
 use Rattle.wb_promise.specs.Effects.{contents_at, IsRun}
-use Rattle.wb_promise.specs.Clerk.{Notes, Doing, Position}
+use Rattle.wb_promise.specs.Clerk.{Notes}
 use Rattle.wb_promise.specs.Headline.{noted}
 use Rattle.wb_runs.proofs.Metadata.{Quiet, unknowing}
 use Rattle.wb_runs.proofs.MetadataRuns.{IsKnown}
@@ -49,7 +49,8 @@ use Rattle.wb_examples.proofs.Playing.{Move, Gets, Moves, Does, AreIdle, goes, g
 use Rattle.wb_examples.proofs.Scenes.{Scene, Own, nothing_known, Formatted, Tiny, formatted_of, tiny_can, at, over, Leads, goes_to, From, FromNoted, noted_stretch, stretch, opened_scene, devices, devices_size, cache_size, origin_size, known_at, opened_at, shape_at, from_opened, uncut, whole}
 use Rattle.wb_examples.proofs.Runs.{along}
 use Rattle.wb_examples.proofs.Blocks.{first_written, sync_gives, filled, came, promotes, promoting, promoting_leads}
-use Rattle.wb_examples.proofs.Surviving.{Others, notes, doing_at, root_there, noted_then, others_then}
+use Rattle.wb_examples.proofs.Reopening.{root_there}
+use Rattle.wb_examples.proofs.Surviving.{Others, notes, doing_at, noted_then, others_then}
 use Rattle.wb_examples.proofs.Marking.{seen_entry, image, leaf_place, leaf_node, stored_tree, none_changed, s, stood0, root, commit, begins}
 use Rattle.wb_examples.proofs.Desks.{shape}
 use Rattle.wb_examples.proofs.Rereading.{StandsOn, loader, stored, root_read, next_commit, all_read}

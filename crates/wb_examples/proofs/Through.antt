@@ -1,15 +1,11 @@
 -- Runs in write-through: a cached block is written to on the origin and then in the cache; or power is lost between the two, and an opening in
 -- write-back shows what the origin has.
-use Rattle.std.proofs.Common.{sym, ◌≡◌, ◌∙◌, ◌≤◌, ℕ, true, List, [], ◌∷◌, Some, None, refl, ap, arith, drop, length, map, slice_get, inl, inr}
-use Rattle.std.proofs.lemmas.List.Elements.{All-nil}
-use Rattle.wb_types.specs.declared.mode.Mode.TheVariants.{Writeback, Writethrough}
-use Rattle.wb_types.specs.declared.mode.Dev.{Dev}
-use Rattle.wb_types.specs.declared.mode.Dev.TheVariants.{Metadata, Cache, Origin}
-use Rattle.wb_disk.specs.Device.{Content as Bytes, History, Crashed, newest, synced, written}
-use Rattle.wb_disk.specs.Crash.{Choice, Applies, crashed}
+use Rattle.std.proofs.Common.{◌≡◌, ◌≤◌, ◌<◌, ◌+◌, ◌^◌, ℕ, true, List, [], ◌∷◌, Some, None, refl, arith, drop, length}
+use Rattle.wb_types.specs.declared.mode.Mode.TheVariants.{Writethrough}
+use Rattle.wb_types.specs.declared.mode.Dev.TheVariants.{Cache, Origin}
+use Rattle.wb_disk.specs.Device.{Content as Bytes, History, written}
+use Rattle.wb_disk.specs.Crash.{Choice, crashed}
 use Rattle.wb_disk.specs.declared.crash_choice.Base.TheVariants.{Newest}
-use Rattle.wb_disk.proofs.Leaving.{read-left}
-use Rattle.wb_disk.proofs.Crashes.{Crashed-crashed_from}
 use Rattle.wb_format.specs.declared.root.Root.{Root}
 use Rattle.wb_meta.specs.Openings.{reopened}
 use Rattle.wb_words.specs.declared.word.Access.TheVariants.{Owned}
@@ -25,19 +21,16 @@ use Rattle.wb_promise.specs.declared.job.Job.{Job}
 use Rattle.wb_promise.specs.declared.job.Job.TheVariants.{Write}
 use Rattle.wb_promise.specs.States.{Shape, State}
 use Rattle.wb_promise.specs.Happenings.{Cut, task_job}
-use Rattle.wb_promise.specs.Effects.{contents_at, all_resting}
+use Rattle.wb_promise.specs.Effects.{contents_at}
 use Rattle.wb_promise.specs.Clerk.{Notes}
-use Rattle.wb_promise.specs.Headline.{shown}
 use Rattle.wb_disk.proofs.Lengths.{length_written_where}
-use Rattle.wb_runs.proofs.Metadata.{Quiet}
 use Rattle.wb_runs.proofs.MetadataRuns.{IsKnown}
 use Rattle.wb_examples.specs.Possible.{PassesThrough, first_sector, first_block, to_write_through, to_write_half, CanWriteThrough, CanWriteHalf}
-use Rattle.wb_examples.proofs.Shown.{origin_shown}
-use Rattle.wb_examples.proofs.Playing.{Move, Gets, Moves, Stops, goes, goes_on, played, ends, resting_idle, ◌⨟◌}
-use Rattle.wb_examples.proofs.Opening.{write_back_starts, Down, down, opening, opening_may, opened_is, none_then, target, bare}
+use Rattle.wb_examples.proofs.Playing.{Move, Gets, Moves, Stops, goes, goes_on, played, ◌⨟◌}
+use Rattle.wb_examples.proofs.Opening.{Down, down, opening, opening_may, none_then}
 use Rattle.wb_examples.proofs.Desks.{Setting, shape, stood}
-use Rattle.wb_examples.proofs.Scenes.{Scene, Own, nothing_known, Formatted, at, over, Leads, goes_to, done, stretch, on, opened_scene, down_at, setting, devices, devices_size, cache_size, origin_size, shape_at, known_at, Whole, from_opened, small_can, uncut, whole}
-use Rattle.wb_examples.proofs.Surviving.{root_there, none_after}
+use Rattle.wb_examples.proofs.Scenes.{Scene, Own, nothing_known, Formatted, at, over, Leads, goes_to, done, stretch, on, opened_scene, down_at, setting, devices, cache_size, origin_size, shape_at, known_at, Whole, from_opened, small_can, uncut, whole}
+use Rattle.wb_examples.proofs.Reopening.{may_stop, again, again_shown}
 use Rattle.wb_examples.proofs.Blocks.{first_written, filled, came, promoting, promoting_leads}
 
 module _ (P A : Type 0) (s : Setting P 0 Writethrough) (content : Bytes) (d : Devices (List History)) (cache_some : 64 ≤ length d.cache) (origin_some : 64 ≤ length d.origin) where
@@ -116,9 +109,6 @@ can_write_through P A content = small_can P A 0 64 Writethrough (λ e. cc) (λ s
 abbrev all_lands : Choice
 all_lands = record { base = Newest; named = [] }
 
-lands : (device : Dev) (sectors : List History) → Applies device all_lands sectors
-lands device sectors = record { inside = All-nil _; there = λ at h e. omega arith }
-
 module _ (P A : Type 0) (f : Formatted P A 0 Writethrough) (content : Bytes) where
   abbrev s : Setting P 0 Writethrough
   s = setting P A 0 Writethrough f
@@ -142,52 +132,35 @@ module _ (P A : Type 0) (f : Formatted P A 0 Writethrough) (content : Bytes) whe
   crash = Stops all_lands ∷ []
 
   module _ (own : Own) (known : IsKnown P A shape_here (there own)) where
-    abbrev metadata : List History
-    metadata = crashed Metadata all_lands d.metadata
-
-    crash_of : Crashed d.metadata metadata
-    crash_of = Crashed-crashed_from Metadata all_lands 0 d.metadata
-
-    quiet : Quiet shape_here.geometry known.images (stood P 0 Writethrough s) d.metadata
-    quiet = elim known.known.stands [ inl q ↦ q | inr broken ↦ absurd (let busy = broken.busy in cc) ]
-
     abbrev first_root : Root
     first_root = reopened (none_then P A (down_at P A 0 Writethrough f)).root
 
-    root_is : quiet.stored.root ≡ first_root
-    root_is = root_there f.metadata first_root quiet.stored.root (omega (arith, f.size, f.sizes.within.meta_from)) (omega (arith, s.later, quiet.generation)) (sym quiet.generation)
-        ((quiet.stores.represents (map newest d.metadata) (read-left d.metadata)).newest)
+    abbrev cache_left : List History
+    cache_left = crashed Cache all_lands (once P A s content d cache_some origin_some).cache
 
-    top_is : quiet.stored.root.top ≡ None
-    top_is = ap (λ (r : Root). r.top) root_is ∙ (none_then P A (down_at P A 0 Writethrough f)).top
+    abbrev origin_left : List History
+    origin_left = crashed Origin all_lands (once P A s content d cache_some origin_some).origin
 
-    abbrev again : Down P A
-    again = record {
-      mode = Writeback;
-      writes = write_back_starts;
-      policy = f.policy;
-      alloc = f.alloc;
-      global = f.global;
-      shape = shape_here;
-      metadata = metadata;
-      cache = crashed Cache all_lands (once P A s content d cache_some origin_some).cache;
-      origin = crashed Origin all_lands (once P A s content d cache_some origin_some).origin;
-      none = none_after P shape_here.geometry known.images (stood P 0 Writethrough s) d.metadata metadata quiet top_is (omega (arith, quiet.generation, s.later)) crash_of;
-      size = crash_of.size ∙ devices_size P A 0 Writethrough f;
-      rest = all_resting s.rest;
-      idle = resting_idle s.rest;
-    }
+    top : first_root.top ≡ None
+    top = (none_then P A (down_at P A 0 Writethrough f)).top
 
-    shown_then : slice_get (shown shape_here (ends f.global shape_here (down P A again) (opening P A again))) 0 ≡ Some content
-    shown_then = ap (λ (w : State P A). slice_get (shown shape_here w) 0) (opened_is P A again)
-        ∙ ap (λ (ss : List Bytes). slice_get ss 0) (origin_shown shape_here (target P A again).desk.tree.entries (map newest (synced again.cache)) (map newest (synced again.origin)) shape_here.geometry.cache_blocks (bare P A again).entries refl)
+    later : first_root.generation + 2 < 2 ^ 64
+    later = omega (arith, s.later)
+
+    abbrev down_then : Down P A
+    down_then = again P A f.policy f.alloc Writethrough s (stood P 0 Writethrough s) first_root f.metadata known.images known.known refl top refl later f.size all_lands cache_left origin_left
 
     last_stretches : (n : Notes) → PassesThrough shape_here (there own) n (drop 1 (to_write_half shape_here content))
     last_stretches n = (
       played f.global shape_here (there own) crash,
-      goes_on f.global shape_here (there own) crash (record { metadata = lands Metadata _; cache = lands Cache _; origin = lands Origin _ } ⨟ tt),
+      goes_on f.global shape_here (there own) crash (may_stop Newest _ ⨟ tt),
       refl,
-      (played f.global shape_here (down P A again) (opening P A again), goes_on f.global shape_here (down P A again) (opening P A again) (opening_may P A again), (refl, shown_then), tt),
+      (
+        played f.global shape_here (down P A down_then) (opening P A down_then),
+        goes_on f.global shape_here (down P A down_then) (opening P A down_then) (opening_may P A down_then),
+        (refl, again_shown P A f.policy f.alloc Writethrough s (stood P 0 Writethrough s) first_root f.metadata known.images known.known refl top refl later f.size all_lands cache_left origin_left content refl refl),
+        tt,
+      ),
     )
 
   pub writes_half : 64 ≤ f.sizes.threshold → Whole P A 0 Writethrough f (to_write_half shape_here content)
