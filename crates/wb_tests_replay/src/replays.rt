@@ -269,9 +269,9 @@ const SKIPPED: [Row; 4] = [
         ends: Ended::Played,
     },
     Row {
-        name: "in passthrough no opening starts",
+        name: "over a target that stands no opening starts, in passthrough either",
         lines: "setup passthrough 64 4 10 4\nstart 0 r 0 1\nopen passthrough\nstart 3 open writethrough\nend 3\nview 0 1\n",
-        prints: "skipped\nskipped\nskipped\nopen 1 0 0\n0 00\n",
+        prints: "skipped\nskipped\nskipped\n0 00\n",
         ends: Ended::Played,
     },
 ];
