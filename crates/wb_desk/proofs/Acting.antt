@@ -28,8 +28,8 @@ use Rattle.wb_desk.specs.Desks.{DeskState, DeskInvariant, MayReserve, holdings, 
 use Rattle.wb_desk.specs.Calls.{reserved, released, next_order_taken}
 use Rattle.wb_desk.specs.Entries.{MayMap, IsRemoved, entry_of, mapped, unmapped, keeps, orders_past, is_replacement}
 use Rattle.wb_desk.specs.Opening.{opened}
-use Rattle.wb_desk.specs.Commits.{commit_begun, commit_ended}
-use Rattle.wb_desk.specs.Safety.{HeldImages, DeskCall, TakeOrder, Tell, GiveOrder, Release, Map, Unmap, BeginCommit, EndCommit, Does, AreCalls, images_after, images_since, desk_after}
+use Rattle.wb_desk.specs.Commits.{commit_begun, commit_broken, commit_ended}
+use Rattle.wb_desk.specs.Safety.{HeldImages, DeskCall, TakeOrder, Tell, GiveOrder, Release, Map, Unmap, BeginCommit, EndCommit, BreakCommit, Does, AreCalls, images_after, images_since, desk_after}
 use Rattle.wb_desk.specs.Acting.{IsAllocation, spoken_of, as_given, order_in, rank_in, acts_of, acts_removing, acts_since}
 use Rattle.wb_desk.proofs.Acts.{all_kept, opened_kept}
 use Rattle.wb_desk.proofs.Entering.{entrance}
@@ -427,6 +427,21 @@ module _ {P : Type 0} where
     },
   )
 
+  break_follows : (d : DeskState P) (images : HeldImages) (a : Allocation) → IsAllocation d images a → Follows images a d BreakCommit (commit_broken d)
+  break_follows d images a s = (
+    tt,
+    record {
+      blocks = s.blocks;
+      mapping = s.mapping;
+      committed = s.committed;
+      running = s.running;
+      committing = s.committing;
+      threshold = s.threshold;
+      orders = s.orders;
+      sectors = s.sectors;
+    },
+  )
+
   call_follows : (knows : P → Holdings → Type 0) (d new : DeskState P) (call : DeskCall) (images : HeldImages) (a : Allocation) → DeskInvariant knows d → AreOrders d.orders → IsAllocation d images a
       → AllocationInvariant a → Does d call new → Follows images a d call new
   call_follows knows d new TakeOrder images a v r s i does = subst (λ (x : DeskState P). Follows images a d TakeOrder x) (sym does) (take_follows d images a s r)
@@ -441,6 +456,7 @@ module _ {P : Type 0} where
   call_follows knows d new BeginCommit images a v r s i does =
       subst (λ (x : DeskState P). Follows images a d BeginCommit x) (sym does.2) (begin_follows d images a new.tree s does.0.idle does.1)
   call_follows knows d new EndCommit images a v r s i does = subst (λ (x : DeskState P). Follows images a d EndCommit x) (sym does.1) (end_follows d images a s does.0)
+  call_follows knows d new BreakCommit images a v r s i does = subst (λ (x : DeskState P). Follows images a d BreakCommit x) (sym does) (break_follows d images a s)
 
   -- what holds of all live orders holds after each call
   orders_of : (new old : DeskState P) → new ≡ old → AreOrders old.orders → AreOrders new.orders
@@ -458,6 +474,7 @@ module _ {P : Type 0} where
   orders_kept d new (Unmap b c) does r = orders_of new (unmapped d c new.tree new.policy) does.3 (past_kept d.orders c (order_at d.orders.slots c.0) refl does.1 r)
   orders_kept d new BeginCommit does r = orders_of new (commit_begun d new.tree) does.2 r
   orders_kept d new EndCommit does r = orders_of new (commit_ended d) does.1 r
+  orders_kept d new BreakCommit does r = orders_of new (commit_broken d) does r
 
   -- ---- lists of calls
 

@@ -215,6 +215,7 @@ module _ {P : Type 0} (knows : P → Holdings → Type 0) where
         is.origins (same_some tree.entries d.tree.entries c is.origins)
         (each_left block_begun begins (holdings d) d.tree.entries d.space.blocks d.orders.slots d.geometry.cache_blocks i.each c l);
     counted = subst (λ (n : ℕ). (d.at_opening + d.promotions) % 2 ^ 64 ≡ (n + d.demotions) % 2 ^ 64) (sym (same_count tree.entries d.tree.entries is.origins)) i.counted;
+    numbered = i.numbered;
     known = subst (λ (m : Holdings). knows d.policy m) (sym is.origins) i.known;
   }
 
@@ -285,5 +286,6 @@ module _ {P : Type 0} (knows : P → Holdings → Type 0) where
     next = λ e. absurd cc;
     each = each_left block_ended ends (holdings d) d.tree.entries d.space.blocks d.orders.slots d.geometry.cache_blocks i.each;
     counted = i.counted;
+    numbered = omega (arith, i.numbered);
     known = i.known;
   }

@@ -270,6 +270,7 @@ module _ {P : Type 0} (knows : P → Holdings → Type 0) where
         (λ l. record { filled = refl; held = λ h. h; stands = tt }));
     counted = subst (λ (n : ℕ). (d.at_opening + (d.promotions + 1) % 2 ^ 64) % 2 ^ 64 ≡ (n + d.demotions) % 2 ^ 64) (sym (count_after d b c tree i may changed))
         (counted_more d.at_opening d.promotions (mapped_now d) d.demotions i.counted);
+    numbered = i.numbered;
     known = known;
   }
     where

@@ -117,6 +117,7 @@ module _ {P : Type 0} where
       next = i.next;
       each = each_taken (holdings d) d.tree.entries d.space.blocks d.orders.slots d.geometry.cache_blocks d.orders.waiting i.blocks i.slots i.each;
       counted = i.counted;
+      numbered = i.numbered;
       known = i.known;
     }
 
@@ -133,6 +134,7 @@ module _ {P : Type 0} where
           (one_changes (holdings d) d.tree.entries d.space.blocks d.orders.slots d.geometry.cache_blocks c.0 (new_block order (state d.space.blocks c.0)) (Some o) i.blocks i.slots i.each
           (λ l. new_right d c o (get_or d.tree.entries c.0 None) order refl m.lawful (order_at d.orders.slots c.0, i.each c.0 l)));
       counted = i.counted;
+      numbered = i.numbered;
       known = i.known;
     }
       where
@@ -153,6 +155,7 @@ module _ {P : Type 0} where
       each = one_changes (holdings d) d.tree.entries d.space.blocks d.orders.slots d.geometry.cache_blocks c.0 (block_released (state d.space.blocks c.0)) None i.blocks i.slots i.each
           (λ l. record { filled = same (state d.space.blocks c.0) ∙ (i.each c.0 l).filled; held = unclaimed (state d.space.blocks c.0); stands = tt });
       counted = i.counted;
+      numbered = i.numbered;
       known = i.known;
     }
       where

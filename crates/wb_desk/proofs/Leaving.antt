@@ -226,6 +226,7 @@ module _ {P : Type 0} (knows : P → Holdings → Type 0) where
         (λ k o other is names. names_still (holdings d) b.0 c.0 k (state d.space.blocks k) o.order at other names)
         (λ l. right_left (holdings d) b.0 c.0 (state d.space.blocks c.0) (order_at d.orders.slots c.0) at (stands_once d b.0 c.0 i at) removed (i.each c.0 l).stands))));
     counted = counted_less d.at_opening d.promotions (mapped_now d) (count_by is_some tree.entries) d.demotions (count_less d b.0 c.0 tree i at changed) i.counted;
+    numbered = i.numbered;
     known = known;
   }
     where

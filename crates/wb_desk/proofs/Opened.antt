@@ -48,6 +48,7 @@ opened_kept knows root tree used mode policy threshold mapped room fits known co
       (subst (λ (b : Block). IsRight (origins tree.entries) c (get_or tree.entries c None) b None) (sym (block c l))
       (opened_right (origins tree.entries) c (get_or tree.entries c None)));
   counted = ap (λ (n : ℕ). (n + 0) % 2 ^ 64) count;
+  numbered = omega arith;
   known = known;
 }
   where

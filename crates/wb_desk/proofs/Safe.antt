@@ -16,6 +16,7 @@ use Rattle.wb_types.specs.declared.number.OBlock.{OBlock}
 use Rattle.wb_types.specs.declared.number.CBlock.{CBlock}
 use Rattle.wb_types.specs.declared.number.Place.{Place}
 use Rattle.wb_tree.specs.Mapping.{Mapping}
+use Rattle.wb_tree.specs.declared.image.Image.{Image}
 use Rattle.wb_policy.specs.declared.order.Order.{Order}
 use Rattle.wb_policy.specs.declared.order.Order.TheVariants.{Promote, Replace, Demote, Clean}
 use Rattle.wb_policy.specs.Law.{Holdings, origins}
@@ -29,10 +30,11 @@ use Rattle.wb_desk.specs.Desks.{DeskState, DeskInvariant, IsGivenLawfully, IsFre
 use Rattle.wb_desk.specs.Calls.{blocks_reserved, reserved, released, next_order_taken}
 use Rattle.wb_desk.specs.Messages.{MessageIsTold}
 use Rattle.wb_desk.specs.Entries.{MayMap, MayUnmap, HasEntered, HasLeft, entry_of, mapped, unmapped, keeps}
-use Rattle.wb_desk.specs.Commits.{commit_begun, commit_ended}
+use Rattle.wb_desk.specs.Commits.{HasBegun, commit_begun, commit_broken, commit_ended}
 use Rattle.wb_desk.specs.Opening.{opened}
-use Rattle.wb_desk.specs.Safety.{HeldImages, AreSafe, DeskCall, TakeOrder, Tell, GiveOrder, Release, Map, Unmap, BeginCommit, EndCommit, Does, AreCalls, IsBeginning, AreDecisions, ComesByCalls, images_after, images_since, desk_after}
+use Rattle.wb_desk.specs.Safety.{HeldImages, AreSafe, DeskCall, TakeOrder, Tell, GiveOrder, Release, Map, Unmap, BeginCommit, EndCommit, BreakCommit, Does, AreCalls, IsBeginning, AreDecisions, ComesByCalls, images_after, images_since, desk_after}
 use Rattle.wb_desk.proofs.Index.{entry_for}
+use Rattle.wb_desk.proofs.Marking.{image_facts}
 use Rattle.wb_desk.proofs.Acts.{same_stays, stays_given_back, stays_begun, stays_ended, set_stays, from_block, block_sound, entry_sound, sound_given_back, sound_begun, sound_ended}
 
 -- the cache blocks beside the mapping and the images, with no order
@@ -149,6 +151,10 @@ module _ {P : Type 0} where
         (holdings_of new (commit_ended d) does.1) (ended_safe d.space.blocks (holdings d) images safe.each);
     idle = λ f. refl;
   }
+  call_safe knows d new BreakCommit images i does safe = record {
+    each = with_blocks new d.space.blocks (holdings d) images (blocks_of new (commit_broken d) does) (holdings_of new (commit_broken d) does) safe.each;
+    idle = still new (commit_broken d) images does safe.idle;
+  }
 
   pub calls_safe : (knows : P → Holdings → Type 0) (d : DeskState P) (calls : List (DeskCall × DeskState P)) (images : HeldImages) → AreCalls knows d calls → AreSafe d images
       → AreSafe (desk_after d calls) (images_since d images calls)
@@ -221,6 +227,7 @@ module _ {P : Type 0} where
       (subst (λ (x : Block). StaysQuarantined (Unit {0}) (ends BeginCommit) (state d.space.blocks c) x) (sym (get_or-map block_begun d.space.blocks c Free)) (stays_begun (Unit {0}) (ends BeginCommit) (state d.space.blocks c) tt))
   quarantine_stays knows d new EndCommit i does c = stays_by _ _ d new (map block_ended d.space.blocks) c (ap (λ (x : DeskState P). x.space.blocks) does.1)
       (subst (λ (x : Block). StaysQuarantined ⊥ (EndCommit ≡ EndCommit) (state d.space.blocks c) x) (sym (get_or-map block_ended d.space.blocks c Free)) (stays_ended ⊥ (EndCommit ≡ EndCommit) (state d.space.blocks c) refl))
+  quarantine_stays knows d new BreakCommit i does c = stays_by _ _ d new d.space.blocks c (ap (λ (x : DeskState P). x.space.blocks) does) (same_stays _ _ (state d.space.blocks c))
 
 -- ---- contracts
 
@@ -229,6 +236,9 @@ module _ {P : Type 0} where
   told_does with_setting d new (Set MigrationThreshold value) told = told.1 ∙ ap (λ (x : DeskState P). record d { threshold = x.threshold; policy = x.policy }) (sym told.1)
   told_does with_setting d new (Set PromoteMin value) told = told.1 ∙ ap (λ (x : DeskState P). record d { threshold = x.threshold; policy = x.policy }) (sym told.1)
   told_does with_setting d new (InvalidateCblocks ranges) told = told.2 ∙ ap (λ (x : DeskState P). record d { threshold = x.threshold; policy = x.policy }) (sym told.2)
+
+  pub begun_does : (hint_of : P → ℕ → ℕ) (clean : Option (List Bool)) (d : DeskState P) (image : Image) (new : DeskState P) → HasBegun hint_of clean d image new → Does d BeginCommit new
+  begun_does hint_of clean d image new begun = (begun.may, (image_facts (hint_of d.policy) clean d.tree new.tree _ _ image (λ m. refl) begun.image_is).origins, begun.state)
 
   pub mapped_does : (with_entry : P → ℕ → ℕ → P) (d new : DeskState P) (b : OBlock) (c : CBlock) → MayMap d b c → HasEntered with_entry d b c new → Does d (Map b c) new
   mapped_does with_entry d new b c may entered = (may, entered.0.entries, entered.1 ∙ ap (λ (p : P). mapped d c new.tree p) (sym (ap (λ (x : DeskState P). x.policy) entered.1)))

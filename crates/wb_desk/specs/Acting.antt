@@ -15,7 +15,7 @@ use Rattle.wb_desk.specs.Allocation.{LiveOrder, Allocation, AllocationInvariant,
 use Rattle.wb_desk.specs.Desks.{DeskState, holdings, sectors_asked}
 use Rattle.wb_desk.specs.Entries.{is_replacement}
 use Rattle.wb_desk.specs.Opening.{opened}
-use Rattle.wb_desk.specs.Safety.{HeldImages, DeskCall, TakeOrder, Tell, GiveOrder, Release, Map, Unmap, BeginCommit, EndCommit, AreCalls, images_since, desk_after}
+use Rattle.wb_desk.specs.Safety.{HeldImages, DeskCall, TakeOrder, Tell, GiveOrder, Release, Map, Unmap, BeginCommit, EndCommit, BreakCommit, AreCalls, images_since, desk_after}
 
 -- an order of a cache block, as the acts speak of it
 abbrev pub spoken_of : ℕ → Order → ℕ → ℕ → LiveOrder
@@ -68,6 +68,7 @@ acts_of a d (Map b c) new = MapBlock b.0 c.0 ∷ Over (rank_in a.orders c.0) ∷
 acts_of a d (Unmap b c) new = acts_removing (order_at d.orders.slots c.0) c.0 (rank_in a.orders c.0)
 acts_of a d BeginCommit new = Begin ∷ []
 acts_of a d EndCommit new = End ∷ []
+acts_of a d BreakCommit new = []
 
 -- what these calls are, one after the other
 abbrev pub acts_since : {P : Type 0} → Allocation → DeskState P → List (DeskCall × DeskState P) → List DeskAct

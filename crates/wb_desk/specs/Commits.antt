@@ -1,17 +1,20 @@
 -- What a commit makes of a desk, and when it is refused.
-use Rattle.std.specs.Prelude.{◌≡◌, ◌<◌, ◌+◌, ◌^◌, Bool, true, false, List, map, length}
+use Rattle.std.specs.Prelude.{◌≡◌, ◌<◌, ◌≤◌, ◌+◌, ◌^◌, ℕ, Bool, true, false, List, Option, is_some, map, length}
+use Rattle.wb_types.specs.Limits.{node_count}
 use Rattle.wb_types.specs.declared.number.Place.{Place}
 use Rattle.wb_types.specs.declared.refusal.Refusal.{Refusal}
 use Rattle.wb_types.specs.declared.refusal.Refusal.TheVariants.{Busy, Memory, GenerationEnd}
 use Rattle.wb_tree.specs.Mapping.{Mapping, used_places}
-use Rattle.wb_tree.specs.Images.{ImagePlan}
+use Rattle.wb_tree.specs.Images.{ImagePlan, IsImage}
 use Rattle.wb_tree.specs.declared.image.Image.{Image}
 use Rattle.wb_space.specs.Blocks.{commit_begun as block_begun, commit_ended as block_ended}
 use Rattle.wb_space.specs.Spaces.{Spaces}
 use Rattle.wb_space.specs.Places.{noted, unused, place_count}
 use Rattle.wb_meta.specs.Imaging.{IsPlanned}
+use Rattle.wb_meta.specs.Placing.{HavePlaces}
 use Rattle.wb_desk.specs.Desks.{DeskState}
 use Rattle.wb_desk.specs.InUse.{places_for}
+use Rattle.wb_desk.specs.Marks.{OfImaged}
 
 -- A commit may begin: none runs, and there is a next generation.
 pub record MayBegin {P : Type 0} (d : DeskState P) : Type 0 where
@@ -57,6 +60,16 @@ abbrev pub IsOnUnused : {P : Type 0} → DeskState P → Mapping → Mapping →
 IsOnUnused d imaged tree clean image = (used : List Place) → d.space.places.committed ≡ noted used (unused (place_count d.geometry.cache_blocks))
     → IsPlanned imaged tree (next_plan d imaged clean) image used
 
+-- A commit of this image began: of the entries as they are, or, where dirty bits are given, a clean one whose entries have these bits, by
+-- cache block, and the policy's hints.
+pub record HasBegun {P : Type 0} (hint_of : P → ℕ → ℕ) (clean : Option (List Bool)) (d : DeskState P) (image : Image) (new : DeskState P) : Type 0 where
+  pub may : MayBegin d
+  pub state : new ≡ commit_begun d new.tree
+  pub image_is : OfImaged (hint_of d.policy) clean d.tree (λ imaged. IsImage imaged new.tree (next_plan d imaged (is_some clean)) image)
+  pub unused : OfImaged (hint_of d.policy) clean d.tree (λ imaged. IsOnUnused d imaged new.tree (is_some clean) image)
+  pub few : length image.nodes.items ≤ node_count d.geometry.cache_blocks
+  pub places : HavePlaces image.nodes.items d.geometry.meta_sectors
+
 -- The running commit ends: its image is the committed one, by the next generation, and what was removed before it began is
 -- free, or reserved where it is claimed.
 abbrev pub commit_ended : {P : Type 0} → DeskState P → DeskState P
@@ -69,4 +82,9 @@ commit_ended d = record d {
   generation = d.generation + 1;
   nodes = d.coming;
   coming = 0;
+  ended = d.ended + 1;
 }
+
+-- No commit covers a flush any more but those that ended.
+abbrev pub commit_broken : {P : Type 0} → DeskState P → DeskState P
+commit_broken d = record d { broken = true }

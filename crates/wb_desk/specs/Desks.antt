@@ -1,5 +1,5 @@
 -- What a caller sees of a desk, and what holds of it.
-use Rattle.std.specs.Prelude.{◌≡◌, ◌≢◌, ◌<◌, ◌+◌, ◌*◌, ◌%◌, ◌^◌, ◌⊎◌, ℕ, Bool, true, false, List, Option, Some, None, is_some, length, slice_get, slice_index_or}
+use Rattle.std.specs.Prelude.{◌≡◌, ◌≢◌, ◌<◌, ◌≤◌, ◌+◌, ◌*◌, ◌%◌, ◌^◌, ◌⊎◌, ℕ, Bool, true, false, List, Option, Some, None, is_some, length, slice_get, slice_index_or}
 use Rattle.std.specs.List.{count_by}
 use Rattle.wb_types.specs.declared.entry.Entry.{Entry}
 use Rattle.wb_types.specs.declared.geometry.Geometry.{Geometry}
@@ -38,6 +38,10 @@ pub record DeskState (P : Type 0) : Type 0 where
   pub at_opening : ℕ
   pub promotions : ℕ
   pub demotions : ℕ
+  -- the commits that ended since the opening; the running one's number is one more
+  pub ended : ℕ
+  -- whether no commit covers further flushes, as one failed
+  pub broken : Bool
 
 -- which origin block each cache block holds
 abbrev pub holdings : {P : Type 0} → DeskState P → Holdings
@@ -133,5 +137,7 @@ pub record DeskInvariant {P : Type 0} (knows : P → Holdings → Type 0) (d : D
       → IsRight (holdings d) c (slice_index_or d.tree.entries c None) (state d.space.blocks c) (order_at d.orders.slots c)
   -- promotions less demotions are the blocks mapped now less those at the opening
   pub counted : (d.at_opening + d.promotions) % 2 ^ 64 ≡ (mapped_now d + d.demotions) % 2 ^ 64
+  -- each commit that ended made a generation
+  pub numbered : d.ended ≤ d.generation
   -- the policy was told of the mapping
   pub known : knows d.policy (holdings d)

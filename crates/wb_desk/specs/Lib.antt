@@ -2,8 +2,8 @@ pub mod Allocation
 pub mod InUse
 pub mod Desks
 pub mod Calls
-pub mod Commits
 pub mod Marks
+pub mod Commits
 pub mod Entries
 pub mod Settling
 pub mod Decisions
@@ -11,4 +11,5 @@ pub mod Fields
 pub mod Opening
 pub mod Safety
 pub mod Acting
+pub mod Sharing
 pub mod Messages

@@ -50,6 +50,8 @@ opened geometry generation tree used mode policy threshold mapped = record {
   at_opening = mapped;
   promotions = 0;
   demotions = 0;
+  ended = 0;
+  broken = false;
 }
 
 -- the policy with the value of its setting, if one is named

@@ -1,5 +1,5 @@
 -- What the calls of a desk make of its images, which no field holds, and which cache blocks no image has.
-use Rattle.std.specs.Prelude.{◌≡◌, false, true, ℕ, Bool, List, [], ◌∷◌, Option, Some, None, is_some, slice_set}
+use Rattle.std.specs.Prelude.{◌≡◌, false, true, ℕ, Bool, List, [], ◌∷◌, Option, Some, None, slice_set}
 use Rattle.wb_types.specs.declared.geometry.Geometry.{Geometry}
 use Rattle.wb_types.specs.declared.message.Key.{Key}
 use Rattle.wb_types.specs.declared.message.Message.{Message}
@@ -8,7 +8,6 @@ use Rattle.wb_types.specs.declared.number.CBlock.{CBlock}
 use Rattle.wb_types.specs.declared.number.OBlock.{OBlock}
 use Rattle.wb_types.specs.declared.number.Place.{Place}
 use Rattle.wb_tree.specs.Mapping.{Mapping}
-use Rattle.wb_tree.specs.Images.{IsImage}
 use Rattle.wb_tree.specs.declared.image.Image.{Image}
 use Rattle.wb_policy.specs.declared.order.Order.{Order}
 use Rattle.wb_policy.specs.Law.{Holdings, IsMappedAt, origins}
@@ -18,8 +17,7 @@ use Rattle.wb_desk.specs.Allocation.{ImageSafe, StaysQuarantined, origin_in}
 use Rattle.wb_desk.specs.Desks.{DeskState, DeskInvariant, MayReserve, IsLive, holdings}
 use Rattle.wb_desk.specs.Calls.{reserved, released, next_order_taken}
 use Rattle.wb_desk.specs.Entries.{MayMap, MayUnmap, HasEntered, HasLeft, IsRemoved, entry_of, mapped, unmapped}
-use Rattle.wb_desk.specs.Marks.{OfImaged}
-use Rattle.wb_desk.specs.Commits.{MayBegin, next_plan, commit_begun, commit_ended}
+use Rattle.wb_desk.specs.Commits.{HasBegun, MayBegin, commit_begun, commit_broken, commit_ended}
 use Rattle.wb_desk.specs.Messages.{MessageIsTold}
 use Rattle.wb_desk.specs.Opening.{opened}
 
@@ -44,6 +42,7 @@ pub data DeskCall : Type 0 where
   Unmap : (block : OBlock) (cache : CBlock) → DeskCall
   BeginCommit : DeskCall
   EndCommit : DeskCall
+  BreakCommit : DeskCall
 
 -- A call may be made of a desk, and makes this one of it: as the contracts of the calls say.
 abbrev pub Does : {P : Type 0} → DeskState P → DeskCall → DeskState P → Type 0
@@ -55,6 +54,7 @@ Does d (Map b cache) new = MayMap d b cache × (new.tree.entries ≡ slice_set d
 Does d (Unmap b cache) new = IsMappedAt (holdings d) b.0 cache.0 × IsRemoved (order_at d.orders.slots cache.0) × (new.tree.entries ≡ slice_set d.tree.entries cache.0 None) × (new ≡ unmapped d cache new.tree new.policy)
 Does d BeginCommit new = MayBegin d × (holdings new ≡ holdings d) × (new ≡ commit_begun d new.tree)
 Does d EndCommit new = (d.space.committing ≡ true) × (new ≡ commit_ended d)
+Does d BreakCommit new = new ≡ commit_broken d
 
 -- A commit that begins has the entries of now in its image; one that ends leaves its image alone.
 abbrev pub images_after : {P : Type 0} → DeskState P → HeldImages → DeskCall → HeldImages
@@ -66,6 +66,7 @@ images_after d images (Map b cache) = images
 images_after d images (Unmap b cache) = images
 images_after d images BeginCommit = record { committed = images.committed; running = holdings d }
 images_after d images EndCommit = record { committed = images.running; running = images.running }
+images_after d images BreakCommit = images
 
 -- calls, each with the desk that it made, one after the other
 abbrev pub AreCalls : {P : Type 0} → (P → Holdings → Type 0) → DeskState P → List (DeskCall × DeskState P) → Type 0
@@ -92,6 +93,7 @@ IsDecision (Map b cache) = ⊥
 IsDecision (Unmap b cache) = ⊥
 IsDecision BeginCommit = ⊥
 IsDecision EndCommit = ⊥
+IsDecision BreakCommit = ⊥
 
 abbrev pub AreDecisions : {P : Type 0} → List (DeskCall × DeskState P) → Type 0
 AreDecisions [] = Unit {0}
@@ -123,6 +125,7 @@ IsBeginning (Map b cache) = ⊥
 IsBeginning (Unmap b cache) = ⊥
 IsBeginning BeginCommit = Unit {0}
 IsBeginning EndCommit = ⊥
+IsBeginning BreakCommit = ⊥
 
 abbrev pub QuarantineStays : (P : Type 0) → (P → Holdings → Type 0) → Type 0
 QuarantineStays P knows = (d new : DeskState P) (call : DeskCall) → DeskInvariant knows d → Does d call new → (c : ℕ)
@@ -130,9 +133,7 @@ QuarantineStays P knows = (d new : DeskState P) (call : DeskCall) → DeskInvari
 
 -- What the contracts of the calls say is that they do so.
 abbrev pub BeginningDoes : (P : Type 0) → (P → ℕ → ℕ) → Type 0
-BeginningDoes P hint_of = (d new : DeskState P) (clean : Option (List Bool)) (image : Image) → MayBegin d
-    → OfImaged (hint_of d.policy) clean d.tree (λ imaged. IsImage imaged new.tree (next_plan d imaged (is_some clean)) image) → new ≡ commit_begun d new.tree
-    → Does d BeginCommit new
+BeginningDoes P hint_of = (d new : DeskState P) (clean : Option (List Bool)) (image : Image) → HasBegun hint_of clean d image new → Does d BeginCommit new
 
 abbrev pub MappingDoes : (P : Type 0) → (P → ℕ → ℕ → P) → Type 0
 MappingDoes P with_entry = (d new : DeskState P) (b : OBlock) (c : CBlock) → MayMap d b c → HasEntered with_entry d b c new → Does d (Map b c) new
@@ -154,3 +155,6 @@ ReleasingDoes P = (d new : DeskState P) (order : Order) (live : IsLive d order) 
 
 abbrev pub EndingDoes : Type 0 → Type 0
 EndingDoes P = (d new : DeskState P) → d.space.committing ≡ true → new ≡ commit_ended d → Does d EndCommit new
+
+abbrev pub BreakingDoes : Type 0 → Type 0
+BreakingDoes P = (d new : DeskState P) → new ≡ commit_broken d → Does d BreakCommit new

@@ -18,6 +18,9 @@ mod commit;
 mod imaging;
 mod mapping;
 mod settling;
+mod sharing;
+
+pub use sharing::{Arrival, Asked, Receipt, Ticket};
 
 use crate::Counts;
 use crate::invalidating::may_invalidate;
@@ -58,6 +61,10 @@ pub struct Desk<P: Policy> {
     at_opening: u32,
     promotions: u64,
     demotions: u64,
+    /// The commits that ended since the opening.
+    ended: u64,
+    /// Whether a commit failed, so that no flush is covered any more but by those that ended.
+    broken: bool,
 }
 
 impl<P: Policy> Drop for Desk<P> {
@@ -79,6 +86,8 @@ impl<P: Policy> Drop for Desk<P> {
             at_opening: _,
             promotions: _,
             demotions: _,
+            ended: _,
+            broken: _,
         } = self;
         drop(tree);
         drop(cached);
@@ -109,6 +118,8 @@ impl<P: Policy> Model for Desk<P> {
       at_opening = d.at_opening;
       promotions = d.promotions;
       demotions = d.demotions;
+      ended = d.ended;
+      broken = d.broken;
     } };
 
     ghost invariant = { λ d. AreParts P.knows (record {
@@ -125,6 +136,8 @@ impl<P: Policy> Model for Desk<P> {
       at_opening = d.at_opening;
       promotions = d.promotions;
       demotions = d.demotions;
+      ended = d.ended;
+      broken = d.broken;
     }) d.cached.items d.left d.mapped };
 }
 
@@ -179,6 +192,8 @@ impl<P: Policy> Desk<P> {
             at_opening: count,
             promotions: 0,
             demotions: 0,
+            ended: 0,
+            broken: false,
         })
     }
 

@@ -3,9 +3,10 @@
 ghost use Rattle.std.specs.Prelude.{◌≡◌, ◌≢◌, ◌⊎◌, ℕ, List, Some};
 ghost use Rattle.wb_desk.specs.Allocation.{Allocation, DeskAct, AllocationInvariant, IsActRun, after_acts, after_act, DeskMayAct, StaysOrEnds, NoneTwice, BlockMap, at_opening, origin_in};
 ghost use Rattle.wb_space.specs.Blocks.{state};
-ghost use Rattle.wb_desk.specs.Safety.{OpenedIsSafe, CallsAreSafe, QuarantineStays, BeginningDoes, MappingDoes, UnmappingDoes, TellingDoes, TakingDoes, ReservingDoes, ReleasingDoes, EndingDoes};
+ghost use Rattle.wb_desk.specs.Safety.{OpenedIsSafe, CallsAreSafe, QuarantineStays, BeginningDoes, MappingDoes, UnmappingDoes, TellingDoes, TakingDoes, ReservingDoes, ReleasingDoes, EndingDoes, BreakingDoes};
 ghost use Rattle.wb_desk.specs.Marks.{SameMarksChangeNoNode};
 ghost use Rattle.wb_desk.specs.Acting.{OpenedDeskBegins, CallsAreActs};
+ghost use Rattle.wb_desk.specs.Sharing.{ServedByLaterCommits, ServedStays, BrokenStays, ArrivingDoes, AskingDoes};
 
 use wb_policy::Policy;
 use wb_space::Block;
@@ -46,6 +47,7 @@ pub fn images_stay_safe<P: Policy>()
     ensures reserving { ReservingDoes P }
     ensures releasing { ReleasingDoes P }
     ensures ending { EndingDoes P }
+    ensures breaking { BreakingDoes P }
 {}
 
 /// What a desk and its images are after every list of calls, as the acts speak of them. So all that
@@ -57,6 +59,19 @@ pub fn images_stay_safe<P: Policy>()
 pub fn calls_are_acts<P: Policy>()
     ensures opening { OpenedDeskBegins P }
     ensures calls { CallsAreActs P P.knows }
+{}
+
+/// Which commit covers a flush, over every list of calls.
+///
+/// `served`: a ticket is served only by a commit that began after its holder came, with all that was in the mapping then. `stays`:
+/// one that is served stays so. `broken`: after `break_commit` no commit begins for a flush again. `arriving`, `asking`: a flush
+/// begins a commit as `begin_commit` does, or changes nothing; so what holds over every list of calls holds over it.
+pub fn flushes_share_commits<P: Policy>()
+    ensures served { ServedByLaterCommits P P.knows }
+    ensures stays { ServedStays P P.knows }
+    ensures broken { BrokenStays P P.knows }
+    ensures arriving { ArrivingDoes P P.hint_of }
+    ensures asking { AskingDoes P P.hint_of }
 {}
 
 /// A clean image writes the nodes that had changed before, and those above an entry whose dirty bit or hint is another now. So

@@ -11,8 +11,9 @@ mod opening;
 
 pub use counts::Counts;
 pub use decisions::decisions_law;
-pub use desk::Desk;
+pub use desk::{Arrival, Asked, Desk, Receipt, Ticket};
 pub use invalidating::may_invalidate;
 pub use law::{
-    allocation_keeps_its_invariant, calls_are_acts, images_stay_safe, same_marks_change_no_node,
+    allocation_keeps_its_invariant, calls_are_acts, flushes_share_commits, images_stay_safe,
+    same_marks_change_no_node,
 };

@@ -9,8 +9,10 @@ mod decisions;
 mod memory;
 mod messages;
 mod orders;
+mod sharing;
 mod ticks;
 
+use sharing::Flush;
 use std::alloc::Global;
 use wb_desk::Desk;
 use wb_format::Root;
@@ -147,6 +149,8 @@ enum Call {
     Holds(u32, Holding),
     /// Where a block of the origin is cached.
     Stands(u32, Option<u32>),
+    /// Flushes that come and ask, one after the other.
+    Flushes(&'static [Flush]),
     /// How many nodes a clean image writes that marks the last cache block dirty, and none of the others.
     Marked(usize),
 }
@@ -217,6 +221,7 @@ fn is_done<P: Policy>(desk: &mut Desk<P>, alloc: Global, call: Call) -> Result<b
         Call::Entry(c, entry) => Ok(has_entry(desk, c, entry)),
         Call::Holds(c, holding) => Ok(is_held_for(desk, c, holding)),
         Call::Stands(b, place) => Ok(desk.place(OBlock(b)) == place.map(CBlock)),
+        Call::Flushes(flushes) => sharing::are_told(desk, alloc, flushes),
         Call::Marked(nodes) => clean::writes_of_one_mark(desk, alloc, nodes),
     }
 }

@@ -1,12 +1,9 @@
 //! The commits of a desk.
 
-ghost use Rattle.std.specs.Prelude.{◌≡◌, ◌<◌, ◌≤◌, ◌+◌, ◌^◌, true, false, IfOk, IfErr, OnErr, is_some, length, map};
+ghost use Rattle.std.specs.Prelude.{◌≡◌, ◌<◌, ◌+◌, ◌^◌, true, false, IfOk, IfErr, OnErr, length, map};
 ghost use Rattle.std.specs.Option.{IfSome, IfNone, option_map};
 ghost use Rattle.wb_types.specs.Limits.{node_count};
-ghost use Rattle.wb_meta.specs.Placing.{HavePlaces};
-ghost use Rattle.wb_tree.specs.Images.{IsImage};
-ghost use Rattle.wb_desk.specs.Marks.{OfImaged};
-ghost use Rattle.wb_desk.specs.Commits.{MayBegin, IsBeginRefused, IsOnUnused, next_plan, space_begun, commit_begun, commit_ended};
+ghost use Rattle.wb_desk.specs.Commits.{HasBegun, IsBeginRefused, space_begun, commit_ended};
 ghost use Rattle.wb_space.specs.Places.{noted, unused, without};
 
 use super::Desk;
@@ -35,14 +32,7 @@ impl<P: Policy> Desk<P> {
     /// the cache blocks.
     pub fn begin_commit(&mut self, alloc: Global, clean: Option<&[bool]>) -> Result<Image, Refusal>
         requires { IfSome clean (λ dirty. length dirty.now ≡ self.old.geometry.cache_blocks) }
-        ensures may { IfOk result (λ _. MayBegin self.old) }
-        ensures state { IfOk result (λ _. self.new ≡ commit_begun self.old self.new.tree) }
-        ensures image { IfOk result (λ image. OfImaged (P.hint_of self.old.policy) (option_map (λ dirty. dirty.now) clean.entry) self.old.tree (λ imaged.
-            IsImage imaged self.new.tree (next_plan self.old imaged (is_some clean.entry)) image)) }
-        ensures unused { IfOk result (λ image. OfImaged (P.hint_of self.old.policy) (option_map (λ dirty. dirty.now) clean.entry) self.old.tree (λ imaged.
-            IsOnUnused self.old imaged self.new.tree (is_some clean.entry) image)) }
-        ensures few { IfOk result (λ image. length image.nodes.items ≤ node_count self.old.geometry.cache_blocks) }
-        ensures places { IfOk result (λ image. HavePlaces image.nodes.items self.old.geometry.meta_sectors) }
+        ensures begun { IfOk result (λ image. HasBegun P.hint_of (option_map (λ dirty. dirty.now) clean.entry) self.old image self.new) }
         ensures err { OnErr result (self.new ≡ self.old) }
         ensures refused { IfErr result (IsBeginRefused self.old) }
     {
@@ -82,14 +72,15 @@ impl<P: Policy> Desk<P> {
         self.geometry.node_count()
     }
 
-    /// Ends the running commit, all of which was written and synced: its image is the committed one. What was removed
-    /// before it began is free, or reserved where a live replacement is to fill it.
+    /// Ends the running commit, all of which was written and synced: its image is the committed one, and one commit more has ended.
+    /// What was removed before it began is free, or reserved where a live replacement is to fill it.
     pub fn end_commit(&mut self)
         requires { self.old.space.committing ≡ true }
         ensures { self.new ≡ commit_ended self.old }
     {
         self.space.end();
         self.generation = next(self.generation);
+        self.ended = next(self.ended);
         self.nodes = self.coming;
         self.coming = 0;
     }
@@ -118,10 +109,10 @@ fn begin_space(
     }
 }
 
-/// The generation that comes after one that is not the last.
-fn next(generation: u64) -> u64
-    requires { generation + 1 < 2 ^ 64 }
-    ensures { result ≡ generation + 1 }
+/// The number that comes after one that is not the last, of a generation or a commit.
+fn next(number: u64) -> u64
+    requires { number + 1 < 2 ^ 64 }
+    ensures { result ≡ number + 1 }
 {
-    1 + generation
+    1 + number
 }

@@ -1,6 +1,4 @@
-use Rattle.std.proofs.Common.{refl}
-use Rattle.wb_desk.proofs.Safe.{opened_safe, calls_safe, quarantine_stays, mapped_does, unmapped_does, told_does, released_does}
-use Rattle.wb_desk.proofs.Marking.{image_facts}
+use Rattle.wb_desk.proofs.Safe.{opened_safe, begun_does, calls_safe, quarantine_stays, mapped_does, unmapped_does, told_does, released_does}
 use Rattle.wb_desk.proofs.law.images_stay_safe.Goals as goal
 
 pub returns-clause-opening : goal.returns-clause-opening
@@ -13,7 +11,7 @@ pub returns-clause-quarantine : goal.returns-clause-quarantine
 returns-clause-quarantine g c = λ d new call i does k. quarantine_stays g.P.Policy.knows d new call i does k
 
 pub returns-clause-beginning : goal.returns-clause-beginning
-returns-clause-beginning g c = λ d new clean image may is e. (may, (image_facts (g.P.Policy.hint_of d.policy) clean d.tree new.tree _ _ image (λ m. refl) is).origins, e)
+returns-clause-beginning g c = λ d new clean image begun. begun_does g.P.Policy.hint_of clean d image new begun
 
 pub returns-clause-mapping : goal.returns-clause-mapping
 returns-clause-mapping g c = mapped_does g.P.Policy.with_entry
@@ -35,3 +33,6 @@ returns-clause-releasing g c = released_does
 
 pub returns-clause-ending : goal.returns-clause-ending
 returns-clause-ending g c = λ d new runs is. (runs, is)
+
+pub returns-clause-breaking : goal.returns-clause-breaking
+returns-clause-breaking g c = λ d new is. is

@@ -8,7 +8,7 @@ use Rattle.wb_space.specs.Places.{unused}
 use Rattle.wb_meta.specs.Placing.{HavePlaces}
 use Rattle.wb_desk.specs.Desks.{DeskState}
 use Rattle.wb_desk.specs.Marks.{OfImaged}
-use Rattle.wb_desk.specs.Commits.{IsOnUnused, commit_begun, next_plan}
+use Rattle.wb_desk.specs.Commits.{HasBegun, commit_begun}
 use Rattle.wb_desk.proofs.Marking.{by_imaged, few_nodes, image_facts}
 use Rattle.wb_desk.proofs.Committing.{begun_parts, begun_space, free_for, image_for, left_size, length_flags, on_unused, still_some}
 use Rattle.wb_desk.proofs.desk.Desk.begin_commit.Goals as goal
@@ -30,35 +30,19 @@ invariant_of-self-2 g c =
     c.self.invariant (record { idle = idle; next = omega arith })
     (image_facts _ _ c.self.inside.tree c.plan.new.tree _ _ c.in_ok-image.image (λ m. refl) c.in_ok-image.ensures.image) c.in_ok-image.ensures.mapping c.in_ok-image.ensures.sound c.in_ok-image.ensures.inside)
 
-pub returns-clause-state : goal.returns-clause-state
-returns-clause-state g c =
+pub returns-clause-begun : goal.returns-clause-begun
+returns-clause-begun g c =
     let idle = sym c.is_committing.ensures ∙ c.if-is_committing.false in
     let many : c.known_nodes-self-inside.result ≡ length (used_places c.plan.new.tree) = c.known_nodes-self-inside.ensures.known ∙ sym (length-map c.plan.new.tree.known (λ node. node.place)) in
     let space = begun_space g.P.Policy.knows _ c.plan.new.tree _ c.in_ok-image.image c.self.inside.left _ _ c.in_ok-image.used c.begin_space.new.space c.self.invariant.desk idle c.self.invariant.have_left c.in_ok-image.ensures.image
     (c.in_ok-image.ensures.marked ∙ still_some (λ dirty. dirty.now) c.args.clean) c.in_ok-image.ensures.used c.begin_space.ensures.listed (rw (← c.deref.ensures.value) c.begin_space.ensures.changed) in
-    rw (space, many) (ap (λ (d : DeskState _). commit_begun d c.plan.new.tree) c.self.view_is)
-
-pub returns-clause-image : goal.returns-clause-image
-returns-clause-image g c =
-    subst (λ (d : DeskState _). OfImaged (g.P.Policy.hint_of d.policy) (option_map (λ dirty. dirty.now) c.args.clean) d.tree (λ m. IsImage m c.plan.new.tree (next_plan d m (is_some c.args.clean)) c.in_ok-image.image)) c.self.view_is
-    (image_for g.P.Policy.knows _ _ _ _ c.plan.new.tree c.in-Some.generation c.in_ok-image.image c.self.invariant.desk (omega arith) c.in_ok-image.ensures.image)
-
-pub returns-clause-unused : goal.returns-clause-unused
-returns-clause-unused g c =
-    let idle = sym c.is_committing.ensures ∙ c.if-is_committing.false in
-    subst (λ (d : DeskState _). OfImaged (g.P.Policy.hint_of d.policy) (option_map (λ dirty. dirty.now) c.args.clean) d.tree (λ m. IsOnUnused d m c.plan.new.tree (is_some c.args.clean) c.in_ok-image.image)) c.self.view_is
-    (on_unused g.P.Policy.knows _ _ _ _ c.plan.new.tree c.in_ok-image.image c.self.invariant.desk idle
-    (image_for g.P.Policy.knows _ _ _ _ c.plan.new.tree c.in-Some.generation c.in_ok-image.image c.self.invariant.desk (omega arith) c.in_ok-image.ensures.image)
-    c.in_ok-image.ensures.mapping c.in_ok-image.ensures.sound c.in_ok-image.ensures.inside)
-
-pub returns-clause-few : goal.returns-clause-few
-returns-clause-few g c =
-    subst (λ (d : DeskState _). length c.in_ok-image.image.nodes.items ≤ node_count d.geometry.cache_blocks) c.self.view_is
-    (by_imaged _ _ _ _ _ _ (λ m edited size is. few_nodes m c.plan.new.tree _ c.in_ok-image.image is size) c.self.invariant.desk.mapping.size c.in_ok-image.ensures.image)
-
-pub returns-clause-places : goal.returns-clause-places
-returns-clause-places g c =
-    let idle = sym c.is_committing.ensures ∙ c.if-is_committing.false in
-    subst (λ (d : DeskState _). HavePlaces c.in_ok-image.image.nodes.items d.geometry.meta_sectors) c.self.view_is
-    (by_imaged _ _ _ _ _ _ (λ m edited size is. c.image_law.ensures.places m c.plan.new.tree _ c.in_ok-image.image (free_for g.P.Policy.knows _ c.self.invariant.desk idle m edited size) is)
-    c.self.invariant.desk.mapping.size c.in_ok-image.ensures.image)
+    let is = image_for g.P.Policy.knows _ _ _ _ c.plan.new.tree c.in-Some.generation c.in_ok-image.image c.self.invariant.desk (omega arith) c.in_ok-image.ensures.image in
+    rw (space, many) (subst (λ (d : DeskState _). HasBegun g.P.Policy.hint_of (option_map (λ dirty. dirty.now) c.args.clean) d c.in_ok-image.image (commit_begun d c.plan.new.tree)) c.self.view_is (record {
+      may = record { idle = idle; next = omega arith };
+      state = refl;
+      image_is = is;
+      unused = on_unused g.P.Policy.knows _ _ _ _ c.plan.new.tree c.in_ok-image.image c.self.invariant.desk idle is c.in_ok-image.ensures.mapping c.in_ok-image.ensures.sound c.in_ok-image.ensures.inside;
+      few = by_imaged _ _ _ _ _ _ (λ m edited size is. few_nodes m c.plan.new.tree _ c.in_ok-image.image is size) c.self.invariant.desk.mapping.size c.in_ok-image.ensures.image;
+      places = by_imaged _ _ _ _ _ _ (λ m edited size is. c.image_law.ensures.places m c.plan.new.tree _ c.in_ok-image.image (free_for g.P.Policy.knows _ c.self.invariant.desk idle m edited size) is)
+          c.self.invariant.desk.mapping.size c.in_ok-image.ensures.image;
+    }))
