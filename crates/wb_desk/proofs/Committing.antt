@@ -28,13 +28,14 @@ use Rattle.wb_orders.specs.declared.live_order.LiveOrder.{LiveOrder}
 use Rattle.wb_orders.specs.Orders.{order_at}
 use Rattle.wb_tree.proofs.Stored.Edited.{places-edited}
 use Rattle.wb_meta.specs.Imaging.{AreUnusedFor}
+use Rattle.wb_meta.specs.Laws.{ImageHasPlaces}
 use Rattle.wb_meta.proofs.Round.{free_of_unused}
 use Rattle.wb_desk.specs.InUse.{AreFlagged, places_for}
 use Rattle.wb_desk.specs.Desks.{DeskState, DeskInvariant, IsRight, NamesWhatIs, Names, holdings, is_mapped}
 use Rattle.wb_desk.specs.Fields.{IsIndex, AreParts, newest_places}
 use Rattle.wb_desk.specs.Marks.{OfImaged}
-use Rattle.wb_desk.proofs.Marking.{ImageFacts, of_imaged, same_some, same_count}
-use Rattle.wb_desk.specs.Commits.{MayBegin, IsOnUnused, next_plan, space_begun, commit_begun, commit_ended}
+use Rattle.wb_desk.proofs.Marking.{ImageFacts, by_imaged, few_nodes, of_imaged, same_some, same_count}
+use Rattle.wb_desk.specs.Commits.{HasBegun, MayBegin, IsOnUnused, next_plan, space_begun, commit_begun, commit_ended}
 use Rattle.wb_desk.proofs.Acts.{kept_begun, kept_ended}
 use Rattle.wb_desk.proofs.FreePlaces.{unused_places}
 
@@ -176,13 +177,13 @@ module _ {P : Type 0} (knows : P → Holdings → Type 0) where
       (unused_for d m i.places.committed.used i idle size i.places.committed.are)
 
   -- the image that was planned with the next generation
-  pub image_for : (d : DeskState P) (hint : ℕ → ℕ) (clean : Option (List Bool)) (flag : Bool) (tree : Mapping) (generation : ℕ) (image : Image) → DeskInvariant knows d → generation ≡ d.generation + 1
+  image_for : (d : DeskState P) (hint : ℕ → ℕ) (clean : Option (List Bool)) (flag : Bool) (tree : Mapping) (generation : ℕ) (image : Image) → DeskInvariant knows d → generation ≡ d.generation + 1
       → OfImaged hint clean d.tree (λ m. IsImage m tree (record { geometry = d.geometry; generation = generation; clean = flag; free = places_for m d.geometry d.space.places }) image)
       → OfImaged hint clean d.tree (λ m. IsImage m tree (next_plan d m flag) image)
   image_for d hint clean flag tree generation image i next is = of_imaged hint clean d.tree _ _
       (λ m is. subst (λ (n : ℕ). IsImage m tree (record { geometry = d.geometry; generation = n; clean = flag; free = places_for m d.geometry d.space.places }) image) next is) is
 
-  pub on_unused : (d : DeskState P) (hint : ℕ → ℕ) (clean : Option (List Bool)) (flag : Bool) (tree : Mapping) (image : Image) → DeskInvariant knows d → d.space.committing ≡ false
+  on_unused : (d : DeskState P) (hint : ℕ → ℕ) (clean : Option (List Bool)) (flag : Bool) (tree : Mapping) (image : Image) → DeskInvariant knows d → d.space.committing ≡ false
       → OfImaged hint clean d.tree (λ m. IsImage m tree (next_plan d m flag) image) → IsMapping d.geometry.cache_blocks d.geometry.origin_blocks tree.entries
       → IsSound tree → AreInside d.geometry.meta_sectors tree → OfImaged hint clean d.tree (λ m. IsOnUnused d m tree flag image)
   on_unused d hint clean flag tree image i idle is mapping sound inside = of_imaged hint clean d.tree _ _ (λ m is used are.
@@ -194,6 +195,32 @@ module _ {P : Type 0} (knows : P → Holdings → Type 0) where
         sound = sound;
         inside = inside;
       }) is
+
+  -- The image that was planned is that of a commit that begins.
+  pub has_begun : {Bits : Type 0} (of : Bits → List Bool) (d : DeskState P) (hint_of : P → ℕ → ℕ) (clean : Option Bits) (tree : Mapping) (generation : ℕ) (image : Image) → DeskInvariant knows d → MayBegin d
+      → generation ≡ d.generation + 1 → ImageHasPlaces
+      → OfImaged (hint_of d.policy) (option_map of clean) d.tree (λ m. IsImage m tree (record { geometry = d.geometry; generation = generation; clean = is_some clean; free = places_for m d.geometry d.space.places }) image)
+      → IsMapping d.geometry.cache_blocks d.geometry.origin_blocks tree.entries → IsSound tree → AreInside d.geometry.meta_sectors tree → HasBegun hint_of (option_map of clean) d image (commit_begun d tree)
+  has_begun of d hint_of clean tree generation image i may next have_places planned mapping sound inside = record {
+    may = may;
+    state = refl;
+    image_is = is;
+    unused = on_unused d (hint_of d.policy) (option_map of clean) (is_some (option_map of clean)) tree image i may.idle is mapping sound inside;
+    few = by_imaged (hint_of d.policy) (option_map of clean) d.tree d.geometry.cache_blocks _ _ (λ m edited size is. few_nodes m tree (next_plan d m (is_some (option_map of clean))) image is size) i.mapping.size is;
+    places = by_imaged (hint_of d.policy) (option_map of clean) d.tree d.geometry.cache_blocks _ _
+        (λ m edited size is. have_places m tree (next_plan d m (is_some (option_map of clean))) image (free_for d i may.idle m edited size) is) i.mapping.size is;
+  }
+    where
+      is : OfImaged (hint_of d.policy) (option_map of clean) d.tree (λ m. IsImage m tree (next_plan d m (is_some (option_map of clean))) image)
+      is = image_for d (hint_of d.policy) (option_map of clean) (is_some (option_map of clean)) tree generation image i next
+          (subst (λ (flag : Bool). OfImaged (hint_of d.policy) (option_map of clean) d.tree
+          (λ m. IsImage m tree (record { geometry = d.geometry; generation = generation; clean = flag; free = places_for m d.geometry d.space.places }) image)) (still_some of clean) planned)
+
+  -- and so it is said of what the call found and made
+  pub begun_as : (hint_of : P → ℕ → ℕ) (clean : Option (List Bool)) (d old new : DeskState P) (image : Image) (tree : Mapping) → d ≡ old → new ≡ commit_begun d tree → HasBegun hint_of clean d image (commit_begun d tree)
+      → HasBegun hint_of clean old image new
+  begun_as hint_of clean d old new image tree same is begun =
+      subst (λ (x : DeskState P). HasBegun hint_of clean x image new) same (subst (λ (x : DeskState P). HasBegun hint_of clean d image x) (sym is) begun)
 
   pub begun_kept : (d : DeskState P) (tree : Mapping) (image : Image) → DeskInvariant knows d → MayBegin d → ImageFacts d.tree tree d.geometry.cache_blocks image
       → IsMapping d.geometry.cache_blocks d.geometry.origin_blocks tree.entries → AreInside d.geometry.meta_sectors tree → DeskInvariant knows (commit_begun d tree)

@@ -30,7 +30,7 @@ use Rattle.wb_meta.proofs.Stepping.{fails as step_fails}
 use Rattle.wb_policy.specs.declared.order.Order.{Order}
 use Rattle.wb_desk.specs.Desks.{DeskState}
 use Rattle.wb_desk.specs.Calls.{released}
-use Rattle.wb_desk.specs.Commits.{IsBeginRefused, commit_begun, commit_ended}
+use Rattle.wb_desk.specs.Commits.{HasBegun, IsBeginRefused, commit_begun, commit_ended}
 use Rattle.wb_tasks.specs.Plan.{Plan, want, after, got_of, device_of}
 use Rattle.wb_tasks.specs.Tables.{TaskJob}
 use Rattle.wb_tasks.specs.Ready.{HoldsBlocks, Suits, IsOwnStep}
@@ -47,7 +47,7 @@ use Rattle.wb_devices.specs.declared.devices.Devices.{Devices}
 use Rattle.wb_devices.specs.declared.running.RunningCommit.{RunningCommit}
 use Rattle.wb_devices.specs.Moving.{device_in}
 use Rattle.wb_devices.specs.Committing.{is_coming, is_committed}
-use Rattle.wb_stage.specs.Asking.{DidRelease, HasBegunWith, IsGivenUp, ended}
+use Rattle.wb_stage.specs.Asking.{DidRelease, IsGivenUp, ended}
 use Rattle.wb_meta.specs.Roots.{MayBeReadAs, Commit}
 use Rattle.wb_meta.proofs.Leading.{after_failure, after_failed_node}
 use Rattle.wb_promise.specs.declared.job.Job.{Job}
@@ -61,7 +61,7 @@ use Rattle.wb_runs.proofs.Owning.{Owned}
 use Rattle.wb_runs.proofs.Ordering.{held_of}
 use Rattle.wb_runs.proofs.Images.{Images, later_of, one_image}
 use Rattle.wb_runs.proofs.Underway.{Underway, Readable, images_of, is_written, led_on, sync_does, sync_fails as commit_sync_fails, put_fails, IsPut}
-use Rattle.wb_runs.proofs.Metadata.{MetadataKept, AtDesk, Leading, Quiet, begins_over, begin_may, ends_over, kept_readable}
+use Rattle.wb_runs.proofs.Metadata.{MetadataKept, AtDesk, Leading, Quiet, begins_over, ends_over, kept_readable}
 use Rattle.wb_link.specs.World.{World, Shared, abstract_after_all}
 use Rattle.wb_refines.specs.Commits.{IsNoBegin, IsWrittenAfter, commit_task, commit_there}
 use Rattle.wb_simulation.specs.Actors.{IsCommitAt, AreAmongOthers}
@@ -188,11 +188,11 @@ marks true seen = Some seen
 marks false seen = None
 
 -- What it stores is of the blocks that the desk maps, and takes those as clean whose seals are, or none.
-begun_places : {P : Type 0} (clean : Bool) (seen : List Bool) (hint_of : P → ℕ → ℕ) (desk : DeskState P) (image : Image) (tree : Mapping) → HasBegunWith hint_of (marks clean seen) desk image (commit_begun desk tree) → located tree.entries ≡ located desk.tree.entries
+begun_places : {P : Type 0} (clean : Bool) (seen : List Bool) (hint_of : P → ℕ → ℕ) (desk : DeskState P) (image : Image) (tree : Mapping) → HasBegun hint_of (marks clean seen) desk image (commit_begun desk tree) → located tree.entries ≡ located desk.tree.entries
 begun_places true seen hint_of desk image tree h = ap located (h.image_is.2.same_entries ∙ h.image_is.1.entries) ∙ (λ i b. marked_places (hint_of desk.policy) seen desk.tree.entries 0 b i)
 begun_places false seen hint_of desk image tree h = ap located h.image_is.same_entries
 
-begun_takes : {P : Type 0} (clean : Bool) (seen : List Bool) (hint_of : P → ℕ → ℕ) (desk : DeskState P) (image : Image) (tree : Mapping) (words : Words) (s : Shared) (state : Stored) → HasBegunWith hint_of (marks clean seen) desk image (commit_begun desk tree) →
+begun_takes : {P : Type 0} (clean : Bool) (seen : List Bool) (hint_of : P → ℕ → ℕ) (desk : DeskState P) (image : Image) (tree : Mapping) (words : Words) (s : Shared) (state : Stored) → HasBegun hint_of (marks clean seen) desk image (commit_begun desk tree) →
     WordsAgree words s → (clean ≡ true → AllSeen words desk.tree.entries seen × ((block : OBlock) → number_of (place_in (word_at words.seals block)) ≡ place_of desk.tree.entries block.0)) → state.root.clean ≡ image.root.clean → state.found.entries ≡ tree.entries → StateTakesClean state (clean_by clean s)
 begun_takes true seen hint_of desk image tree words s state h agree all root entries = takes_seen (hint_of desk.policy) words s desk.tree.entries seen state agree (all refl).1 (all refl).0 (root ∙ h.image_is.2.root_clean) (entries ∙ h.image_is.2.same_entries ∙ h.image_is.1.entries)
 begun_takes false seen hint_of desk image tree words s state h agree all root entries = takes_none state (root ∙ h.image_is.root_clean)
@@ -358,13 +358,13 @@ module _ (P A : Type 0) (shape : Shape) (images : Images) (t : Target P) (commit
   no_begin refusal r = absurd r
 
   -- a commit begins, of the desk's mapping
-  begins : (nodes allowed : ℕ) (marked : Bool) (c : RunningCommit) (tree : Mapping) → Desk (BeginCommit marked allowed) ≡ want plan → c.steps ≡ NodesWritten 0 → (hint_of : P → ℕ → ℕ) → HasBegunWith hint_of (marks clean x.seen) t.desk c.image (commit_begun t.desk tree) →
+  begins : (nodes allowed : ℕ) (marked : Bool) (c : RunningCommit) (tree : Mapping) → Desk (BeginCommit marked allowed) ≡ want plan → c.steps ≡ NodesWritten 0 → (hint_of : P → ℕ → ℕ) → HasBegun hint_of (marks clean x.seen) t.desk c.image (commit_begun t.desk tree) →
       (clean ≡ true → AllSeen t.words t.desk.tree.entries x.seen × ((block : OBlock) → number_of (place_in (word_at t.words.seals block)) ≡ place_of t.desk.tree.entries block.0)) →
       Goes P A shape (then_is (record { words = t.words; desk = commit_begun t.desk tree }) (Some c) devices (Desk (BeginCommit marked allowed)) (Began nodes)) n
   begins nodes allowed marked c tree next steps hint_of begun all = by_commit commit refl known
     where
       idle : t.desk.space.committing ≡ false
-      idle = (begin_may P hint_of (marks clean x.seen) t.desk c.image (commit_begun t.desk tree) begun).idle
+      idle = begun.may.idle
 
       quiet : Quiet shape.geometry images t.desk devices.metadata → AtDesk shape.geometry images t.desk None devices.metadata → Goes P A shape (then_is (record { words = t.words; desk = commit_begun t.desk tree }) (Some c) devices (Desk (BeginCommit marked allowed)) (Began nodes)) n
       quiet q k =

@@ -15,7 +15,7 @@ use Rattle.wb_tasks.specs.declared.step.Migration.TheVariants.{Demote}
 use Rattle.std.proofs.lemmas.List.Elements.{Contains-append_left, Contains-append_right}
 use Rattle.std.proofs.lemmas.Option.{get_or_from_slice_get}
 use Rattle.wb_desk.specs.Desks.{DeskState, MayReserve}
-use Rattle.wb_desk.specs.Commits.{commit_begun, commit_ended}
+use Rattle.wb_desk.specs.Commits.{HasBegun, commit_begun, commit_ended}
 use Rattle.wb_tasks.specs.Tables.{BlockJob, Reading, Writing, Displacing, Invalidating, Migrating, OnBlock}
 use Rattle.wb_tasks.specs.Plan.{Plan, want, after}
 use Rattle.wb_tasks.specs.Ready.{IsJobs}
@@ -51,7 +51,6 @@ use Rattle.wb_headline.proofs.Seeing.{mapped_there}
 use Rattle.wb_headline.proofs.Suspends.{Saw, SawTask, saw_first, marked_places}
 use Rattle.wb_simulation.specs.Actors.{IsAmong, IsAmongOthers, AreAmongOthers}
 use Rattle.wb_simulation.proofs.Opened.{found_at}
-use Rattle.wb_stage.specs.Asking.{HasBegunWith}
 use Rattle.wb_tree.specs.declared.image.Image.{Image}
 use Rattle.wb_tree.specs.Mapping.{Mapping}
 use Rattle.wb_types.specs.Limits.{node_count}
@@ -221,7 +220,7 @@ module _ (P A : Type 0) (shape : Shape) (images : Images) (t : Target P) (commit
         which got chosen d = absurd d
 
         -- the entries that are stored are of the same blocks, marked or not
-        same_places : (seen : Option (List Bool)) (hint_of : P → ℕ → ℕ) (image : Image) (tree : Mapping) → HasBegunWith hint_of seen t.desk image (commit_begun t.desk tree) → (b : ℕ) → place_of tree.entries b ≡ place_of t.desk.tree.entries b
+        same_places : (seen : Option (List Bool)) (hint_of : P → ℕ → ℕ) (image : Image) (tree : Mapping) → HasBegun hint_of seen t.desk image (commit_begun t.desk tree) → (b : ℕ) → place_of tree.entries b ≡ place_of t.desk.tree.entries b
         same_places None hint_of image tree h b = ap (λ (es : List (Option Entry)). place_of es b) h.image_is.same_entries
         same_places (Some bits) hint_of image tree h b = ap (λ (es : List (Option Entry)). place_of es b) (h.image_is.2.same_entries ∙ h.image_is.1.entries) ∙ marked_places (hint_of t.desk.policy) bits t.desk.tree.entries 0 b
 

@@ -18,7 +18,7 @@ use Rattle.wb_tree.specs.declared.image.Image.{Image}
 use Rattle.wb_meta.specs.declared.commit_steps.CommitSteps.{CommitSteps}
 use Rattle.wb_meta.specs.declared.commit_steps.CommitSteps.TheVariants.{NodesWritten, NodesSynced, RootWritten, Done as Committed}
 use Rattle.wb_types.specs.Limits.{node_count}
-use Rattle.wb_desk.specs.Commits.{IsBeginRefused, commit_begun}
+use Rattle.wb_desk.specs.Commits.{HasBegun, IsBeginRefused, commit_begun}
 use Rattle.wb_desk.specs.Desks.{DeskState}
 use Rattle.wb_desk.specs.Entries.{MayUnmap, HasLeft, mapped, unmapped}
 use Rattle.wb_types.specs.declared.number.OBlock.{OBlock}
@@ -38,7 +38,7 @@ use Rattle.wb_devices.specs.declared.devices.Devices.{Devices}
 use Rattle.wb_devices.specs.declared.running.RunningCommit.{RunningCommit}
 use Rattle.wb_devices.specs.Committing.{is_coming}
 use Rattle.wb_devices.specs.Moving.{device_in}
-use Rattle.wb_stage.specs.Asking.{DidMap, DidUnmap, HasBegunWith, ended, DidRelease}
+use Rattle.wb_stage.specs.Asking.{DidMap, DidUnmap, ended, DidRelease}
 use Rattle.wb_stage.specs.Stages.{DidAsk, DidBeginWith, EndsWith, IsServed, is_all_done}
 use Rattle.wb_promise.specs.declared.job.Job.{Job}
 use Rattle.wb_promise.specs.declared.job.Job.TheVariants.{Read, Write, Flush, Suspend, Open, Invalidate, Migrate, Replace}
@@ -252,10 +252,6 @@ served commit job (Unmap block) n askable = tt
 served commit job (ReleaseOrder block) n askable = tt
 served commit job EndCommit n askable = tt
 
-begun_state : (desk desk' : DeskState Quiet) (image : Image) (hint_of : Quiet → ℕ → ℕ) (bits : Option (List Bool)) → HasBegunWith hint_of bits desk image desk' → desk' ≡ commit_begun desk desk'.tree
-begun_state desk desk' image hint_of None begun = begun.state
-begun_state desk desk' image hint_of (Some seen) begun = begun.state
-
 module _ (desk : DeskState Quiet) (commit : Option RunningCommit) (desk' : DeskState Quiet) (commit' : Option RunningCommit) (held : List Order) (seen : List Bool) where
   -- one call of the desk for any other job
   pub asked_plainly : (with_entry : Quiet → ℕ → ℕ → Quiet) (without_entry : Quiet → ℕ → Quiet) (job : Job) (step : DeskStep) (got : Got) → (job ≡ Suspend → ⊥) → DidAsk with_entry without_entry held step got desk commit desk' commit' → DidAskFor job held seen step got desk commit desk' commit'
@@ -277,19 +273,18 @@ module _ (desk : DeskState Quiet) (commit : Option RunningCommit) (desk' : DeskS
       let at_end = subst (λ (s : DeskStep). DidAsk enters leaves held s got desk commit desk' commit') e did in
       subst (λ (s : DeskStep). DidAskFor Suspend held seen s got desk commit desk' commit') (sym e) (enters, leaves, at_end)
 
-  did_begin : (job : Job) (clean : Bool) (most nodes : ℕ) (running : RunningCommit) → clean ≡ is_clean job → nodes ≤ most → nodes ≡ length running.image.nodes.items → running.steps ≡ NodesWritten 0 → (hint_of : Quiet → ℕ → ℕ) → HasBegunWith hint_of (bits_of job seen) desk running.image desk' → AreWhole running.image → commit' ≡ Some running →
+  did_begin : (job : Job) (clean : Bool) (most nodes : ℕ) (running : RunningCommit) → clean ≡ is_clean job → nodes ≤ most → nodes ≡ length running.image.nodes.items → running.steps ≡ NodesWritten 0 → (hint_of : Quiet → ℕ → ℕ) → HasBegun hint_of (bits_of job seen) desk running.image desk' → AreWhole running.image → commit' ≡ Some running →
       DeskWasAsked desk commit job held seen (BeginCommit clean most) (Began nodes) desk' commit'
   did_begin job clean most nodes running n few many steps hint_of begun whole c =
-      let state = begun_state desk desk' running.image hint_of (bits_of job seen) begun in
-      let same : HasBegunWith hint_of (bits_of job seen) desk running.image (commit_begun desk desk'.tree) = subst (λ (d : DeskState Quiet). HasBegunWith hint_of (bits_of job seen) desk running.image d) state begun in
-      record { chosen = Commits running desk'.tree; gives = λ shape devices words actors x own. by_job job n same shape devices words actors x own.1; desk_is = state; commit_is = c }
+      let same : HasBegun hint_of (bits_of job seen) desk running.image (commit_begun desk desk'.tree) = subst (λ (d : DeskState Quiet). HasBegun hint_of (bits_of job seen) desk running.image d) begun.state begun in
+      record { chosen = Commits running desk'.tree; gives = λ shape devices words actors x own. by_job job n same shape devices words actors x own.1; desk_is = begun.state; commit_is = c }
     where
-      by_job : (job : Job) → clean ≡ is_clean job → HasBegunWith hint_of (bits_of job seen) desk running.image (commit_begun desk desk'.tree) → (shape : Shape) (devices : Devices (List History)) (words : Words) (actors : List Actor) (x : Actor) → x.seen ≡ seen → Gives shape (stood devices commit (record { words = words; desk = desk }) actors) x job (Desk (BeginCommit clean most)) (Began nodes) [] (Commits running desk'.tree)
+      by_job : (job : Job) → clean ≡ is_clean job → HasBegun hint_of (bits_of job seen) desk running.image (commit_begun desk desk'.tree) → (shape : Shape) (devices : Devices (List History)) (words : Words) (actors : List Actor) (x : Actor) → x.seen ≡ seen → Gives shape (stood devices commit (record { words = words; desk = desk }) actors) x job (Desk (BeginCommit clean most)) (Began nodes) [] (Commits running desk'.tree)
       by_job (Read extent) n h shape devices words actors x own = (refl, n, (few, many, steps, (hint_of, h), whole))
       by_job (Write extent content) n h shape devices words actors x own = (refl, n, (few, many, steps, (hint_of, h), whole))
       by_job (Invalidate block) n h shape devices words actors x own = (refl, n, (few, many, steps, (hint_of, h), whole))
       by_job Flush n h shape devices words actors x own = (refl, n, (few, many, steps, (hint_of, h), whole))
-      by_job Suspend n h shape devices words actors x own = (refl, n, (few, many, steps, (hint_of, subst (λ (bits : List Bool). HasBegunWith hint_of (Some bits) desk running.image (commit_begun desk desk'.tree)) (sym own) h), whole))
+      by_job Suspend n h shape devices words actors x own = (refl, n, (few, many, steps, (hint_of, subst (λ (bits : List Bool). HasBegun hint_of (Some bits) desk running.image (commit_begun desk desk'.tree)) (sym own) h), whole))
       by_job (Open mode) n h shape devices words actors x own = (refl, n, (few, many, steps, (hint_of, h), whole))
       by_job (Migrate migration block) n h shape devices words actors x own = (refl, n, (few, many, steps, (hint_of, h), whole))
       by_job (Replace old new) n h shape devices words actors x own = (refl, n, (few, many, steps, (hint_of, h), whole))
@@ -365,7 +360,7 @@ module _ (desk : DeskState Quiet) (commit : Option RunningCommit) (desk' : DeskS
   did_plainly enters leaves job (ReleaseOrder b) Done n askable enough fits whole did = did_release job b askable did.0 did.1
   did_plainly enters leaves job EndCommit Done n askable enough fits whole did = ends job askable did
   did_plainly enters leaves job (BeginCommit clean most) (Began nodes) n askable enough fits whole did =
-      did_begin job clean most nodes did.0 askable fits did.3 did.2 (λ policy block. 0) (subst (λ (bits : Option (List Bool)). HasBegunWith (λ policy block. 0) bits desk did.0.image desk') (sym (no_bits job seen n)) did.4) (whole nodes did.0 refl did.1) did.1
+      did_begin job clean most nodes did.0 askable fits did.3 did.2 did.4.0 (subst (λ (bits : Option (List Bool)). HasBegun did.4.0 bits desk did.0.image desk') (sym (no_bits job seen n)) did.4.1) (whole nodes did.0 refl did.1) did.1
   did_plainly enters leaves job (BeginCommit clean most) (GotRefused refusal) n askable enough fits whole did = did_refuse job clean most refusal askable (did.1.1 enough) did.1.0 did.0
   did_plainly enters leaves job step got n askable enough fits whole did = absurd fits
 

@@ -34,7 +34,7 @@ use Rattle.wb_orders.specs.Named.{first_of}
 use Rattle.wb_tree.specs.Edits.{IsChangedAt}
 use Rattle.wb_desk.specs.Desks.{DeskState, MayReserve, holdings}
 use Rattle.wb_desk.specs.Entries.{MayMap, entry_of, mapped}
-use Rattle.wb_desk.specs.Commits.{IsBeginRefused, commit_begun}
+use Rattle.wb_desk.specs.Commits.{HasBegun, IsBeginRefused, commit_begun}
 use Rattle.wb_tasks.specs.Tables.{BlockJob, TaskJob, Reading, Writing, Displacing, Invalidating, Migrating, OnBlock, Flushing, Suspending, Opening, BlockRange, whole_block}
 use Rattle.wb_tasks.specs.declared.step.Migration.{Migration}
 use Rattle.wb_tasks.specs.declared.step.Migration.TheVariants.{Promote, Demote, Clean}
@@ -52,7 +52,7 @@ use Rattle.wb_tasks.specs.declared.step.Got.TheVariants.{Done, Fault, Refused as
 use Rattle.wb_devices.specs.declared.running.RunningCommit.{RunningCommit}
 use Rattle.wb_devices.specs.declared.devices.Devices.{Devices}
 use Rattle.wb_devices.specs.Moving.{device_in}
-use Rattle.wb_stage.specs.Asking.{DidRelease, DidUnmap, HasBegunWith}
+use Rattle.wb_stage.specs.Asking.{DidRelease, DidUnmap}
 use Rattle.wb_devices.specs.Committing.{goes_on}
 use Rattle.wb_stage.specs.Stages.{is_all_done}
 use Rattle.wb_devices.specs.Opened.{got_of_refusal}
@@ -271,7 +271,7 @@ AreWhole image = All (λ (node : Place × Node). length node.1.words ≡ 32) ima
 -- is marked clean, and the entries have them, and hints, whatever these are.
 abbrev pub DoesBegin : {P A : Type 0} → Option (List Bool) → ℕ → DeskState P → Got → Chosen P A → Type 0
 DoesBegin {P} seen most desk (Began nodes) (Commits commit tree) = (nodes ≤ most) × (nodes ≡ length commit.image.nodes.items) × (commit.steps ≡ NodesWritten 0)
-    × ((hint_of : P → ℕ → ℕ) × HasBegunWith hint_of seen desk commit.image (commit_begun desk tree)) × AreWhole commit.image
+    × ((hint_of : P → ℕ → ℕ) × HasBegun hint_of seen desk commit.image (commit_begun desk tree)) × AreWhole commit.image
 DoesBegin seen most desk (GotRefused refusal) Plain = IsBeginRefused desk refusal
 DoesBegin seen most desk got chosen = ⊥
 

@@ -32,7 +32,7 @@ use Rattle.wb_promise.specs.States.{Shape, State, Actor, Target, Stands, Opens}
 use Rattle.wb_promise.specs.Happenings.{Chosen, Plain, Begins, Reaches, Commits, OfSome, HasGeneration, DoesSync, DoesRead, DoesBegin, Gives, Falters}
 use Rattle.wb_promise.specs.Effects.{commit_then, reading_then, task_then}
 use Rattle.wb_runs.proofs.Plans.{plan_of}
-use Rattle.wb_runs.proofs.Metadata.{AtDesk, begin_may}
+use Rattle.wb_runs.proofs.Metadata.{AtDesk}
 use Rattle.wb_runs.proofs.Images.{Images}
 use Rattle.wb_runs.proofs.Making.{image_small, small_opening}
 use Rattle.wb_tasks.specs.Points.{OpenPoint, AtFirst, AtCache, AtOrigin, AtRead, AtRoot, AtRootSync, AtEnd, AtRefusal, open_left, open_answer}
@@ -149,7 +149,7 @@ module _ (P A : Type 0) (shape : Shape) (t : Target P) (commit : Option RunningC
   }
     where
       no_leader : (commit : Option RunningCommit) → AtDesk shape.geometry images t.desk commit m → (p : FlushPoint) → IsLeading p → AtFlush p commit → ⊥
-      no_leader (Some d) k p i at = absurd (let busy = k.stands.busy in let idle = (begin_may P s.3.0 seen t.desk c.image _ s.3.1).idle in cc)
+      no_leader (Some d) k p i at = absurd (let busy = k.stands.busy in let idle = s.3.1.may.idle in cc)
       no_leader None k (ToSyncCache nodes) i at = at
       no_leader None k (ToSyncOrigin nodes) i at = at
       no_leader None k (ToWriteNodes left from) i at = at

@@ -31,10 +31,9 @@ use Rattle.wb_tree.proofs.Stored.Edited.{edited-none}
 use Rattle.wb_meta.specs.declared.commit_steps.CommitSteps.TheVariants.{NodesWritten}
 use Rattle.wb_meta.proofs.Imaging.{have_places}
 use Rattle.wb_desk.specs.Desks.{DeskState}
-use Rattle.wb_desk.specs.Commits.{MayBegin, next_plan, commit_begun}
+use Rattle.wb_desk.specs.Commits.{HasBegun, MayBegin, next_plan, commit_begun}
 use Rattle.wb_desk.proofs.Committing.{free_for, on_unused}
 use Rattle.wb_devices.specs.declared.running.RunningCommit.{RunningCommit}
-use Rattle.wb_stage.specs.Asking.{HasBegunWith}
 use denote.RawPtr.{null_ptr}
 use Rattle.wb_promise.specs.Happenings.{Commits, AreWhole}
 use Rattle.wb_runs.specs.Progress.{CanBegin}
@@ -115,7 +114,7 @@ small_of desk imaged tree flag c may size is whole = record {
 }
 
 pub image_small : {P : Type 0} (g : Geometry) (desk : DeskState P) (tree : Mapping) (c : RunningCommit) → desk.geometry ≡ g → IsMapping desk.geometry.cache_blocks desk.geometry.origin_blocks desk.tree.entries
-    → (hint_of : P → ℕ → ℕ) (seen : Option (List Bool)) → HasBegunWith hint_of seen desk c.image (commit_begun desk tree) → AreWhole c.image → IsSmall c.image
+    → (hint_of : P → ℕ → ℕ) (seen : Option (List Bool)) → HasBegun hint_of seen desk c.image (commit_begun desk tree) → AreWhole c.image → IsSmall c.image
 image_small g desk tree c same mapping hint_of None begun whole = small_of desk desk.tree tree false c begun.may mapping.size begun.image_is whole
 image_small g desk tree c same mapping hint_of (Some seen) begun whole =
     let i = begun.image_is in

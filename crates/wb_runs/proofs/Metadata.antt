@@ -31,11 +31,11 @@ use Rattle.wb_policy.specs.Law.{Holdings, origins}
 use Rattle.wb_desk.specs.Desks.{DeskState, DeskInvariant}
 use Rattle.wb_desk.proofs.Committing.{begun_kept, ended_kept}
 use Rattle.wb_desk.proofs.Opened.{opened_kept}
-use Rattle.wb_desk.specs.Commits.{MayBegin, commit_begun, next_plan}
+use Rattle.wb_desk.specs.Commits.{HasBegun, MayBegin, commit_begun, next_plan}
 use Rattle.wb_desk.proofs.Marking.{origins-marked}
 use Rattle.wb_desk.specs.Opening.{opened}
 use Rattle.wb_devices.specs.declared.running.RunningCommit.{RunningCommit}
-use Rattle.wb_stage.specs.Asking.{HasBegunWith, ended}
+use Rattle.wb_stage.specs.Asking.{ended}
 use Rattle.wb_devices.specs.Committing.{is_committed}
 use Rattle.wb_devices.specs.Opened.{HasNextRoot}
 use Rattle.wb_meta.specs.Roots.{MayBeReadAs, Commit, commit_of, opening_of}
@@ -153,11 +153,6 @@ module _ (g : Geometry) (images : Images) (device : List History) where
 
 -- ---- a commit begins and ends
 
--- one that began could
-pub begin_may : (P : Type 0) (hint_of : P → ℕ → ℕ) (seen : Option (List Bool)) (desk : DeskState P) (image : Image) (desk' : DeskState P) → HasBegunWith hint_of seen desk image desk' → MayBegin desk
-begin_may P hint_of None desk image desk' b = b.may
-begin_may P hint_of (Some seen) desk image desk' b = b.may
-
 module _ (P : Type 0) (g : Geometry) (images : Images) (desk : DeskState P) (device : List History) where
   abbrev places_used : IsDesk g desk → (q : Quiet g images desk device) → desk.space.places.committed ≡ noted q.used (unused (place_count desk.geometry.cache_blocks))
   places_used k q = subst (λ (x : Geometry). desk.space.places.committed ≡ noted q.used (unused (place_count x.cache_blocks))) (sym k.geometry) q.places
@@ -211,7 +206,7 @@ module _ (P : Type 0) (g : Geometry) (images : Images) (desk : DeskState P) (dev
 
   -- One begins over a device that stores the desk's tree: of its entries, marked where it is clean.
   pub begins_over : (hint_of : P → ℕ → ℕ) (seen : Option (List Bool)) (commit : RunningCommit) (tree : Mapping) → IsDesk g desk → Quiet g images desk device → commit.steps ≡ NodesWritten 0
-      → HasBegunWith hint_of seen desk commit.image (commit_begun desk tree) → Turns (LeadsTo commit tree) images
+      → HasBegun hint_of seen desk commit.image (commit_begun desk tree) → Turns (LeadsTo commit tree) images
   begins_over hint_of None commit tree k q steps begun = begins_on desk.tree false commit tree k q steps begun.may q.stores (begun.unused q.used (places_used k q)) refl
   begins_over hint_of (Some seen) commit tree k q steps begun =
       let u = begun.unused in

@@ -33,7 +33,7 @@ use Rattle.wb_promise.specs.Effects.{device_done, devices_then, commit_then, pha
 use Rattle.wb_runs.proofs.Images.{Images, Turns, stays}
 use Rattle.wb_runs.proofs.Desks.{mapped_stands, unmapped_stands, released_for}
 use Rattle.wb_runs.proofs.Underway.{Readable, Found, led_on, sync_does, sync_found, found_readable}
-use Rattle.wb_runs.proofs.Metadata.{AtDesk, HasReached, Rooting, AtOpening, MetadataKept, begins_over, ends_over, root_begins, target_stands, kept_readable, begin_may}
+use Rattle.wb_runs.proofs.Metadata.{AtDesk, HasReached, Rooting, AtOpening, MetadataKept, begins_over, ends_over, root_begins, target_stands, kept_readable}
 use Rattle.wb_types.specs.declared.number.OBlock.{OBlock}
 use Rattle.wb_stage.specs.Asking.{order_of}
 
@@ -202,7 +202,7 @@ module _ (P A : Type 0) (shape : Shape) where
   begin_commit seen i (Stands t) commit m clean most (Began nodes) (Commits c tree) k s = by_commit commit k
     where
       idle : t.desk.space.committing ≡ false
-      idle = (begin_may P s.3.0 seen t.desk c.image _ s.3.1).idle
+      idle = s.3.1.may.idle
 
       by_commit : (commit : Option RunningCommit) → AtDesk shape.geometry i t.desk commit m → Turns (λ j. AtDesk shape.geometry j (Rattle.wb_desk.specs.Commits.commit_begun t.desk tree) (Some c) m) i
       by_commit (Some d) k = absurd (let a = k.stands.busy in let b = idle in cc)

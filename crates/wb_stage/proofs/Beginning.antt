@@ -1,17 +1,13 @@
--- A commit that the desk began is one of a flush, or a clean one where dirty bits are given.
-use Rattle.std.proofs.Common.{◌≡◌, ℕ, Bool, List, Option, Some, None}
-use Rattle.std.specs.Prelude.{is_some}
-use Rattle.std.specs.Option.{option_map}
-use Rattle.wb_tree.specs.declared.image.Image.{Image}
-use Rattle.wb_tree.specs.Images.{IsImage}
+-- A commit that began without dirty bits is that of a flush.
+use Rattle.std.proofs.Common.{ℕ, Option, None}
 use Rattle.wb_desk.specs.Desks.{DeskState}
-use Rattle.wb_desk.specs.Marks.{OfImaged}
-use Rattle.wb_desk.specs.Commits.{MayBegin, IsOnUnused, next_plan, commit_begun}
-use Rattle.wb_stage.specs.Asking.{HasBegunWith}
+use Rattle.wb_tasks.specs.declared.step.Got.{Got}
+use Rattle.wb_tasks.specs.declared.step.Got.TheVariants.{Began, Refused}
+use Rattle.wb_devices.specs.declared.running.RunningCommit.{RunningCommit}
+use Rattle.wb_stage.specs.Stages.{DidBegin, DidBeginWith}
 
-pub begun_with : {P Bits : Type 0} (hint_of : P → ℕ → ℕ) (of : Bits → List Bool) (seen : Option Bits) (d d' : DeskState P) (image : Image) → MayBegin d → d' ≡ commit_begun d d'.tree
-    → OfImaged (hint_of d.policy) (option_map of seen) d.tree (λ imaged. IsImage imaged d'.tree (next_plan d imaged (is_some seen)) image)
-    → OfImaged (hint_of d.policy) (option_map of seen) d.tree (λ imaged. IsOnUnused d imaged d'.tree (is_some seen) image)
-    → HasBegunWith hint_of (option_map of seen) d image d'
-begun_with hint_of of None d d' image may state image_is unused = record { may = may; state = state; image_is = image_is; unused = unused }
-begun_with hint_of of (Some bits) d d' image may state image_is unused = record { may = may; state = state; image_is = image_is; unused = unused }
+pub begun_plainly : {P : Type 0} (hint_of : P → ℕ → ℕ) (most : ℕ) (got : Got) (d d' : DeskState P) (commit commit' : Option RunningCommit)
+    → DidBeginWith hint_of None most got d commit d' commit' → DidBegin most got d commit d' commit'
+begun_plainly hint_of most (Began nodes) d d' commit commit' did = (did.0, did.1, did.2, did.3, hint_of, did.4)
+begun_plainly hint_of most (Refused refusal) d d' commit commit' did = did
+begun_plainly hint_of most got d d' commit commit' did = absurd did

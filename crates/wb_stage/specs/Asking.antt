@@ -1,18 +1,15 @@
 -- What a step on the desk does to it.
-use Rattle.std.specs.Prelude.{◌≡◌, ◌≤◌, ◌==◌, ◌||◌, ℕ, Bool, true, false, List, [], ◌∷◌, Option, Some, None, if◌then◌else◌}
+use Rattle.std.specs.Prelude.{◌≡◌, ◌≤◌, ◌==◌, ◌||◌, ℕ, Bool, List, [], ◌∷◌, Option, Some, None, if◌then◌else◌}
 use Rattle.wb_types.specs.Limits.{node_count}
 use Rattle.wb_types.specs.declared.number.OBlock.{OBlock}
 use Rattle.wb_types.specs.declared.number.CBlock.{CBlock}
 use Rattle.wb_types.specs.declared.refusal.Refusal.{Refusal}
-use Rattle.wb_tree.specs.declared.image.Image.{Image}
-use Rattle.wb_tree.specs.Images.{IsImage}
 use Rattle.wb_policy.specs.declared.order.Order.{Order}
 use Rattle.wb_policy.specs.declared.order.Order.TheVariants.{Promote, Replace, Demote, Clean}
 use Rattle.wb_desk.specs.Desks.{DeskState, IsLive}
 use Rattle.wb_desk.specs.Calls.{released}
-use Rattle.wb_desk.specs.Marks.{OfImaged}
 use Rattle.wb_desk.specs.Entries.{MayMap, MayUnmap, HasEntered, HasLeft}
-use Rattle.wb_desk.specs.Commits.{MayBegin, IsBeginRefused, IsOnUnused, next_plan, commit_begun, commit_ended}
+use Rattle.wb_desk.specs.Commits.{IsBeginRefused, commit_ended}
 use Rattle.wb_tasks.specs.declared.step.Got.{Got}
 use Rattle.wb_tasks.specs.declared.step.Got.TheVariants.{Done, Refused}
 
@@ -46,26 +43,6 @@ IsGivenUp (Some order) d d' = ((live : IsLive d order) → d' ≡ released d liv
 -- Of the orders that somebody has taken, the one of this block is given up.
 abbrev pub DidRelease : {P : Type 0} → List Order → OBlock → DeskState P → DeskState P → Type 0
 DidRelease held b d d' = IsGivenUp (order_of b held) d d'
-
--- A commit of this image began.
-pub record HasBegun {P : Type 0} (d : DeskState P) (image : Image) (d' : DeskState P) : Type 0 where
-  pub may : MayBegin d
-  pub state : d' ≡ commit_begun d d'.tree
-  pub image_is : IsImage d.tree d'.tree (next_plan d d.tree false) image
-  pub unused : IsOnUnused d d.tree d'.tree false image
-
--- A commit of this image began, whose root is marked clean, and whose entries have these dirty bits, by cache block, and the policy's
--- hints.
-pub record HasBegunClean {P : Type 0} (hint_of : P → ℕ → ℕ) (seen : List Bool) (d : DeskState P) (image : Image) (d' : DeskState P) : Type 0 where
-  pub may : MayBegin d
-  pub state : d' ≡ commit_begun d d'.tree
-  pub image_is : OfImaged (hint_of d.policy) (Some seen) d.tree (λ imaged. IsImage imaged d'.tree (next_plan d imaged true) image)
-  pub unused : OfImaged (hint_of d.policy) (Some seen) d.tree (λ imaged. IsOnUnused d imaged d'.tree true image)
-
--- A commit of this image began: a clean one where dirty bits are given.
-abbrev pub HasBegunWith : {P : Type 0} → (P → ℕ → ℕ) → Option (List Bool) → DeskState P → Image → DeskState P → Type 0
-HasBegunWith hint_of None d image d' = HasBegun d image d'
-HasBegunWith hint_of (Some seen) d image d' = HasBegunClean hint_of seen d image d'
 
 -- None began: the desk refused it, where so many nodes are enough for every image, and nothing changed.
 abbrev pub IsUnbegun : {P : Type 0} → DeskState P → ℕ → Refusal → DeskState P → Type 0

@@ -4,6 +4,7 @@ use Rattle.wb_meta.specs.declared.commit_steps.CommitSteps.TheVariants.{NodesWri
 use Rattle.wb_tree.specs.declared.image.Image.{Image}
 use Rattle.wb_policy.specs.declared.order.Order.{Order}
 use Rattle.wb_desk.specs.Desks.{DeskState}
+use Rattle.wb_desk.specs.Commits.{HasBegun}
 use Rattle.wb_tasks.specs.declared.step.DeviceStep.TheVariants.{ReadMetadata}
 use Rattle.wb_tasks.specs.declared.step.DeskStep.{DeskStep}
 use Rattle.wb_tasks.specs.declared.step.DeskStep.TheVariants.{Map, Unmap, ReleaseOrder, BeginCommit, EndCommit}
@@ -13,7 +14,7 @@ use Rattle.wb_tasks.specs.declared.step.Got.{Got}
 use Rattle.wb_tasks.specs.declared.step.Got.TheVariants.{Began, Refused}
 use Rattle.wb_devices.specs.declared.running.RunningCommit.{RunningCommit}
 use Rattle.wb_devices.specs.Committing.{is_committed}
-use Rattle.wb_stage.specs.Asking.{DidMap, DidUnmap, DidRelease, HasBegun, HasBegunWith, IsUnbegun, ended}
+use Rattle.wb_stage.specs.Asking.{DidMap, DidUnmap, DidRelease, IsUnbegun, ended}
 
 -- a commit that was begun has done nothing yet, and so much is so of its image
 abbrev pub DidBeginSo : {P : Type 0} → (DeskState P → Image → DeskState P → Type 0) → ℕ → Got → DeskState P → Option RunningCommit → DeskState P → Option RunningCommit → Type 0
@@ -22,13 +23,13 @@ DidBeginSo so most (Began nodes) d commit d' commit' = (begun : RunningCommit) �
 DidBeginSo so most (Refused refusal) d commit d' commit' = (commit' ≡ commit) × IsUnbegun d most refusal d'
 DidBeginSo so most got d commit d' commit' = ⊥
 
--- that of a flush is of the mapping as it is
+-- that of a flush is of the mapping as it is, whatever hints there are
 abbrev pub DidBegin : {P : Type 0} → ℕ → Got → DeskState P → Option RunningCommit → DeskState P → Option RunningCommit → Type 0
-DidBegin most got d commit d' commit' = DidBeginSo (λ old image new. HasBegun old image new) most got d commit d' commit'
+DidBegin {P} most got d commit d' commit' = DidBeginSo (λ old image new. (hint_of : P → ℕ → ℕ) × HasBegun hint_of None old image new) most got d commit d' commit'
 
 -- that of a suspend is clean, with the dirty bits that were seen, by cache block, and the policy's hints
 abbrev pub DidBeginWith : {P : Type 0} → (P → ℕ → ℕ) → Option (List Bool) → ℕ → Got → DeskState P → Option RunningCommit → DeskState P → Option RunningCommit → Type 0
-DidBeginWith hint_of seen most got d commit d' commit' = DidBeginSo (λ old image new. HasBegunWith hint_of seen old image new) most got d commit d' commit'
+DidBeginWith hint_of seen most got d commit d' commit' = DidBeginSo (λ old image new. HasBegun hint_of seen old image new) most got d commit d' commit'
 
 -- the commit ends where all of it was done
 abbrev pub EndsWith : {P : Type 0} → Bool → DeskState P → Option RunningCommit → DeskState P → Option RunningCommit → Type 0

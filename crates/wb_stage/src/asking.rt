@@ -6,7 +6,8 @@ ghost use Rattle.wb_tasks.specs.Plan.{Fits, MayBeRefused};
 ghost use Rattle.wb_tasks.specs.declared.step.Want.TheVariants.{Desk as AskDesk};
 ghost use Rattle.wb_tasks.specs.declared.step.DeskStep.TheVariants.{Map, BeginCommit};
 ghost use Rattle.wb_meta.specs.declared.commit_steps.CommitSteps.TheVariants.{NodesWritten};
-ghost use Rattle.wb_stage.specs.Asking.{DidMap, DidUnmap, DidRelease, HasBegunWith, IsUnbegun, is_of, order_of, ended};
+ghost use Rattle.wb_desk.specs.Commits.{HasBegun};
+ghost use Rattle.wb_stage.specs.Asking.{DidMap, DidUnmap, DidRelease, IsUnbegun, is_of, order_of, ended};
 ghost use Rattle.wb_stage.specs.Stages.{DidAsk, DidBeginWith, EndsWith, IsServed, is_all_done};
 
 use std::alloc::Global;
@@ -17,6 +18,7 @@ use wb_tasks::{DeskStep, Got};
 use wb_types::{CBlock, OBlock, Refusal};
 
 /// Performs a step on the desk, for who runs this commit, if any, and has taken these orders.
+#[tactic(auto, using(crate::proofs::Beginning::begun_plainly))]
 pub fn ask<P: Policy>(
     alloc: Global,
     desk: &mut Desk<P>,
@@ -107,7 +109,6 @@ pub fn release<P: Policy>(desk: &mut Desk<P>, held: &[Order], block: OBlock)
 /// Takes the image of a commit, of at most so many nodes; where dirty bits are given, by cache block, a clean one: its root is marked
 /// clean, and its entries have those bits and the policy's hints. `Busy`, `GenerationEnd` and `Memory` as the desk says; `Memory`
 /// also where an image may have more nodes. Then nothing changed.
-#[tactic(auto, using(crate::proofs::Beginning::begun_with))]
 fn begin<P: Policy>(
     alloc: Global,
     desk: &mut Desk<P>,
@@ -115,7 +116,7 @@ fn begin<P: Policy>(
     most: u32,
 ) -> Result<RunningCommit, Refusal>
     requires { IfSome seen (λ bits. length bits.now ≡ desk.old.geometry.cache_blocks) }
-    ensures begun { IfOk result (λ commit. HasBegunWith P.hint_of (option_map (λ bits. bits.now) seen.entry) desk.old commit.image desk.new) }
+    ensures begun { IfOk result (λ commit. HasBegun P.hint_of (option_map (λ bits. bits.now) seen.entry) desk.old commit.image desk.new) }
     ensures steps { IfOk result (λ commit. commit.steps ≡ NodesWritten 0) }
     ensures few { IfOk result (λ commit. length commit.image.nodes.items ≤ most) }
     ensures refused { IfErr result (λ refusal. IsUnbegun desk.old most refusal desk.new) }

@@ -1,16 +1,9 @@
-use Rattle.std.proofs.Common.{◌≡◌, ◌≤◌, ◌∙◌, length, is_some, refl, ap, subst, sym, arith}
-use Rattle.std.specs.Option.{option_map}
-use Rattle.wb_types.specs.Limits.{node_count}
+use Rattle.std.proofs.Common.{◌≡◌, ◌∙◌, length, refl, ap, sym, arith}
 use Rattle.std.proofs.lemmas.List.{length-map}
 use Rattle.wb_tree.specs.Mapping.{used_places}
-use Rattle.wb_tree.specs.Images.{IsImage}
 use Rattle.wb_space.specs.Places.{unused}
-use Rattle.wb_meta.specs.Placing.{HavePlaces}
-use Rattle.wb_desk.specs.Desks.{DeskState}
-use Rattle.wb_desk.specs.Marks.{OfImaged}
-use Rattle.wb_desk.specs.Commits.{HasBegun, commit_begun}
-use Rattle.wb_desk.proofs.Marking.{by_imaged, few_nodes, image_facts}
-use Rattle.wb_desk.proofs.Committing.{begun_parts, begun_space, free_for, image_for, left_size, length_flags, on_unused, still_some}
+use Rattle.wb_desk.proofs.Marking.{image_facts}
+use Rattle.wb_desk.proofs.Committing.{begun_as, begun_parts, begun_space, free_for, has_begun, left_size, length_flags, still_some}
 use Rattle.wb_desk.proofs.desk.Desk.begin_commit.Goals as goal
 
 pub plan-requires-clause-free : goal.plan-requires-clause-free
@@ -36,13 +29,6 @@ returns-clause-begun g c =
     let many : c.known_nodes-self-inside.result ≡ length (used_places c.plan.new.tree) = c.known_nodes-self-inside.ensures.known ∙ sym (length-map c.plan.new.tree.known (λ node. node.place)) in
     let space = begun_space g.P.Policy.knows _ c.plan.new.tree _ c.in_ok-image.image c.self.inside.left _ _ c.in_ok-image.used c.begin_space.new.space c.self.invariant.desk idle c.self.invariant.have_left c.in_ok-image.ensures.image
     (c.in_ok-image.ensures.marked ∙ still_some (λ dirty. dirty.now) c.args.clean) c.in_ok-image.ensures.used c.begin_space.ensures.listed (rw (← c.deref.ensures.value) c.begin_space.ensures.changed) in
-    let is = image_for g.P.Policy.knows _ _ _ _ c.plan.new.tree c.in-Some.generation c.in_ok-image.image c.self.invariant.desk (omega arith) c.in_ok-image.ensures.image in
-    rw (space, many) (subst (λ (d : DeskState _). HasBegun g.P.Policy.hint_of (option_map (λ dirty. dirty.now) c.args.clean) d c.in_ok-image.image (commit_begun d c.plan.new.tree)) c.self.view_is (record {
-      may = record { idle = idle; next = omega arith };
-      state = refl;
-      image_is = is;
-      unused = on_unused g.P.Policy.knows _ _ _ _ c.plan.new.tree c.in_ok-image.image c.self.invariant.desk idle is c.in_ok-image.ensures.mapping c.in_ok-image.ensures.sound c.in_ok-image.ensures.inside;
-      few = by_imaged _ _ _ _ _ _ (λ m edited size is. few_nodes m c.plan.new.tree _ c.in_ok-image.image is size) c.self.invariant.desk.mapping.size c.in_ok-image.ensures.image;
-      places = by_imaged _ _ _ _ _ _ (λ m edited size is. c.image_law.ensures.places m c.plan.new.tree _ c.in_ok-image.image (free_for g.P.Policy.knows _ c.self.invariant.desk idle m edited size) is)
-          c.self.invariant.desk.mapping.size c.in_ok-image.ensures.image;
-    }))
+    begun_as g.P.Policy.knows g.P.Policy.hint_of _ _ _ _ c.in_ok-image.image c.plan.new.tree c.self.view_is (rw (space, many) refl)
+    (has_begun g.P.Policy.knows (λ dirty. dirty.now) _ g.P.Policy.hint_of c.args.clean c.plan.new.tree c.in-Some.generation c.in_ok-image.image c.self.invariant.desk (record { idle = idle; next = omega arith }) (omega arith)
+    c.image_law.ensures.places c.in_ok-image.ensures.image c.in_ok-image.ensures.mapping c.in_ok-image.ensures.sound c.in_ok-image.ensures.inside)

@@ -9,7 +9,7 @@ use Rattle.wb_desk.proofs.desk.Desk.end_commit.Goals as goal
 pub invariant_of-self : goal.invariant_of-self
 invariant_of-self g c =
     let runs = subst (λ (d : DeskState _). d.space.committing ≡ true) (sym c.self.view_is) c.requires in
-    rw (c.end.ensures, c.next-self-inside.ensures, length_flags _ _ _ c.self.invariant.desk.places.committed) (record {
+    rw (c.end.ensures, c.next-self-inside.ensures, c.next-self-inside-2.ensures, length_flags _ _ _ c.self.invariant.desk.places.committed) (record {
       desk = ended_kept g.P.Policy.knows _ c.self.invariant.desk runs;
       sound = c.self.invariant.sound;
       index = c.self.invariant.index;
@@ -18,4 +18,4 @@ invariant_of-self g c =
     })
 
 pub returns : goal.returns
-returns g c = rw (c.end.ensures, c.next-self-inside.ensures, length_flags _ _ _ c.self.invariant.desk.places.committed) (ap (λ (d : DeskState _). commit_ended d) c.self.view_is)
+returns g c = rw (c.end.ensures, c.next-self-inside.ensures, c.next-self-inside-2.ensures, length_flags _ _ _ c.self.invariant.desk.places.committed) (ap (λ (d : DeskState _). commit_ended d) c.self.view_is)
