@@ -20,13 +20,12 @@ mod mapping;
 mod settling;
 mod sharing;
 
-pub use sharing::{Arrival, Asked, Receipt, Ticket};
-
 use crate::Counts;
 use crate::invalidating::may_invalidate;
 use crate::opening::{
     cached_blocks, count_mapped, last_value, left_places, mapped_blocks, set_policy,
 };
+pub use sharing::{Arrival, Asked, Receipt, Ticket};
 use std::alloc::Global;
 use std::marker::Model;
 use wb_bits::BitSet;

@@ -134,6 +134,7 @@ const BROKEN: [Flush; 14] = [
 ];
 
 const SHARES: [(Call, bool); 1] = [(Call::Flushes(&SHARED), true)];
+
 const BREAKS: [(Call, bool); 1] = [(Call::Flushes(&BROKEN), true)];
 
 #[test]
@@ -149,6 +150,7 @@ fn a_broken_commit_serves_none_but_those_that_it_served(rt: HostRuntime) -> Resu
 }
 
 const NONE_LEADS: [Flush; 1] = [Flush::Arrives(Told::Refused(Refusal::GenerationEnd))];
+
 const WORN: [(Call, bool); 1] = [(Call::Flushes(&NONE_LEADS), true)];
 
 #[test]
