@@ -72,7 +72,10 @@ fn arrives<P: Policy>(
     tickets: &mut Vec<Ticket>,
 ) -> Result<Told, Refusal> {
     match desk.arrive(alloc) {
-        Ok(Arrival::Lead(_)) => Ok(Told::Leads),
+        Ok(Arrival::Lead(image)) => {
+            drop(image);
+            Ok(Told::Leads)
+        }
         Ok(Arrival::Ticket(ticket)) => match tickets.push(ticket) {
             Ok(()) => Ok(Told::Waits),
             Err(e) => Err(AllocError::from(e).into()),
@@ -84,7 +87,10 @@ fn arrives<P: Policy>(
 fn asks<P: Policy>(desk: &mut Desk<P>, alloc: Global, ticket: &Ticket) -> Told {
     match desk.ask(alloc, ticket) {
         Ok(Asked::Served(receipt)) => Told::Served(receipt.number()),
-        Ok(Asked::Lead(_)) => Told::Leads,
+        Ok(Asked::Lead(image)) => {
+            drop(image);
+            Told::Leads
+        }
         Ok(Asked::Wait) => Told::Waits,
         Err(refusal) => Told::Refused(refusal),
     }
