@@ -1,5 +1,5 @@
 -- Where a desk may begin a commit there is an image to begin it with: the tree has no node, and the image none to write.
-use Rattle.std.proofs.Common.{Global, ◌≡◌, ◌∙◌, ◌≤◌, ◌+◌, inl, ℕ, zero, suc, false, List, [], ◌∷◌, Option, Some, None, refl, sym, ap, subst, arith, length, map, slice_index_or, slice_get, replicate}
+use Rattle.std.proofs.Common.{Global, ◌≡◌, ◌∙◌, ◌≤◌, ◌+◌, inl, ℕ, zero, suc, Bool, false, List, [], ◌∷◌, Option, Some, None, refl, sym, ap, subst, arith, length, map, slice_index_or, slice_get, replicate}
 use Rattle.std.proofs.lemmas.List.{length-map}
 use Rattle.std.proofs.lemmas.List.Elements.{All-nil}
 use Rattle.wb_types.specs.declared.entry.Entry.{Entry}
@@ -10,6 +10,7 @@ use Rattle.wb_disk.specs.Device.{History}
 use Rattle.wb_format.specs.declared.root.Root.{Root}
 use Rattle.wb_format.specs.Sizes.{IsTop}
 use Rattle.wb_meta.specs.Placing.{HavePlaces}
+use Rattle.wb_meta.proofs.Imaging.{have_places}
 use Rattle.wb_tree.specs.declared.image.Image.{Image}
 use Rattle.wb_tree.specs.declared.placed.PlacedNode.{PlacedNode}
 use Rattle.wb_tree.specs.Mapping.{Mapping, IsSound, place_in, place_of, used_places}
@@ -21,7 +22,7 @@ use Rattle.wb_devices.specs.declared.running.RunningCommit.{RunningCommit}
 use Rattle.wb_tasks.specs.declared.step.Got.TheVariants.{Began}
 use denote.RawPtr.{null_ptr}
 use Rattle.wb_promise.specs.Happenings.{Commits, DoesBegin}
-use Rattle.wb_desk.proofs.Committing.{on_unused}
+use Rattle.wb_desk.proofs.Committing.{has_begun}
 use Rattle.wb_examples.proofs.Bare.{BareDesk, no_entries, nothing_exists, nothing_changed}
 use Rattle.wb_runs.proofs.Metadata.{unknowing}
 
@@ -106,12 +107,8 @@ module _ (heap : Global) where
       refl,
       (
         (λ policy block. 0),
-        record {
-          may = may;
-          state = refl;
-          image_is = planned;
-          unused = on_unused unknowing desk (λ (b : ℕ). 0) None false desk.tree (bare_image (bare_root g (desk.generation + 1))) bare.known.is.kept may.idle planned bare.known.is.kept.mapping bare.known.is.sound bare.known.is.kept.places.inside;
-        },
+        has_begun unknowing (λ (bits : List Bool). bits) desk (λ policy block. 0) None desk.tree (desk.generation + 1) (bare_image (bare_root g (desk.generation + 1))) bare.known.is.kept may refl have_places planned
+        bare.known.is.kept.mapping bare.known.is.sound bare.known.is.kept.places.inside,
       ),
       All-nil _,
     )

@@ -26,7 +26,7 @@ use Rattle.wb_meta.proofs.Imaging.{have_places}
 use Rattle.wb_desk.specs.Desks.{DeskState, DeskInvariant}
 use Rattle.wb_desk.specs.Commits.{MayBegin, next_plan}
 use Rattle.wb_desk.specs.Marks.{AreMarked}
-use Rattle.wb_desk.proofs.Committing.{free_for, on_unused}
+use Rattle.wb_desk.proofs.Committing.{free_for, has_begun}
 use Rattle.wb_devices.specs.declared.running.RunningCommit.{RunningCommit}
 use Rattle.wb_tasks.specs.declared.step.Got.TheVariants.{Began}
 use denote.RawPtr.{null_ptr}
@@ -206,12 +206,8 @@ module _ (P A : Type 0) (t : Tiny P A) where
         refl,
         (
           (λ policy block. 0),
-          record {
-            may = may;
-            state = refl;
-            image_is = ((marked_tree dirty), marks, image_is);
-            unused = on_unused unknowing stood0 (λ (b : ℕ). 0) (Some (dirty ∷ [])) true (stored_tree dirty) image kept may.idle ((marked_tree dirty), marks, image_is) (stored_mapping dirty) stored_sound stored_inside;
-          },
+          has_begun unknowing (λ (bits : List Bool). bits) stood0 (λ policy block. 0) (Some (dirty ∷ [])) (stored_tree dirty) plan.generation image kept may refl have_places ((marked_tree dirty), marks, image_is)
+          (stored_mapping dirty) stored_sound stored_inside,
         ),
         All-cons (λ (n : Place × Node). length n.1.words ≡ 32) (leaf_place, leaf_node dirty (s.generation + 1)) [] refl (All-nil _),
       )

@@ -32,7 +32,7 @@ use Rattle.wb_meta.specs.declared.commit_steps.CommitSteps.TheVariants.{NodesWri
 use Rattle.wb_meta.proofs.Imaging.{have_places}
 use Rattle.wb_desk.specs.Desks.{DeskState}
 use Rattle.wb_desk.specs.Commits.{HasBegun, MayBegin, next_plan, commit_begun}
-use Rattle.wb_desk.proofs.Committing.{free_for, on_unused}
+use Rattle.wb_desk.proofs.Committing.{free_for, has_begun}
 use Rattle.wb_devices.specs.declared.running.RunningCommit.{RunningCommit}
 use denote.RawPtr.{null_ptr}
 use Rattle.wb_promise.specs.Happenings.{Commits, AreWhole}
@@ -262,14 +262,9 @@ desk_begins heap P A g images desk commit device known once most enough may =
           refl,
           (
             (λ policy block. 0),
-            record {
-              may = may;
-              state = refl;
-              image_is = is;
-              unused = on_unused unknowing desk (λ (b : ℕ). 0) None false tree im kept may.idle is
-                  (subst (λ (es : List (Option Entry)). IsMapping desk.geometry.cache_blocks desk.geometry.origin_blocks es) (sym is.same_entries) kept.mapping)
-                  (planned-sound desk.tree desk.geometry plan.free can) (planned-inside desk.tree desk.geometry plan.free can);
-            },
+            has_begun unknowing (λ (bits : List Bool). bits) desk (λ policy block. 0) None tree plan.generation im kept may refl have_places is
+            (subst (λ (es : List (Option Entry)). IsMapping desk.geometry.cache_blocks desk.geometry.origin_blocks es) (sym is.same_entries) kept.mapping)
+            (planned-sound desk.tree desk.geometry plan.free can) (planned-inside desk.tree desk.geometry plan.free can),
           ),
           (made heap desk.tree desk.geometry plan.free plan.generation can kept.mapping).whole,
         ),
