@@ -1,8 +1,6 @@
 -- A ticket is served only by a commit that began after it.
-use Rattle.std.proofs.Common.{◌≡◌, ◌≤◌, ◌<◌, ◌+◌, inl, inr, ◌⊎◌, ℕ, Bool, true, false, List, [], ◌∷◌, Option, Some, None, refl, sym, ap, subst, ◌∙◌, arith}
+use Rattle.std.proofs.Common.{◌≡◌, ◌≤◌, ◌<◌, ◌+◌, inl, inr, ◌⊎◌, ℕ, Bool, true, false, List, [], ◌∷◌, None, refl, sym, ap, ◌∙◌, arith}
 use Rattle.std.proofs.lemmas.Bool.{true≢false}
-use Rattle.wb_types.specs.declared.refusal.Refusal.{Refusal}
-use Rattle.wb_tree.specs.declared.image.Image.{Image}
 use Rattle.wb_policy.specs.Law.{Holdings}
 use Rattle.wb_desk.specs.declared.desk.sharing.Arrival.{Arrival}
 use Rattle.wb_desk.specs.declared.desk.sharing.Arrival.TheVariants.{Lead, Ticket}
@@ -11,7 +9,7 @@ use Rattle.wb_desk.specs.declared.desk.sharing.Asked.TheVariants.{Served, Wait, 
 use Rattle.wb_desk.specs.Desks.{DeskState}
 use Rattle.wb_desk.specs.Calls.{reserved, released, next_order_taken}
 use Rattle.wb_desk.specs.Entries.{mapped, unmapped}
-use Rattle.wb_desk.specs.Commits.{commit_begun, commit_broken, commit_ended}
+use Rattle.wb_desk.specs.Commits.{commit_broken}
 use Rattle.wb_desk.specs.Safety.{DeskCall, TakeOrder, Tell, GiveOrder, Release, Map, Unmap, BeginCommit, EndCommit, BreakCommit, Does, AreCalls, desk_after}
 use Rattle.wb_desk.specs.Sharing.{IsTicket, IsServed, HasArrived, HasAsked, HasEnd, HasWholeCommit, BeginsOrStays}
 use Rattle.wb_desk.proofs.Safe.{begun_does}

@@ -1,6 +1,6 @@
 -- Flushes that share a commit: who begins one, who waits, and which commit covers a flush. The commits that began since the opening are
 -- numbered from 1.
-use Rattle.std.specs.Prelude.{◌≡◌, ◌≤◌, ◌<◌, ◌+◌, ◌⊎◌, ℕ, Bool, true, false, List, [], ◌∷◌, Option, Some, None}
+use Rattle.std.specs.Prelude.{◌≡◌, ◌≤◌, ◌+◌, ◌⊎◌, ℕ, true, false, List, [], ◌∷◌, Option, Some, None}
 use Rattle.wb_types.specs.declared.refusal.Refusal.{Refusal}
 use Rattle.wb_types.specs.declared.refusal.Refusal.TheVariants.{Failed}
 use Rattle.wb_tree.specs.declared.image.Image.{Image}
@@ -11,7 +11,7 @@ use Rattle.wb_desk.specs.declared.desk.sharing.Asked.{Asked}
 use Rattle.wb_desk.specs.declared.desk.sharing.Asked.TheVariants.{Served, Wait, Lead as Leads}
 use Rattle.wb_desk.specs.Desks.{DeskState}
 use Rattle.wb_desk.specs.Commits.{HasBegun, IsBeginRefused}
-use Rattle.wb_desk.specs.Safety.{DeskCall, BeginCommit, EndCommit, BreakCommit, Does, AreCalls, desk_after}
+use Rattle.wb_desk.specs.Safety.{DeskCall, BeginCommit, EndCommit, Does, AreCalls, desk_after}
 
 -- A flush that comes while a commit runs gets this number: that of the next one, as the running one may have begun too early for it.
 pub record IsTicket {P : Type 0} (d : DeskState P) (number : ℕ) : Type 0 where

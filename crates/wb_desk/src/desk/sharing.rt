@@ -1,6 +1,6 @@
 //! Flushes that share a commit.
 
-ghost use Rattle.std.specs.Prelude.{◌≡◌, ◌≤◌, ℕ, Some, None, IfOk, IfErr, OnErr};
+ghost use Rattle.std.specs.Prelude.{◌≡◌, IfOk, IfErr, OnErr};
 ghost use Rattle.wb_desk.specs.Commits.{commit_broken};
 ghost use Rattle.wb_desk.specs.Sharing.{HasArrived, HasAsked, HasLed, IsLeadRefused, IsServed};
 
