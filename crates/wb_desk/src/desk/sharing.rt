@@ -74,8 +74,8 @@ pub enum Asked {
 }
 
 impl<P: Policy> Desk<P> {
-    /// A flush comes, whose client's writes are all in the mapping: it leads the commit that begins for it, or where one runs, gets a
-    /// ticket for the next one, without memory.
+    /// A flush comes: it leads the commit that begins for it, or where one runs, gets a ticket for the next one, without memory. What
+    /// the running one stores is of its beginning, which may be before what the flush is to store.
     ///
     /// `Failed` after `break_commit`; where no commit runs, `GenerationEnd` and `Memory` as `begin_commit` says. Then nothing
     /// changed.
