@@ -108,7 +108,7 @@ module _ (heap : Global) where
       (
         (λ policy block. 0),
         has_begun unknowing (λ (bits : List Bool). bits) desk (λ policy block. 0) None desk.tree (desk.generation + 1) (bare_image (bare_root g (desk.generation + 1))) bare.known.is.kept may refl have_places planned
-        bare.known.is.kept.mapping bare.known.is.sound bare.known.is.kept.places.inside,
+            bare.known.is.kept.mapping bare.known.is.sound bare.known.is.kept.places.inside,
       ),
       All-nil _,
     )

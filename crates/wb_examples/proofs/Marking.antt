@@ -207,7 +207,7 @@ module _ (P A : Type 0) (t : Tiny P A) where
         (
           (λ policy block. 0),
           has_begun unknowing (λ (bits : List Bool). bits) stood0 (λ policy block. 0) (Some (dirty ∷ [])) (stored_tree dirty) plan.generation image kept may refl have_places ((marked_tree dirty), marks, image_is)
-          (stored_mapping dirty) stored_sound stored_inside,
+              (stored_mapping dirty) stored_sound stored_inside,
         ),
         All-cons (λ (n : Place × Node). length n.1.words ≡ 32) (leaf_place, leaf_node dirty (s.generation + 1)) [] refl (All-nil _),
       )

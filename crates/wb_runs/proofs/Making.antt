@@ -263,8 +263,8 @@ desk_begins heap P A g images desk commit device known once most enough may =
           (
             (λ policy block. 0),
             has_begun unknowing (λ (bits : List Bool). bits) desk (λ policy block. 0) None tree plan.generation im kept may refl have_places is
-            (subst (λ (es : List (Option Entry)). IsMapping desk.geometry.cache_blocks desk.geometry.origin_blocks es) (sym is.same_entries) kept.mapping)
-            (planned-sound desk.tree desk.geometry plan.free can) (planned-inside desk.tree desk.geometry plan.free can),
+                (subst (λ (es : List (Option Entry)). IsMapping desk.geometry.cache_blocks desk.geometry.origin_blocks es) (sym is.same_entries) kept.mapping)
+                (planned-sound desk.tree desk.geometry plan.free can) (planned-inside desk.tree desk.geometry plan.free can),
           ),
           (made heap desk.tree desk.geometry plan.free plan.generation can kept.mapping).whole,
         ),
