@@ -132,23 +132,31 @@ fn read<S: Stage>(stage: &mut S, part: Part, place: Option<CBlock>) -> Answer
     count(stage, Way::Reads, part, kind)
 }
 
-/// The writing of a block that is held: in write-back a clean copy in the cache is sealed dirty first.
+/// The writing of a block that is held.
 #[inline(always)]
 fn dirty<S: Stage>(stage: &mut S, part: Part, place: Option<CBlock>, dirty: bool) -> Answer
     requires some { 0 < part.block_sectors }
     requires stays { StaysReady S.ready S.led (left (Writing (range_in part)) (dirtying part.mode part.block place dirty ++ straight_writing part (places_written part.mode place) place) Finished) stage.old }
     ensures { ComesTo S.led (left (Writing (range_in part)) (dirtying part.mode part.block place dirty ++ straight_writing part (places_written part.mode place) place) Finished) stage.old result stage.new }
 {
-    match place {
-        None => write(stage, part, None),
-        Some(c) => {
-            if !is_due(part.mode, dirty) {
-                return write(stage, part, Some(c));
-            }
-            change(stage, CellStep::Seal(part.block, Some(c), true));
-            write(stage, part, Some(c))
-        }
+    mark(stage, part, place, dirty);
+    write(stage, part, place)
+}
+
+/// In write-back a clean copy in the cache is sealed dirty before it is written; to what is left then is come from here too.
+#[inline(always)]
+fn mark<S: Stage>(stage: &mut S, part: Part, place: Option<CBlock>, dirty: bool)
+    requires stays { StaysReady S.ready S.led (left (Writing (range_in part)) (dirtying part.mode part.block place dirty ++ straight_writing part (places_written part.mode place) place) Finished) stage.old }
+    ensures stays { StaysReady S.ready S.led (left (Writing (range_in part)) (straight_writing part (places_written part.mode place) place) Finished) stage.new }
+    ensures comes { (answer : _) (end : _) → ComesTo S.led (left (Writing (range_in part)) (straight_writing part (places_written part.mode place) place) Finished) stage.new answer end → ComesTo S.led (left (Writing (range_in part)) (dirtying part.mode part.block place dirty ++ straight_writing part (places_written part.mode place) place) Finished) stage.old answer end }
+{
+    let Some(c) = place else {
+        return;
+    };
+    if !is_due(part.mode, dirty) {
+        return;
     }
+    change(stage, CellStep::Seal(part.block, Some(c), true));
 }
 
 /// From the write on.
