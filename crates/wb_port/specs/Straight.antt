@@ -8,6 +8,7 @@ use Rattle.wb_words.specs.declared.word.Access.TheVariants.{Shared, Owned}
 use Rattle.wb_words.specs.declared.step.CellStep.TheVariants.{Release, Finish}
 use Rattle.wb_tasks.specs.Tables.{BlockRange, BlockJob, Reading, Writing, OnBlock, write_step, write_count}
 use Rattle.wb_tasks.specs.Plan.{Plan}
+use Rattle.wb_tasks.specs.Ready.{StaysReady}
 use Rattle.wb_tasks.specs.Run.{IsRunOf, Leads}
 use Rattle.wb_tasks.specs.declared.block.Work.{Work}
 use Rattle.wb_tasks.specs.declared.block.Work.TheVariants.{Read, Write}
@@ -65,3 +66,7 @@ is_deferred mode place = false
 -- From such a state on, a run of what is left ends with this answer.
 abbrev pub ComesTo : {S : Type 0} → (S → Want → Got → S → Type 0) → Plan → S → Answer → S → Type 0
 ComesTo led s old answer new = (steps : List (Want × Got)) × IsRunOf s steps answer × Leads led old steps new
+
+-- At this state before, a stage comes to that state, with that left, goes on: it is ready for it, and what it comes to then it comes to from before.
+abbrev pub GoesOn : {S : Type 0} → (S → Want → Type 0) → (S → Want → Got → S → Type 0) → Plan → S → Plan → S → Type 0
+GoesOn ready led before old after new = StaysReady ready led after new × ((answer : Answer) (end : _) → ComesTo led after new answer end → ComesTo led before old answer end)

@@ -3,7 +3,7 @@
 //! `drive` asks a task for each next step; here what comes next is where the code stands. So such a request
 //! costs a fraction of the instructions.
 
-ghost use Rattle.std.specs.Prelude.{◌≡◌, ◌<◌, [], ◌∷◌, ◌++◌, Some, true, if◌then◌else◌};
+ghost use Rattle.std.specs.Prelude.{◌≡◌, ◌<◌, [], ◌∷◌, ◌++◌, Some, true, if◌then◌else◌, IfSome, IfNone};
 ghost use Rattle.std.specs.Bool.{OnTrue};
 ghost use Rattle.wb_types.specs.declared.refusal.Refusal.TheVariants.{Io};
 ghost use Rattle.wb_words.specs.SharedWords.{place_in as place_of_seal, dirty_in};
@@ -15,7 +15,7 @@ ghost use Rattle.wb_tasks.specs.Plan.{table, answer_at};
 ghost use Rattle.wb_tasks.specs.declared.step.Answer.TheVariants.{Done as Finished, Refused as Refuses};
 ghost use Rattle.wb_tasks.specs.declared.step.Want.TheVariants.{Cell, Device};
 ghost use Rattle.wb_tasks.specs.declared.step.DeviceStep.TheVariants.{Read, Write};
-ghost use Rattle.wb_port.specs.Straight.{ComesTo, access_by, giving_back, is_deferred, job_by, left, range_in, straight_writing, straight_written};
+ghost use Rattle.wb_port.specs.Straight.{ComesTo, GoesOn, access_by, giving_back, is_deferred, job_by, left, range_in, straight_writing, straight_written};
 
 use crate::stepping::{change, look, take, transfer};
 use wb_tasks::{Answer, CellStep, DeviceStep, Stage};
@@ -132,23 +132,30 @@ fn read<S: Stage>(stage: &mut S, part: Part, place: Option<CBlock>) -> Answer
     count(stage, Way::Reads, part, kind)
 }
 
-/// The writing of a block that is held: in write-back a clean copy in the cache is sealed dirty first.
+/// The writing of a block that is held.
 #[inline(always)]
 fn dirty<S: Stage>(stage: &mut S, part: Part, place: Option<CBlock>, dirty: bool) -> Answer
     requires some { 0 < part.block_sectors }
     requires stays { StaysReady S.ready S.led (left (Writing (range_in part)) (dirtying part.mode part.block place dirty ++ straight_writing part (places_written part.mode place) place) Finished) stage.old }
     ensures { ComesTo S.led (left (Writing (range_in part)) (dirtying part.mode part.block place dirty ++ straight_writing part (places_written part.mode place) place) Finished) stage.old result stage.new }
 {
-    match place {
-        None => write(stage, part, None),
-        Some(c) => {
-            if !is_due(part.mode, dirty) {
-                return write(stage, part, Some(c));
-            }
-            change(stage, CellStep::Seal(part.block, Some(c), true));
-            write(stage, part, Some(c))
-        }
+    mark(stage, part, place, dirty);
+    write(stage, part, place)
+}
+
+/// In write-back a clean copy in the cache is sealed dirty before it is written.
+#[inline(always)]
+fn mark<S: Stage>(stage: &mut S, part: Part, place: Option<CBlock>, dirty: bool)
+    requires stays { StaysReady S.ready S.led (left (Writing (range_in part)) (dirtying part.mode part.block place dirty ++ straight_writing part (places_written part.mode place) place) Finished) stage.old }
+    ensures { GoesOn S.ready S.led (left (Writing (range_in part)) (dirtying part.mode part.block place dirty ++ straight_writing part (places_written part.mode place) place) Finished) stage.old (left (Writing (range_in part)) (straight_writing part (places_written part.mode place) place) Finished) stage.new }
+{
+    let Some(c) = place else {
+        return;
+    };
+    if !is_due(part.mode, dirty) {
+        return;
     }
+    change(stage, CellStep::Seal(part.block, Some(c), true));
 }
 
 /// From the write on.
@@ -158,29 +165,44 @@ fn write<S: Stage>(stage: &mut S, part: Part, place: Option<CBlock>) -> Answer
     requires stays { StaysReady S.ready S.led (left (Writing (range_in part)) (straight_writing part (places_written part.mode place) place) Finished) stage.old }
     ensures { ComesTo S.led (left (Writing (range_in part)) (straight_writing part (places_written part.mode place) place) Finished) stage.old result stage.new }
 {
+    match put(stage, part, place) {
+        None => finish(stage, part, place),
+        Some(device) => fail(stage, part, Answer::Refused(Refusal::Io(device))),
+    }
+}
+
+/// The sectors are written wherever their mode has them: the device that failed, if one did.
+#[inline(always)]
+fn put<S: Stage>(stage: &mut S, part: Part, place: Option<CBlock>) -> Option<Dev>
+    requires some { 0 < part.block_sectors }
+    requires stays { StaysReady S.ready S.led (left (Writing (range_in part)) (straight_writing part (places_written part.mode place) place) Finished) stage.old }
+    ensures done { IfNone result (GoesOn S.ready S.led (left (Writing (range_in part)) (straight_writing part (places_written part.mode place) place) Finished) stage.old (left (Writing (range_in part)) (straight_written part place) Finished) stage.new) }
+    ensures failed { IfSome result (λ device. GoesOn S.ready S.led (left (Writing (range_in part)) (straight_writing part (places_written part.mode place) place) Finished) stage.old (left (Writing (range_in part)) (Cell SetFailed ∷ []) (Refuses (Io device))) stage.new) }
+{
     let (first, again) = written(part.mode, place);
     let (device, extent) = route(part, first);
     if !transfer(stage, DeviceStep::Write(device, extent)) {
-        return fail(stage, part, Answer::Refused(Refusal::Io(device)));
+        return Some(device);
     }
-    if again {
-        return mirror(stage, part, place);
+    if !again {
+        return None;
     }
-    finish(stage, part, place)
+    mirror(stage, part, place)
 }
 
-/// From the second write on, which is where the block stands.
+/// In write-through they are written once more, at the place where the block stands.
 #[inline(always)]
-fn mirror<S: Stage>(stage: &mut S, part: Part, place: Option<CBlock>) -> Answer
+fn mirror<S: Stage>(stage: &mut S, part: Part, place: Option<CBlock>) -> Option<Dev>
     requires some { 0 < part.block_sectors }
     requires stays { StaysReady S.ready S.led (left (Writing (range_in part)) (straight_writing part (place ∷ []) place) Finished) stage.old }
-    ensures { ComesTo S.led (left (Writing (range_in part)) (straight_writing part (place ∷ []) place) Finished) stage.old result stage.new }
+    ensures done { IfNone result (GoesOn S.ready S.led (left (Writing (range_in part)) (straight_writing part (place ∷ []) place) Finished) stage.old (left (Writing (range_in part)) (straight_written part place) Finished) stage.new) }
+    ensures failed { IfSome result (λ device. GoesOn S.ready S.led (left (Writing (range_in part)) (straight_writing part (place ∷ []) place) Finished) stage.old (left (Writing (range_in part)) (Cell SetFailed ∷ []) (Refuses (Io device))) stage.new) }
 {
     let (device, extent) = route(part, place);
     if !transfer(stage, DeviceStep::Write(device, extent)) {
-        return fail(stage, part, Answer::Refused(Refusal::Io(device)));
+        return Some(device);
     }
-    finish(stage, part, place)
+    None
 }
 
 /// After a write failed: the failed bit is set, and the block is kept.

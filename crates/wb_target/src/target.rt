@@ -25,7 +25,7 @@ use wb_types::{Geometry, Key, Mode, OBlock, Refusal};
 /// How many clients a target has at most.
 pub const CLIENTS: usize = 64;
 
-/// An opened cache: its desk behind a lock, and a bell that rings when orders were given or a commit has ended.
+/// An opened cache: its desk behind a lock, and a bell that rings when a commit has ended, or never will.
 pub struct Target<P: Policy> {
     pub(crate) alloc: Global,
     pub(crate) geometry: Geometry,
@@ -150,13 +150,12 @@ impl<P: Policy> Target<P> {
         status_text(&fields, text)
     }
 
-    /// The policy's tick; whoever waits for an order is woken. `Memory` where there is none, and then no order was given.
+    /// The policy's tick. `Memory` where there is none, and then no order was given.
     pub(crate) fn tick<R: Wait>(&self, rt: &R) -> Result<(), Refusal>
         ensures ticked { OnOk result (HadTick P.cleaned P.ticked) }
         ensures refused { IfErr result (λ refusal. refusal ≡ Refusal.Memory) }
     {
         self.office.lock(rt).tick(self.alloc)?;
-        self.bell.notify_all();
         Ok(())
     }
 
@@ -168,12 +167,11 @@ impl<P: Policy> Target<P> {
         self.office.lock(rt).set(key, value)
     }
 
-    /// Tells the policy of accesses, in order; whoever waits for an order is woken.
+    /// Tells the policy of accesses, in order.
     pub(crate) fn settle<R: Wait>(&self, rt: &R, accesses: &[OBlock])
         ensures { WereSettled P.ordered P.settled accesses.now }
     {
         self.office.lock(rt).desk.settle(accesses);
-        self.bell.notify_all();
     }
 
     /// Tells the policy of accesses, in order, if nobody else has the lock now: whether it did.
@@ -184,8 +182,6 @@ impl<P: Policy> Target<P> {
             return false;
         };
         office.desk.settle(accesses);
-        drop(office);
-        self.bell.notify_all();
         true
     }
 
