@@ -17,10 +17,13 @@ import os
 import subprocess
 import sys
 
-BLOCK, SECTORS = 64, 640
+BLOCK = 64
 SETUP = "setup writeback 64 4 10 4"
 RUN = ["w 0 2 11", "promote 0 0", "flush", "w 0 1 22", "flush", "w 0 1 33", "demote 0", "flush", "promote 5 0", "w 320 1 44", "clean 5", "flush"]
 SHARES = [2, 128, 6, 1, 5, 1, 128, 5, 128, 1, 128, 6]
+# What is looked at: the blocks that the run touches, and a sector beside each. Where one sector alone has another content than at a stop that was
+# looked at so, its like in both blocks.
+WATCHED = [(0, 65), (319, 66)]
 DEVICES = {"m": "metadata", "c": "cache", "o": "origin"}
 Step = collections.namedtuple("Step", "kind device sector content", defaults=(None, None))
 
@@ -197,7 +200,7 @@ def whole(task):
 
 
 def replays(share):
-    """Each replay: the check that it belongs to, its lines, what is printed before the opening, and what sectors may show."""
+    """Each replay: the check that it belongs to, its lines, what is printed before the opening, which sectors are looked at, and what they may show."""
     model, before, printed, singled = Model(), [SETUP], [], 0
     for number, task in enumerate(RUN):
         name = f"{number + 1}, {task}"
@@ -210,12 +213,13 @@ def replays(share):
             lines = before + [f"start 0 {task}", f"step 0 {leading + count}"]
             shown = model.allowed()
             for kind in "old", "new":
-                yield f"{name}: stop {kind}", lines + [f"stop {kind}"], printed, shown
+                yield f"{name}: stop {kind}", lines + [f"stop {kind}"], printed, WATCHED, shown
             for (device, sector), contents in model.open.items():
                 for position in range(1, len(contents)):
                     singled += 1
                     if singled % share == 0:
-                        yield f"{name}: stop with one sector otherwise", lines + [f"stop old {device}:{sector}:{position}"], printed, shown
+                        looks = WATCHED if device == "m" else [(sector % BLOCK, 1), (320 + sector % BLOCK, 1)]
+                        yield f"{name}: stop with one sector otherwise", lines + [f"stop old {device}:{sector}:{position}"], printed, looks, shown
             step = next(steps, None)
             if step is None:
                 break
@@ -229,7 +233,7 @@ def replays(share):
                     told = told + failed.play(later)
                 shown = failed.allowed()
                 for base in "old", "new":
-                    yield f"{name}: fault {kind}", lines + [f"fault 0 {kind}", "end 0"] + rest + [f"stop {base}"], told, shown
+                    yield f"{name}: fault {kind}", lines + [f"fault 0 {kind}", "end 0"] + rest + [f"stop {base}"], told, WATCHED, shown
             model.take(task, step)
             count += 1
         assert count == SHARES[number], f"{task} has {count} steps on devices"
@@ -238,23 +242,19 @@ def replays(share):
         printed = printed + ["0 done"]
 
 
-def answered(program, lines):
-    text = "\n".join(lines + ["open writeback", f"view 0 {SECTORS}", ""])
-    done = subprocess.run([program, "replay"], input=text, capture_output=True, text=True, timeout=60)
-    return done.returncode, done.stdout.split("\n")
-
-
 def fault_of(work):
     """What is wrong with a replay: nothing, mostly."""
-    program, name, lines, printed, shown = work
-    status, told = answered(program, lines)
-    count = len(printed)
-    if status != 0 or told[:count] != printed or len(told) != count + SECTORS + 2 or not told[count].startswith("open "):
-        return name, f"status {status}, and it printed {told[:count + 3]}, where it was to print {printed} and then an opening\n  {' / '.join(lines)}"
-    for sector, line in enumerate(told[count + 1:-1]):
+    program, name, lines, printed, looks, shown = work
+    lines = lines + ["open writeback"] + [f"view {first} {many}" for first, many in looks]
+    done = subprocess.run([program, "replay"], input="\n".join(lines) + "\n", capture_output=True, text=True, timeout=60)
+    told, count = done.stdout.splitlines(), len(printed)
+    wanted = [sector for first, many in looks for sector in range(first, first + many)]
+    if done.returncode != 0 or told[:count] != printed or len(told) != count + 1 + len(wanted) or not told[count].startswith("open "):
+        return name, f"status {done.returncode}, it printed {told[:count + 3]}, and was to print {printed} and then an opening\n  {' / '.join(lines)}"
+    for sector, line in zip(wanted, told[count + 1:]):
         at, content = line.split(" ")
-        if int(at) != sector or content not in shown.get(sector, ("00",)):
-            return name, f"it shows '{line}', where sector {sector} may have {sorted(shown.get(sector, ('00',)))}\n  {' / '.join(lines)}"
+        if int(at) != sector or content not in shown.get(sector, {"00"}):
+            return name, f"it shows '{line}', and sector {sector} may have {sorted(shown.get(sector, {'00'}))}\n  {' / '.join(lines)}"
     return name, None
 
 
