@@ -1,0 +1,114 @@
+// Bad weather for a program, loaded before the C library. What the environment asks for:
+//   WEATHER_FILE=NAME WEATHER_CALL=N  the N-th read, write or sync of the file of this name fails, as a broken device's
+//   WEATHER_SHORT=SEED                a read or write of a file or a stream takes only a part of what was asked; one of a stream is interrupted, too
+//   WEATHER_ALLOC=N                   the N-th request for memory is refused
+//   WEATHER_NOTE=FILE                 this file is made once that has happened
+#define _GNU_SOURCE
+#include <dlfcn.h>
+#include <errno.h>
+#include <fcntl.h>
+#include <stdarg.h>
+#include <stdatomic.h>
+#include <stdlib.h>
+#include <string.h>
+#include <unistd.h>
+
+void *__libc_malloc(size_t);
+void *__libc_calloc(size_t, size_t);
+void *__libc_realloc(void *, size_t);
+
+static int (*real_open)(const char *, int, ...);
+static int (*real_close)(int), (*real_fdatasync)(int), (*real_fsync)(int);
+static ssize_t (*real_pread)(int, void *, size_t, off_t), (*real_pwrite)(int, const void *, size_t, off_t);
+static ssize_t (*real_read)(int, void *, size_t), (*real_write)(int, const void *, size_t);
+
+static const char *file, *note;
+static long failing, refused;
+static unsigned long seed;
+static atomic_long calls, requests;
+static atomic_ulong turns;
+static atomic_char is_bad[1024];
+
+static long number(const char *name) {
+  const char *text = getenv(name);
+  return text == NULL ? 0 : atol(text);
+}
+
+__attribute__((constructor)) static void begin(void) {
+  real_open = dlsym(RTLD_NEXT, "open");
+  real_close = dlsym(RTLD_NEXT, "close");
+  real_fdatasync = dlsym(RTLD_NEXT, "fdatasync");
+  real_fsync = dlsym(RTLD_NEXT, "fsync");
+  real_pread = dlsym(RTLD_NEXT, "pread");
+  real_pwrite = dlsym(RTLD_NEXT, "pwrite");
+  real_read = dlsym(RTLD_NEXT, "read");
+  real_write = dlsym(RTLD_NEXT, "write");
+  file = getenv("WEATHER_FILE");
+  note = getenv("WEATHER_NOTE");
+  failing = number("WEATHER_CALL");
+  seed = number("WEATHER_SHORT");
+  refused = number("WEATHER_ALLOC");
+  atomic_store(&requests, 0);
+}
+
+static void tell(void) {
+  int made = note == NULL ? -1 : real_open(note, O_WRONLY | O_CREAT | O_APPEND | O_CLOEXEC, 0600);
+  if (made >= 0) real_close(made);
+}
+
+static int fails(int fd) {
+  if (fd < 0 || fd >= 1024 || !atomic_load(&is_bad[fd]) || atomic_fetch_add(&calls, 1) + 1 != failing) return 0;
+  tell();
+  errno = EIO;
+  return 1;
+}
+
+// A number that hangs on the seed and on the turn.
+static unsigned long dice(void) {
+  unsigned long x = seed * 0x9E3779B97F4A7C15u + atomic_fetch_add(&turns, 1) * 0xD6E8FEB86659FD93u;
+  x ^= x >> 32;
+  x *= 0xD6E8FEB86659FD93u;
+  return x ^ x >> 32;
+}
+
+static size_t part(size_t size) { return seed == 0 || size < 2 ? size : 1 + dice() % size; }
+
+int open(const char *path, int flags, ...) {
+  va_list rest;
+  va_start(rest, flags);
+  int mode = flags & O_CREAT ? va_arg(rest, int) : 0;
+  va_end(rest);
+  int fd = real_open(path, flags, mode);
+  if (fd >= 0 && fd < 1024) atomic_store(&is_bad[fd], file != NULL && strcmp(path, file) == 0);
+  return fd;
+}
+
+int close(int fd) {
+  if (fd >= 0 && fd < 1024) atomic_store(&is_bad[fd], 0);
+  return real_close(fd);
+}
+
+int fdatasync(int fd) { return fails(fd) ? -1 : real_fdatasync(fd); }
+int fsync(int fd) { return fails(fd) ? -1 : real_fsync(fd); }
+ssize_t pread(int fd, void *to, size_t size, off_t at) { return fails(fd) ? -1 : real_pread(fd, to, part(size), at); }
+ssize_t pwrite(int fd, const void *from, size_t size, off_t at) { return fails(fd) ? -1 : real_pwrite(fd, from, part(size), at); }
+
+static int is_interrupted(void) {
+  if (seed == 0 || dice() % 4 != 0) return 0;
+  errno = EINTR;
+  return 1;
+}
+
+ssize_t read(int fd, void *to, size_t size) { return is_interrupted() ? -1 : real_read(fd, to, part(size)); }
+ssize_t write(int fd, const void *from, size_t size) { return is_interrupted() ? -1 : real_write(fd, from, part(size)); }
+
+static int refuse(void) {
+  if (refused == 0 || atomic_fetch_add(&requests, 1) + 1 != refused) return 0;
+  tell();
+  errno = ENOMEM;
+  return 1;
+}
+
+void *malloc(size_t size) { return refuse() ? NULL : __libc_malloc(size); }
+void *calloc(size_t count, size_t size) { return refuse() ? NULL : __libc_calloc(count, size); }
+void *realloc(void *old, size_t size) { return refuse() ? NULL : __libc_realloc(old, size); }
