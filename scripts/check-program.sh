@@ -38,6 +38,13 @@ fi
 call "$top/scripts/check-nbd.sh" "$cache" "$server"
 call "$top/scripts/check-replays.sh" "$cache"
 call "$top/scripts/check-clients.sh" "$cache"
+if command -v python3 >/dev/null; then
+  call "$top/scripts/every_step.py" "$cache"
+  call "$top/scripts/images.py" "$bench"
+  call "$top/scripts/weather.py" "$cache" "$server"
+else
+  echo 'not tried: there is no python3, by which stops, faults, images and bad weather are played'
+fi
 cd "$work" || exit 1
 blank() { # files of zeros
   rm -f m.img c.img o.img

@@ -217,7 +217,7 @@ def main():
             if fault:
                 wrong += 1
                 print(f"failed: {fault}")
-    print(f"images: {counts.total()} images, {len(counts) - 3} kinds of damage: " + ", ".join(f"{number} {kind}" for kind, number in counts.most_common()))
+    print(f"images: {counts.total()} images: " + ", ".join(f"{number} {kind}" for kind, number in counts.most_common()))
     print(f"{batches - wrong} passed, {wrong} failed")
     sys.exit(bool(wrong))
 

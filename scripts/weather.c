@@ -1,18 +1,21 @@
 // Bad weather for a program, loaded before the C library. What the environment asks for:
 //   WEATHER_FILE=NAME WEATHER_CALL=N  the N-th read, write or sync of the file of this name fails, as a broken device's
-//   WEATHER_SHORT=SEED                a read or write of a file or a stream takes only a part of what was asked; one of a stream is interrupted, too
+//   WEATHER_SHORT=SEED                a read or write of a file or a stream takes only a part of what was asked
+//   WEATHER_SIGNALS=1                 with it, one of a stream is interrupted now and then
 //   WEATHER_ALLOC=N                   the N-th request for memory is refused
 //   WEATHER_NOTE=FILE                 this file is made once that has happened
-#define _GNU_SOURCE
-#include <dlfcn.h>
-#include <errno.h>
-#include <fcntl.h>
-#include <stdarg.h>
-#include <stdatomic.h>
-#include <stdlib.h>
-#include <string.h>
-#include <unistd.h>
-
+// It has no header, since the kit's clang has none: what it uses of the C library on 64-bit Linux is declared here.
+typedef unsigned long size_t;
+typedef long ssize_t, off_t;
+void *dlsym(void *, const char *);
+char *getenv(const char *);
+long atol(const char *);
+int strcmp(const char *, const char *);
+int *__errno_location(void);
+#define NULL ((void *)0)
+#define RTLD_NEXT ((void *)-1l)
+#define errno (*__errno_location())
+enum { EINTR = 4, EIO = 5, ENOMEM = 12, O_WRONLY = 1, O_CREAT = 0100, O_APPEND = 02000, O_CLOEXEC = 02000000 };
 void *__libc_malloc(size_t);
 void *__libc_calloc(size_t, size_t);
 void *__libc_realloc(void *, size_t);
@@ -23,11 +26,17 @@ static ssize_t (*real_pread)(int, void *, size_t, off_t), (*real_pwrite)(int, co
 static ssize_t (*real_read)(int, void *, size_t), (*real_write)(int, const void *, size_t);
 
 static const char *file, *note;
-static long failing, refused;
+static long failing, refused, signals;
 static unsigned long seed;
-static atomic_long calls, requests;
-static atomic_ulong turns;
-static atomic_char is_bad[1024];
+static long calls, requests;
+static unsigned long turns;
+static char is_bad[1024];
+
+static long next(long *count) { return __atomic_add_fetch(count, 1, __ATOMIC_SEQ_CST); }
+static int is_marked(int fd) { return fd >= 0 && fd < 1024 && __atomic_load_n(&is_bad[fd], __ATOMIC_SEQ_CST); }
+static void mark(int fd, char bad) {
+  if (fd >= 0 && fd < 1024) __atomic_store_n(&is_bad[fd], bad, __ATOMIC_SEQ_CST);
+}
 
 static long number(const char *name) {
   const char *text = getenv(name);
@@ -47,8 +56,9 @@ __attribute__((constructor)) static void begin(void) {
   note = getenv("WEATHER_NOTE");
   failing = number("WEATHER_CALL");
   seed = number("WEATHER_SHORT");
+  signals = number("WEATHER_SIGNALS");
   refused = number("WEATHER_ALLOC");
-  atomic_store(&requests, 0);
+  requests = 0;
 }
 
 static void tell(void) {
@@ -57,7 +67,7 @@ static void tell(void) {
 }
 
 static int fails(int fd) {
-  if (fd < 0 || fd >= 1024 || !atomic_load(&is_bad[fd]) || atomic_fetch_add(&calls, 1) + 1 != failing) return 0;
+  if (!is_marked(fd) || next(&calls) != failing) return 0;
   tell();
   errno = EIO;
   return 1;
@@ -65,7 +75,7 @@ static int fails(int fd) {
 
 // A number that hangs on the seed and on the turn.
 static unsigned long dice(void) {
-  unsigned long x = seed * 0x9E3779B97F4A7C15u + atomic_fetch_add(&turns, 1) * 0xD6E8FEB86659FD93u;
+  unsigned long x = seed * 0x9E3779B97F4A7C15u + __atomic_add_fetch(&turns, 1, __ATOMIC_SEQ_CST) * 0xD6E8FEB86659FD93u;
   x ^= x >> 32;
   x *= 0xD6E8FEB86659FD93u;
   return x ^ x >> 32;
@@ -74,17 +84,17 @@ static unsigned long dice(void) {
 static size_t part(size_t size) { return seed == 0 || size < 2 ? size : 1 + dice() % size; }
 
 int open(const char *path, int flags, ...) {
-  va_list rest;
-  va_start(rest, flags);
-  int mode = flags & O_CREAT ? va_arg(rest, int) : 0;
-  va_end(rest);
+  __builtin_va_list rest;
+  __builtin_va_start(rest, flags);
+  int mode = flags & O_CREAT ? __builtin_va_arg(rest, int) : 0;
+  __builtin_va_end(rest);
   int fd = real_open(path, flags, mode);
-  if (fd >= 0 && fd < 1024) atomic_store(&is_bad[fd], file != NULL && strcmp(path, file) == 0);
+  mark(fd, file != NULL && strcmp(path, file) == 0);
   return fd;
 }
 
 int close(int fd) {
-  if (fd >= 0 && fd < 1024) atomic_store(&is_bad[fd], 0);
+  mark(fd, 0);
   return real_close(fd);
 }
 
@@ -94,7 +104,7 @@ ssize_t pread(int fd, void *to, size_t size, off_t at) { return fails(fd) ? -1 :
 ssize_t pwrite(int fd, const void *from, size_t size, off_t at) { return fails(fd) ? -1 : real_pwrite(fd, from, part(size), at); }
 
 static int is_interrupted(void) {
-  if (seed == 0 || dice() % 4 != 0) return 0;
+  if (signals == 0 || dice() % 4 != 0) return 0;
   errno = EINTR;
   return 1;
 }
@@ -103,7 +113,7 @@ ssize_t read(int fd, void *to, size_t size) { return is_interrupted() ? -1 : rea
 ssize_t write(int fd, const void *from, size_t size) { return is_interrupted() ? -1 : real_write(fd, from, part(size)); }
 
 static int refuse(void) {
-  if (refused == 0 || atomic_fetch_add(&requests, 1) + 1 != refused) return 0;
+  if (refused == 0 || next(&requests) != refused) return 0;
   tell();
   errno = ENOMEM;
   return 1;

@@ -4,7 +4,7 @@
 
 What a program answered is held against a model of what it may answer: a read shows the last write that was answered, or one that was not
 answered well; and a run or a server in good weather afterwards shows of each sector what the last answered flush covered, or a later write.
-scripts/weather.c makes the weather; it wants clang, gcc or cc. It prints what failed, what was tried, and at the end 'N passed, N failed': a check
+scripts/weather.c makes the weather; it wants the kit, or clang, gcc or cc. It prints what failed, what was tried, and at the end 'N passed, N failed': a check
 for each kind of weather, program and mode. With `long` there are 100,000 malformed messages, and more kills and transfers in parts; with WORDS, which may
 be parts of a name, only the kinds of such names are tried.
 """
@@ -221,7 +221,7 @@ def in_parts(mode, seeds):
     files = [open(name, "rb").read() for name in DEVICES]
     for seed in range(1, seeds + 1):
         restore()
-        found = run(CACHE, ["run", table(mode)], "\n".join(lines_of(mode)) + "\n", {"WEATHER_SHORT": seed})
+        found = run(CACHE, ["run", table(mode)], "\n".join(lines_of(mode)) + "\n", {"WEATHER_SHORT": seed, "WEATHER_SIGNALS": 1})
         need(found[:2] == plain[:2], f"seed {seed}: {found[:3]}, and else {plain[:3]}")
         need([open(name, "rb").read() for name in DEVICES] == files, f"seed {seed}: other files")
     return seeds
@@ -386,7 +386,8 @@ def converse(server, book):
         sector = int(numbers[0]) if numbers else 0
         if word in "wd":
             error, _ = server.ask(WRITE, sector, bytes.fromhex(numbers[1]) * 512, flags=1 if word == "d" else 0)
-            if error in (0, 5, 12):
+            # A durable write whose flush was refused may stand.
+            if error in (0, 5, 12) or error == 108 and word == "d":
                 book.write(sector, numbers[1], error == 0)
         elif word == "r":
             error, data = server.ask(READ, sector, count=1)
@@ -620,10 +621,16 @@ def kinds(is_long):
 
 
 def build(folder):
+    """Builds what makes the weather, by the kit's clang or else a compiler of the system: None where there is none."""
+    made, source = os.path.join(folder, "weather.so"), os.path.join(TOP, "weather.c")
+    words = ["-O2", "-nostdinc", "-shared", "-fPIC", "-o", made, source]
+    kit = os.path.join(os.path.dirname(os.path.dirname(os.path.realpath(shutil.which("rt") or "rt"))), "toolchain")
+    if os.path.exists(f"{kit}/bin/clang"):
+        subprocess.run([f"{kit}/bin/clang", "-nostdlib", f"--ld-path={kit}/bin/ld.lld", *words, f"{kit}/lib/libc.so.6"], check=True)
+        return made
     for compiler in ("clang", "gcc", "cc"):
         if shutil.which(compiler):
-            made = os.path.join(folder, "weather.so")
-            subprocess.run([compiler, "-O2", "-shared", "-fPIC", "-o", made, os.path.join(TOP, "weather.c")], check=True)
+            subprocess.run([compiler, *words], check=True)
             return made
     return None
 
