@@ -3,6 +3,7 @@
 //   WEATHER_SHORT=SEED                a read or write of a file or a stream takes only a part of what was asked
 //   WEATHER_SIGNALS=1                 with it, one of a stream is interrupted now and then
 //   WEATHER_ALLOC=N                   the N-th request for memory is refused
+//   WEATHER_DURABLE=1                 a file that was synced is copied beside itself, under its name with .durable behind it
 //   WEATHER_NOTE=FILE                 this file is made once that has happened
 // It has no header, since the kit's clang has none: what it uses of the C library on 64-bit Linux is declared here.
 typedef unsigned long size_t;
@@ -26,11 +27,12 @@ static ssize_t (*real_pread)(int, void *, size_t, off_t), (*real_pwrite)(int, co
 static ssize_t (*real_read)(int, void *, size_t), (*real_write)(int, const void *, size_t);
 
 static const char *file, *note;
-static long failing, refused, signals;
+static long failing, refused, signals, durable;
 static unsigned long seed;
 static long calls, requests;
 static unsigned long turns;
 static char is_bad[1024];
+static char names[64][64];
 
 static long next(long *count) { return __atomic_add_fetch(count, 1, __ATOMIC_SEQ_CST); }
 static int is_marked(int fd) { return fd >= 0 && fd < 1024 && __atomic_load_n(&is_bad[fd], __ATOMIC_SEQ_CST); }
@@ -57,6 +59,7 @@ __attribute__((constructor)) static void begin(void) {
   failing = number("WEATHER_CALL");
   seed = number("WEATHER_SHORT");
   signals = number("WEATHER_SIGNALS");
+  durable = number("WEATHER_DURABLE");
   refused = number("WEATHER_ALLOC");
   requests = 0;
 }
@@ -90,6 +93,8 @@ int open(const char *path, int flags, ...) {
   __builtin_va_end(rest);
   int fd = real_open(path, flags, mode);
   mark(fd, file != NULL && strcmp(path, file) == 0);
+  for (int i = 0; durable && fd >= 0 && fd < 64 && i < 63 && (names[fd][i] = path[i]) != 0; i++) {
+  }
   return fd;
 }
 
@@ -98,8 +103,23 @@ int close(int fd) {
   return real_close(fd);
 }
 
-int fdatasync(int fd) { return fails(fd) ? -1 : real_fdatasync(fd); }
-int fsync(int fd) { return fails(fd) ? -1 : real_fsync(fd); }
+// Keeps what is durable now. Names have fewer than 50 letters.
+static int keep(int fd, int synced) {
+  if (!durable || synced != 0 || fd < 0 || fd >= 64) return synced;
+  static char piece[1 << 20];
+  char name[72];
+  int length = 0;
+  while ((name[length] = names[fd][length]) != 0) length++;
+  for (int i = 0; i < 9; i++) name[length + i] = ".durable"[i];
+  int copy = real_open(name, O_WRONLY | O_CREAT | O_CLOEXEC, 0600);
+  ssize_t size = real_pread(fd, piece, sizeof piece, 0);
+  if (copy < 0 || size < 0 || real_pwrite(copy, piece, size, 0) != size) real_write(2, "weather: no copy\n", 17);
+  real_close(copy);
+  return 0;
+}
+
+int fdatasync(int fd) { return fails(fd) ? -1 : keep(fd, real_fdatasync(fd)); }
+int fsync(int fd) { return fails(fd) ? -1 : keep(fd, real_fsync(fd)); }
 ssize_t pread(int fd, void *to, size_t size, off_t at) { return fails(fd) ? -1 : real_pread(fd, to, part(size), at); }
 ssize_t pwrite(int fd, const void *from, size_t size, off_t at) { return fails(fd) ? -1 : real_pwrite(fd, from, part(size), at); }
 
