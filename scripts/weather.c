@@ -1,5 +1,6 @@
 // Bad weather for a program, loaded before the C library. What the environment asks for:
 //   WEATHER_FILE=NAME WEATHER_CALL=N  the N-th read, write or sync of the file of this name fails, as a broken device's
+//   WEATHER_ON=1                      with it, each later one of that file fails, too
 //   WEATHER_SHORT=SEED                a read or write of a file or a stream takes only a part of what was asked
 //   WEATHER_SIGNALS=1                 with it, one of a stream is interrupted now and then
 //   WEATHER_ALLOC=N                   the N-th request for memory is refused
@@ -27,7 +28,7 @@ static ssize_t (*real_pread)(int, void *, size_t, off_t), (*real_pwrite)(int, co
 static ssize_t (*real_read)(int, void *, size_t), (*real_write)(int, const void *, size_t);
 
 static const char *file, *note;
-static long failing, refused, signals, durable;
+static long failing, refused, signals, durable, on;
 static unsigned long seed;
 static long calls, requests;
 static unsigned long turns;
@@ -58,6 +59,7 @@ __attribute__((constructor)) static void begin(void) {
   note = getenv("WEATHER_NOTE");
   failing = number("WEATHER_CALL");
   seed = number("WEATHER_SHORT");
+  on = number("WEATHER_ON");
   signals = number("WEATHER_SIGNALS");
   durable = number("WEATHER_DURABLE");
   refused = number("WEATHER_ALLOC");
@@ -70,7 +72,9 @@ static void tell(void) {
 }
 
 static int fails(int fd) {
-  if (!is_marked(fd) || next(&calls) != failing) return 0;
+  if (!is_marked(fd) || failing == 0) return 0;
+  long call = next(&calls);
+  if (call < failing || (call > failing && !on)) return 0;
   tell();
   errno = EIO;
   return 1;

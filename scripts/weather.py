@@ -5,7 +5,8 @@
 What a program answered is held against a model of what it may answer: a read shows the last write that was answered, or one that was not
 answered well; and a run or a server in good weather afterwards shows of each sector what the last answered flush covered, or a later write.
 scripts/weather.c makes the weather; it wants the kit, or clang, gcc or cc. It prints what failed, what was tried, and at the end 'N passed, N failed': a check
-for each kind of weather, program and mode. With `long` there are 100,000 malformed messages, and more kills and transfers in parts; with WORDS, which may
+for each kind of weather, program and mode. With `long` there are 100,000 malformed messages, more kills and transfers in parts, and losses of power in
+each mode; with WORDS, which may
 be parts of a name, only the kinds of such names are tried.
 """
 import collections
@@ -196,6 +197,52 @@ def each_call_fails(mode):
                 refused = sees(lines_of(mode), found, {5, 6})
                 need(refused[5] + refused[6] > 0, "no line was refused")
                 need(f"wbcache: {device} file" in found[2] and "Input/output error" in found[2], f"it does not tell the reason: {found[2]}")
+            except Wrong as wrong:
+                raise Wrong(f"call {call} of {name}: {wrong}") from None
+    return tried
+
+
+ROW = [line for s in (0, 64, 128, 192) for line in (f"r {s} 1", f"r {s} 1", "work", "flush")]
+ROW += ["r 256 1", "r 256 1", "work", "flush", "r 256 1", "work", "flush", "status", "w 256 1 44", "flush"]
+ORIGIN = {sector: f"{0x80 + i:02x}" for i, sector in enumerate(WATCHED)}
+
+
+def prepare_for_crashes():
+    """Files of an empty cache, over an origin that has something in each sector that is looked at: as they are, and as what is durable."""
+    restore()
+    need(run(CACHE, ["format", table("writeback")])[0] == 0, "formatting")
+    with open("o.img", "r+b") as file:
+        file.write(bytes(327680))
+        for sector, content in ORIGIN.items():
+            file.seek(sector * 512)
+            file.write(bytes.fromhex(content) * 512)
+    for name in DEVICES:
+        shutil.copy(name, name + ".durable")
+
+
+def each_crash(mode, on):
+    """Each call of each device fails in a run of its own, and with `on` all behind it; then power is lost: each file is as it was synced last, or as it was
+    written last."""
+    tried = 0
+    for name in DEVICES:
+        for call in range(1, 1000):
+            prepare_for_crashes()
+            weather = {"WEATHER_FILE": name, "WEATHER_CALL": call, "WEATHER_ON": on, "WEATHER_DURABLE": 1}
+            status, told, _, came = run(CACHE, ["run", table(mode)], "\n".join(ROW) + "\n", weather)
+            if not came:
+                break
+            tried += 1
+            told, book = told.splitlines(), Book(ORIGIN)
+            try:
+                if told[0] not in {f"refused 5 Io {device}" for device in DEVICES.values()} or len(told) > 1:
+                    refused = judge(ROW, told, book, {5, 6})
+                    need(refused[5] + refused[6] > 0 and status == 3, f"status {status}, refused {dict(refused)}")
+                for file in DEVICES:
+                    shutil.copy(file, file + ".newest")
+                for base in "durable", "newest":
+                    for file in DEVICES:
+                        shutil.copy(f"{file}.{base}", file)
+                    look_again(book)
             except Wrong as wrong:
                 raise Wrong(f"call {call} of {name}: {wrong}") from None
     return tried
@@ -608,6 +655,8 @@ def kinds(is_long):
         yield f"transfers in parts, {mode}", lambda mode=mode: in_parts(mode, 50 if is_long else 3)
         yield f"each request for memory refused, {mode}", lambda mode=mode: each_request_refused(mode)
         yield f"each call of a server's device fails, {mode}", lambda mode=mode: each_call_fails_server(mode)
+        for on, what in enumerate(("call", "call from one on") if is_long or mode == "writeback" else ()):
+            yield f"each {what} of a device fails and power is lost, {mode}", lambda mode=mode, on=on: each_crash(mode, on)
     yield "each call fails while it is formatted", each_format_fails
     yield "each request for memory refused to clients", each_request_refused_to_lanes
     yield "each request for memory refused to a replay", each_request_refused_to_a_replay
