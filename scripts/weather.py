@@ -123,7 +123,8 @@ def judge(lines, told, book, refusals):
         word, *numbers = line.split()
         is_refused = answer.startswith("refused ")
         if suspended and word != "status":
-            need(answer == "refused 6 Failed", f"'{line}' behind a suspend: {answer}")
+            need(answer in ("refused 6 Failed", "refused 7 Memory"), f"'{line}' behind a suspend: {answer}")
+            refused[int(answer.split()[1])] += 1
             continue
         if is_refused:
             number = int(answer.split()[1])
@@ -167,7 +168,7 @@ def status_of(refused):
 
 
 def sees(lines, found, refusals):
-    """Judges a run, the next one, and the exit status: how many refusals there were."""
+    """Judges a run, the next one, and the exit status: how many refusals there were, and the book of what was written."""
     status, told, _, _ = found
     told, book = told.splitlines(), Book(PREPARED)
     if len(told) == 1 and told[0].startswith("refused "):
@@ -175,11 +176,9 @@ def sees(lines, found, refusals):
         refused = collections.Counter([int(told[0].split()[1])])
     else:
         refused = judge(lines, told, book, refusals)
-        if "suspend" in lines and not refused:
-            refused = collections.Counter({6: told.count("refused 6 Failed")})
     need(status == status_of(refused), f"status {status} where {dict(refused)} were refused")
     look_again(book)
-    return refused
+    return refused, book
 
 
 # --- Kinds of weather. Each gives how much was tried.
@@ -194,7 +193,7 @@ def each_call_fails(mode):
                 break
             tried += 1
             try:
-                refused = sees(lines_of(mode), found, {5, 6})
+                refused, _ = sees(lines_of(mode), found, {5, 6})
                 need(refused[5] + refused[6] > 0, "no line was refused")
                 need(f"wbcache: {device} file" in found[2] and "Input/output error" in found[2], f"it does not tell the reason: {found[2]}")
             except Wrong as wrong:
@@ -279,11 +278,13 @@ LANES_TOLD = ["@1 ok", "@1 0 31", "@2 ok", "@2 ok", "ok", "0 31", "@1 64 32", "@
 
 
 def each_request_refused(mode):
-    """Each request for memory is refused in a run of its own: one line at the most, with 7, or all is as without."""
+    """Each request for memory is refused in a run of its own: one line at the most, with 7. What a flush covered is there behind a loss of power, too."""
     tried = 0
     for request in range(1, 5000):
         restore()
-        found = run(CACHE, ["run", table(mode)], "\n".join(lines_of(mode)) + "\n", {"WEATHER_ALLOC": request})
+        for name in DEVICES:
+            shutil.copy(name, name + ".durable")
+        found = run(CACHE, ["run", table(mode)], "\n".join(lines_of(mode)) + "\n", {"WEATHER_ALLOC": request, "WEATHER_DURABLE": 1})
         if not found[3]:
             return tried
         tried += 1
@@ -291,8 +292,11 @@ def each_request_refused(mode):
             need(found[2].startswith("usage: "), f"request {request}: status 2, {found[2]}")
             continue
         try:
-            refused = sees(lines_of(mode), found, {6, 7})
+            refused, book = sees(lines_of(mode), found, {6, 7})
             need(refused[7] <= 1, f"{refused[7]} lines")
+            for name in DEVICES:
+                shutil.copy(name + ".durable", name)
+            look_again(book)
         except Wrong as wrong:
             raise Wrong(f"request {request}: {wrong}\n{found[1]}") from None
     raise Wrong("it makes no end of requests")
