@@ -41,6 +41,7 @@ call "$top/scripts/check-clients.sh" "$cache"
 if command -v python3 >/dev/null; then
   call "$top/scripts/every_step.py" "$cache"
   call "$top/scripts/images.py" "$bench"
+  call "$top/scripts/twin.py" "$cache"
   call "$top/scripts/weather.py" "$cache" "$server"
 else
   echo 'not tried: there is no python3, by which stops, faults, images and bad weather are played'

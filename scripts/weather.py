@@ -260,6 +260,20 @@ def each_format_fails():
     raise Wrong("it makes no end of calls")
 
 
+def each_request_refused_to_a_formatting():
+    tried = 0
+    for number in range(1, 1000):
+        restore()
+        status, told, said, came = run(CACHE, ["format", table("writeback")], "", {"WEATHER_ALLOC": number})
+        if not came:
+            return tried
+        tried += 1
+        is_usage = status == 2 and said.startswith("usage: ")
+        need(is_usage or (status, told) in ((1, "refused 7 Memory\n"), (0, "formatted 4 10\n")), f"request {number}: {status} {told}")
+        need(run(CACHE, ["format", table("writeback")])[:2] == (0, "formatted 4 10\n"), "formatting again")
+    raise Wrong("it makes no end of requests")
+
+
 def in_parts(mode, seeds):
     """Each transfer takes a part, or is interrupted: all answers and files are as without that."""
     restore()
@@ -641,6 +655,38 @@ def kills(count):
     return count
 
 
+def kills_of_servers(count):
+    """Servers that are killed while they are asked for one thing after the other."""
+    for seed in range(count):
+        restore()
+        dice, book, server = random.Random(seed), Book(PREPARED), Server()
+        killer = threading.Timer(dice.randrange(20, 400) / 1000, server.process.kill)
+        killer.start()
+        try:
+            server.greet()
+            for number in range(1, 1000000):
+                sector, content = dice.choice(WATCHED), bytes([number % 256])
+                what = dice.randrange(8)
+                if what < 4:
+                    book.entries[sector].append(content.hex())
+                    need(server.ask(WRITE, sector, content * 512, flags=what // 3)[0] == 0, "a write")
+                    book.answered[sector] = len(book.entries[sector]) - 1
+                elif what < 7:
+                    error, data = server.ask(READ, sector, count=1)
+                    need(error == 0, "a read")
+                    book.reads(sector, data[:1].hex())
+                else:
+                    need(server.ask(FLUSH)[0] == 0, "a flush")
+                if what in (3, 7):
+                    book.flush()
+        except Gone:
+            pass
+        killer.join()
+        server.end()
+        look_again(book)
+    return count
+
+
 def many_at_once(count):
     """Programs over the same files at once: each is served alone, or refused as locked."""
     restore()
@@ -662,6 +708,7 @@ def kinds(is_long):
         for on, what in enumerate(("call", "call from one on") if is_long or mode == "writeback" else ()):
             yield f"each {what} of a device fails and power is lost, {mode}", lambda mode=mode, on=on: each_crash(mode, on)
     yield "each call fails while it is formatted", each_format_fails
+    yield "each request for memory refused to a formatting", each_request_refused_to_a_formatting
     yield "each request for memory refused to clients", each_request_refused_to_lanes
     yield "each request for memory refused to a replay", each_request_refused_to_a_replay
     yield "each request for memory refused to a server", each_request_refused_server
@@ -670,6 +717,7 @@ def kinds(is_long):
     yield "bytes of no client", lambda: connections_broken(2000 if is_long else 60)
     yield "clients that hang", a_client_hangs
     yield "kills", lambda: kills(300 if is_long else 15)
+    yield "kills of servers", lambda: kills_of_servers(100 if is_long else 8)
     yield "programs at once", lambda: many_at_once(8)
 
 
