@@ -200,7 +200,8 @@ def whole(task):
 
 
 def replays(share):
-    """Each replay: the check that it belongs to, its lines, what is printed before the opening, which sectors are looked at, and what they may show."""
+    """Each replay: the check that it belongs to, its lines, what is printed before the opening, which sectors are looked at, and what
+    they may show."""
     model, before, printed, singled = Model(), [SETUP], [], 0
     for number, task in enumerate(RUN):
         name = f"{number + 1}, {task}"

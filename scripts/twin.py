@@ -18,7 +18,7 @@ import subprocess
 import sys
 import tempfile
 
-import weather
+import weather_base as weather
 
 BLOCK, SECTORS, CALLS = 64, 640, 40
 MODES = ("writeback", "writethrough", "passthrough")
@@ -143,7 +143,8 @@ def compare(program, library, mode, number):
                 wanted.append("0 done")
     for base in "old", "new":
         told = replayed(program, events + [f"stop {base}", "open writeback", f"view 0 {SECTORS}"])
-        weather.need(len(told) == len(wanted) + 1 + SECTORS, f"stop {base}: {len(told)} lines of a replay, and not {len(wanted) + 1 + SECTORS}: {told[:len(wanted) + 1]}")
+        count = len(wanted) + 1 + SECTORS
+        weather.need(len(told) == count, f"stop {base}: {len(told)} lines of a replay, and not {count}: {told[:len(wanted) + 1]}")
         for one, other in zip(told, wanted):
             weather.need(other is None and one.startswith("open ") or one == other, f"the machine answers '{one}', and the target '{other}'")
         for name in FILES:
