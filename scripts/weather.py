@@ -310,6 +310,10 @@ def kills(count):
         killer.join()
         process.wait()
         process.stdout.close()
+        try:
+            process.stdin.close()
+        except OSError:
+            pass
         look_again(book)
     return count
 
