@@ -107,7 +107,7 @@ def each_call_fails(mode):
             tried += 1
             try:
                 refused, _ = sees(lines_of(mode), found, {5, 6})
-                need(refused[5] + refused[6] > 0, "no line was refused")
+                need(refused[5] == 1, f"{refused[5]} lines were refused with 5")
                 need(f"wbcache: {device} file" in found[2] and "Input/output error" in found[2], f"it does not tell the reason: {found[2]}")
             except Wrong as wrong:
                 raise Wrong(f"call {call} of {name}: {wrong}") from None
@@ -148,7 +148,7 @@ def each_crash(mode, on):
             try:
                 if told[0] not in {f"refused 5 Io {device}" for device in DEVICES.values()} or len(told) > 1:
                     refused = judge(ROW, told, book, {5, 6})
-                    need(refused[5] + refused[6] > 0 and status == 3, f"status {status}, refused {dict(refused)}")
+                    need((refused[5] > 0 if on else refused[5] == 1) and status == 3, f"status {status}, refused {dict(refused)}")
                 for file in DEVICES:
                     shutil.copy(file, file + ".newest")
                 for base in "durable", "newest":
@@ -206,18 +206,20 @@ LANES_TOLD = ["@1 ok", "@1 0 31", "@2 ok", "@2 ok", "ok", "0 31", "@1 64 32", "@
 def each_request_refused(mode):
     """Each request for memory is refused in a run of its own: one line at the most, with 7. What a flush covered is there behind a
     loss of power, too."""
-    tried = 0
+    tried = met = 0
     for request in range(1, 5000):
         restore()
         for name in DEVICES:
             shutil.copy(name, name + ".durable")
         found = run_lines(mode, lines_of(mode), {"WEATHER_ALLOC": request, "WEATHER_DURABLE": 1})
         if not found[3]:
+            need(met > 20, f"{met} of {tried} requests were missed")
             return tried
         tried += 1
         try:
             refused, book = sees(lines_of(mode), found, {6, 7})
             need(refused[7] <= 1, f"{refused[7]} lines")
+            met += refused[7]
             for name in DEVICES:
                 shutil.copy(name + ".durable", name)
             look_again(book)
