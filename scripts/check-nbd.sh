@@ -199,6 +199,20 @@ fresh
 (trap '' PIPE; { hello; for cookie in 1 2 3 4 5 6 7 8; do read_of $cookie 0 65536; done; } 2>/dev/null | timeout 30 "$server" "$table" 2>told.txt >/dev/full; echo $? >status.txt)
 check 'a client that cannot be told anything' "$(status) $(grep -c 'a reply cannot be written' told.txt)" '4 1'
 
+# --- Closed descriptors: none of the files takes their numbers.
+fresh
+data() { cksum c.img o.img | cut -d' ' -f1 | tr '\n' ' '; }
+before=$(data)
+{ hello; goodbye; } >sent
+timeout 30 "$server" "$table" <&- >out.bin 2>told.txt
+check 'a server without a standard input' "$? $(wc -c <out.bin) $(tail -n 1 told.txt)" "4 18 wbnbd: the client's end is gone"
+timeout 30 "$server" "$table" <sent >&- 2>told.txt
+check 'a server without a standard output' "$? $(tail -n 1 told.txt)" '4 wbnbd: a reply cannot be written'
+timeout 30 "$server" "$table" <sent 2>&- >out.bin
+check 'a server without a standard error serves' "$? $(wc -c <out.bin)" '0 104'
+timeout 30 "$server" "$table" <&- >&- 2>&-
+check 'a server without any, which leaves the files' "$? $(data)" "4 $before"
+
 # --- Streams that do not wait: whoever starts the programs may have made them so.
 if command -v python3 >/dev/null; then
   fresh

@@ -38,6 +38,14 @@ fi
 call "$top/scripts/check-nbd.sh" "$cache" "$server"
 call "$top/scripts/check-replays.sh" "$cache"
 call "$top/scripts/check-clients.sh" "$cache"
+if command -v python3 >/dev/null; then
+  call "$top/scripts/every_step.py" "$cache"
+  call "$top/scripts/images.py" "$bench"
+  call "$top/scripts/twin.py" "$cache"
+  call "$top/scripts/weather.py" "$cache" "$server"
+else
+  echo 'not tried: there is no python3, by which stops, faults, images and bad weather are played'
+fi
 cd "$work" || exit 1
 blank() { # files of zeros
   rm -f m.img c.img o.img
@@ -105,6 +113,28 @@ while IFS='|' read -r does one two three four five <&4; do
       ;;
     *) check "$story: a row" "$does" 'story, run or bytes' ;;
   esac
+done 4<rows.txt
+
+# Metadata that others changed. A refusal leaves all files as they are.
+fresh
+printf 'w 0 1 11\nr 0 1\nwork\nr 0 1\nflush\nr 64 1\nr 64 1\nwork\nflush\n' | "$cache" run "$table" >out.txt
+for file in m c o; do cp $file.img $file.kept; done
+changed() { # a change of the metadata file: it is made
+  case $1 in
+    put) printf '%b' "$(printf '%s' "$3" | sed 's/\\/\\0/g')" | dd of=m.img bs=1 seek="$2" conv=notrunc 2>/dev/null ;;
+    copy) dd if=m.kept of=m.img bs=512 skip="$2" seek="$3" count=1 conv=notrunc 2>/dev/null ;;
+    size) truncate -s "$2" m.img ;;
+  esac
+}
+rows foreign.txt >rows.txt
+while IFS='|' read -r changes printed status reason <&4; do
+  for file in m c o; do cp $file.kept $file.img; done
+  printf '%s\n' "$changes" | tr ',' '\n' >changes.txt
+  while read -r one two three; do changed "$one" "$two" "$three"; done <changes.txt
+  before=$(sums)
+  echo status | "$cache" -v run "$table" >out.txt 2>reason.txt
+  check "metadata after $changes" "$? $(cat out.txt) $(grep -v '^wbcache: opened' reason.txt)" "$status $printed ${reason:+wbcache: $reason}"
+  if test "$status" != 0; then check "files after $changes" "$(sums)" "$before"; fi
 done 4<rows.txt
 
 rows tables.txt >rows.txt

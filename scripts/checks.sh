@@ -19,7 +19,7 @@ has() { # name, text, part of it
 }
 # Another script of this kind: what failed there is told here, and its counts are added.
 call() { # script, arguments
-  said=$(sh "$@")
+  case $1 in *.py) said=$(python3 "$@") ;; *) said=$(sh "$@") ;; esac
   printf '%s\n' "$said" | sed '$d'
   counts=$(printf '%s\n' "$said" | tail -n 1)
   case $counts in

@@ -40,6 +40,8 @@ pub enum Asked<'a> {
     Mapping { file: &'a str, cache_blocks: u32 },
     /// Read what the metadata device in a file stands for.
     State { file: &'a str },
+    /// Read what each of the metadata devices in a file stands for.
+    Images { file: &'a str },
 }
 
 /// Reads the words of the command line, the program's name first.
@@ -89,7 +91,11 @@ fn read_call(word: &str) -> Option<Call> {
 }
 
 fn read_state<'a>(file: &'a str, word: &str) -> Option<Asked<'a>> {
-    (word == "state").then_some(Asked::State { file })
+    match word {
+        "state" => Some(Asked::State { file }),
+        "images" => Some(Asked::Images { file }),
+        _ => None,
+    }
 }
 
 fn read_three<'a>(first: &'a str, second: &str, third: &str) -> Option<Asked<'a>> {

@@ -10,7 +10,8 @@
 //! many clients, on threads and blocks of their own; it prints how many promotions there were and their nanoseconds, and so of the
 //! requests, by the client that took longest.
 //! `wb_bench FILE mapping CACHE_BLOCKS` makes the file a metadata device that holds a full mapping of so many cache
-//! blocks, and `wb_bench FILE state` reads what it stands for; both print the number of nodes.
+//! blocks, and `wb_bench FILE state` reads what it stands for; both print the number of nodes. `wb_bench FILE images` prints of each
+//! of the images of metadata devices in the file what it stands for (see `images`), or the refusal.
 #![tactic(auto)]
 
 ghost use Rattle.std.specs.Prelude.{◌≡◌, ◌<◌, ◌≤◌};
@@ -19,12 +20,14 @@ mod asked;
 mod cached;
 mod clock;
 mod crowd;
+mod images;
 mod mapping;
 mod requests;
 mod settles;
 
 use crate::asked::{Asked, Direction, Requests, read_asked};
 use crate::cached::{Took, time_cached};
+use crate::images::{Read, count_images, read_image};
 use crate::mapping::{read_mapping, write_mapping};
 use crate::requests::{drive_all, port_over};
 use crate::settles::{settle_all, tick_all};
@@ -43,7 +46,8 @@ const USAGE: &str = "usage: wb_bench FILE read|write SECTORS REQUESTS
        wb_bench ticks CACHE_BLOCKS TICKS
        wb_bench TABLE try_read|try_write|read|write SECTORS REQUESTS 1|2|4
        wb_bench FILE mapping CACHE_BLOCKS
-       wb_bench FILE state";
+       wb_bench FILE state
+       wb_bench FILE images";
 
 fn main(rt: HostRuntime) -> ExitCode {
     // Before any file is opened.
@@ -80,6 +84,10 @@ fn main(rt: HostRuntime) -> ExitCode {
         },
         Asked::State { file } => match FileDisk::open(&rt, file) {
             Ok(mut disk) => tell(&rt, read_mapping(alloc, &mut disk)),
+            Err(_) => failed(&rt, "the file cannot be opened"),
+        },
+        Asked::Images { file } => match FileDisk::open(&rt, file) {
+            Ok(mut disk) => tell_images(&rt, &mut disk),
             Err(_) => failed(&rt, "the file cannot be opened"),
         },
     }
@@ -120,6 +128,29 @@ fn tell(rt: &HostRuntime, nodes: Result<u64, Refusal>) -> ExitCode {
             ExitCode::FAILURE
         }
     }
+}
+
+/// Prints of each image what it stands for, or the refusal.
+fn tell_images(rt: &HostRuntime, file: &mut FileDisk) -> ExitCode {
+    for number in 0..count_images(file) {
+        let said = match read_image(rt.alloc(), file, number) {
+            Ok(read) => {
+                let Read {
+                    generation,
+                    clean,
+                    nodes,
+                    sum,
+                } = read;
+                println!(rt; "{generation} {clean} {nodes} {sum}")
+            }
+            Err(refusal) => println!(rt; "refused {refusal}"),
+        };
+        if said.is_err() {
+            failed(rt, "the output failed");
+            return ExitCode::from(STREAM_FAILED);
+        }
+    }
+    ExitCode::SUCCESS
 }
 
 /// Drives requests over their file, and prints how many were done.

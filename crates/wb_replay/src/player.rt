@@ -74,6 +74,14 @@ impl Player {
         }
     }
 
+    /// How the last event was refused, where it was the end of a task that was.
+    pub(crate) fn refused(&self) -> Option<Refusal> {
+        match last_of(&self.world) {
+            What::Stepped(Want::End(Answer::Refused(refusal)), _) => Some(refusal),
+            _ => None,
+        }
+    }
+
     /// An event, and what it did.
     fn happen(&mut self, event: Event) -> Result<What, Refusal> {
         self.world.event(event)?;

@@ -134,7 +134,7 @@ fn play_line(
     }
 }
 
-/// A cache as the first line says, opened: only that the opening is skipped is told.
+/// A cache as the first line says, opened: only that the opening is skipped is told. One that is refused ends the replay.
 fn set_up(alloc: Global, words: &str, number: u64, text: &mut String) -> Result<Player, Halt> {
     let Some(setup) = read_setup(words) else {
         return Err(Halt::BadLine(number));
@@ -144,6 +144,9 @@ fn set_up(alloc: Global, words: &str, number: u64, text: &mut String) -> Result<
         .open(setup.mode, text)
         .map_err(|refusal| Halt::Refused(refusal))?;
     if opened {
+        if let Some(refusal) = player.refused() {
+            return Err(Halt::Refused(refusal));
+        }
         text.clear();
     }
     Ok(player)

@@ -456,6 +456,8 @@ fn next_line<I: Ahead, W: Write, E>(
         Input::Says(line) => Ok(Some(line)),
         Input::TooLong => {
             tell(script, Err(Refusal::Memory))?;
+            // It is told; an empty line is answered by the text as it stands.
+            script.text.clear();
             Ok(Some(Line::Nothing))
         }
         Input::Bad => {

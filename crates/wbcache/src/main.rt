@@ -37,8 +37,10 @@ fn main(rt: HostRuntime) -> ExitCode {
 /// Does what the arguments ask, and gives the exit status. Who waits or starts threads does so by the second handle.
 fn serve<T: Threads + Wait + Sync>(rt: &HostRuntime, waits: &T) -> u8 {
     let alloc = rt.alloc();
-    let Ok(words) = env::args(rt) else {
-        return usage(rt);
+    let words = match env::args(rt) {
+        Ok(words) => words,
+        Err(error) if error.kind() == io::ErrorKind::OutOfMemory => return no_memory(rt),
+        Err(_) => return usage(rt),
     };
     let Ok(words) = words.collect::<Vec<String>>(alloc) else {
         return no_memory(rt);

@@ -160,7 +160,11 @@ const TOPS: [Group; 7] = [
     (4, &NO_NODES, Err(Refusal::Damaged(Place(4)))),
     (4, &NO_CHILDREN, Err(Refusal::Damaged(Place(4)))),
     (4, &[&[(40, 5)]], Err(Refusal::Damaged(Place(5)))),
-    (4, &[&[(32, 3)]], Err(Refusal::Damaged(Place(3)))),
+    (
+        4,
+        &[&[(32, 3)], &[(32, 3), (40, 2)]],
+        Err(Refusal::Damaged(Place(3))),
+    ),
     (4, &[&[(8, 0)]], Ok(3)),
     (4, &[&[(40, 0)]], Ok(2)),
     (4, &[&[(32, 0), (40, 0)]], Ok(1)),

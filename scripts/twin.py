@@ -1,0 +1,196 @@
+"""The target over files and the machine in memory: what the one does with a script, the other does with the same tasks.
+
+    twin.py WBCACHE [SCRIPTS]
+
+In each mode, behind a first life that ends clean, 200 scripts of 40 lines by a fixed generator are run by `wbcache run` and as the same tasks by
+`wbcache replay`: each block of a request, each flush (a tick's and a durable write's too), each order that a `work` answered, and in every
+second script a suspend at the end. All answers are compared; and opened again in write-back over the files as they were synced last, and as they were
+written last, behind `stop old` and `stop new`: the generation, how many blocks are mapped and dirty, and each sector of the origin. It prints
+what differs, what was tried, and at the end 'N passed, N failed': a check for each mode, with a suspend and without.
+"""
+import collections
+import multiprocessing
+import os
+import random
+import shutil
+import struct
+import subprocess
+import sys
+import tempfile
+
+import weather_base as weather
+
+BLOCK, SECTORS, CALLS = 64, 640, 40
+MODES = ("writeback", "writethrough", "passthrough")
+FILES = ("m.img", "c.img", "o.img")
+FIRST_LIFE = ["w 0 2 a1", "w 64 1 a2", "w 128 1 a3", "r 0 1", "work", "r 64 1", "work", "r 128 1", "work", "w 1 1 a4", "suspend"]
+
+
+def table(mode):
+    return f"cache m.img c.img o.img {BLOCK} 1 {mode} tinylfu 0"
+
+
+def script_of(mode, number):
+    """Lines for a target; what they write is told apart by the byte."""
+    dice, lines = random.Random(f"{mode} {number}"), []
+    blocks = dice.sample(range(10), 6)
+    for call in range(CALLS):
+        kind = dice.randrange(20)
+        at = BLOCK * dice.choice(blocks) + dice.choice((0, 0, 1, 62, 63))
+        many = min(dice.choice((1, 1, 2, 3, 130)), SECTORS - at)
+        if kind < 6:
+            lines.append(f"w {at} {many} {call + 1:02x}")
+        elif kind < 11:
+            lines.append(f"r {at} {many}")
+        elif kind < 12:
+            lines.append(f"wf {at} {many} {call + 1:02x}")
+        elif kind < 16:
+            lines.append("work")
+        else:
+            lines.append(dice.choice(("flush", "tick", "settle", "message promote_min 1", "message migration_threshold 4294967295")))
+    return lines + ["suspend"] * (number % 2)
+
+
+def parts(at, many):
+    """The blocks of a request, each with its first sector and how many."""
+    while many:
+        here = min(many, BLOCK - at % BLOCK)
+        yield at, here
+        at, many = at + here, many - here
+
+
+def tasks_of(line, answer):
+    """The tasks that a line stands for, by its answer where it is an order."""
+    word, *rest = line.split()
+    if word in ("r", "w", "wf"):
+        fill = f" {rest[2]}" if word != "r" else ""
+        tasks = [f"{word[0]} {at} {many}{fill}" for at, many in parts(int(rest[0]), int(rest[1]))]
+        return tasks + ["flush"] * (word == "wf")
+    if word in ("flush", "tick"):
+        return ["flush"]
+    if word == "suspend":
+        return ["suspend"]
+    if word != "work" or answer == "idle":
+        return []
+    order, block, *others = answer.replace(" by ", " ").replace(" at ", " ").replace(" to ", " ").split()
+    if order == "promoted":
+        return [f"promote {block} {others[0]}"]
+    if order == "replaced":
+        return [f"replace {block} {others[0]}", "flush", f"promote {others[0]} {others[1]}"]
+    return [f"{order[:-2] if order == 'cleaned' else order[:-1]} {block}"]
+
+
+def answers_of(lines, told):
+    """The answers of a run by line: a read's are as many as its sectors."""
+    answers, at = [], 0
+    for line in lines:
+        word, *rest = line.split()
+        count = int(rest[1]) if word == "r" else 1
+        answers.append(told[at:at + count])
+        at += count
+    weather.need(at == len(told), f"{len(told)} lines of answers, and not {at}")
+    return answers
+
+
+def run(program, mode, lines, environment=None):
+    done = subprocess.run([program, "run", table(mode)], input="\n".join(lines) + "\n", capture_output=True, text=True, timeout=60, env=environment)
+    return done.returncode, done.stdout.splitlines()
+
+
+def generation():
+    """The newest generation in the metadata file, both of whose slots have a root."""
+    with open("m.img", "rb") as file:
+        data = file.read(1024)
+    return max(struct.unpack_from("<Q", data, at + 8)[0] for at in (0, 512) if data[at:at + 8] == b"WBCROOT1")
+
+
+def found_again(program):
+    """What an opening in write-back tells of the files: as a replay does, and then each sector."""
+    newest = generation()
+    status, told = run(program, "writeback", ["status", f"r 0 {SECTORS}"])
+    weather.need(status == 0, f"opened again: {status} {told[:1]}")
+    words = told[0].split()
+    return [f"open {newest + 1} {words[3].split('/')[0]} {words[10]}"] + told[1:]
+
+
+def replayed(program, lines):
+    done = subprocess.run([program, "replay"], input="\n".join(lines) + "\n", capture_output=True, text=True, timeout=60)
+    weather.need(done.returncode == 0, f"a replay with status {done.returncode}: {done.stdout[-200:]}")
+    return done.stdout.splitlines()
+
+
+def compare(program, library, mode, number):
+    """Plays a script twice."""
+    for name, size in zip(FILES, (2048, 131072, 327680)):
+        with open(name, "wb") as file:
+            file.truncate(size)
+    subprocess.run([program, "format", table(mode)], check=True, capture_output=True)
+    lives = [("writethrough", FIRST_LIFE), (mode, script_of(mode, number))]
+    events, wanted = ["setup writethrough 64 4 10 4"], []
+    for life, (its_mode, lines) in enumerate(lives):
+        environment = {**os.environ, "LD_PRELOAD": library, "WEATHER_DURABLE": "1"}
+        status, told = run(program, its_mode, lines, environment)
+        weather.need(status == 0, f"life {life}: status {status}, {told}")
+        if life == 1:
+            events.append(f"open {its_mode}")
+            wanted.append(None)
+        for line, answer in zip(lines, answers_of(lines, told)):
+            for task in tasks_of(line, answer[0]):
+                events += [f"start 0 {task}", "end 0"]
+                if task.startswith("r "):
+                    here, answer = answer[:int(task.split()[2])], answer[int(task.split()[2]):]
+                    wanted += [f"0 {it}" for it in here]
+                wanted.append("0 done")
+    for base in "old", "new":
+        told = replayed(program, events + [f"stop {base}", "open writeback", f"view 0 {SECTORS}"])
+        count = len(wanted) + 1 + SECTORS
+        weather.need(len(told) == count, f"stop {base}: {len(told)} lines of a replay, and not {count}: {told[:len(wanted) + 1]}")
+        for one, other in zip(told, wanted):
+            weather.need(other is None and one.startswith("open ") or one == other, f"the machine answers '{one}', and the target '{other}'")
+        for name in FILES:
+            shutil.copy(name, name + ".newest")
+            if base == "old":
+                shutil.copy(name + ".durable", name)
+        found = found_again(program)
+        for one, other in zip(told[len(wanted):], found):
+            weather.need(one == other, f"behind stop {base} the machine has '{one}', and the files '{other}'")
+        for name in FILES:
+            shutil.copy(name + ".newest", name)
+    return collections.Counter(line.split()[0] for line in events[1:] if not line.startswith("end") for line in [line.removeprefix("start 0 ")])
+
+
+def one(work):
+    program, library, mode, number = work
+    with tempfile.TemporaryDirectory() as folder:
+        os.chdir(folder)
+        try:
+            return mode, number, compare(program, library, mode, number), None
+        except weather.Wrong as wrong:
+            return mode, number, collections.Counter(), f"{mode}, script {number}: {wrong}"
+        finally:
+            os.chdir("/")
+
+
+def main():
+    program = os.path.abspath(sys.argv[1])
+    scripts = int(sys.argv[2]) if len(sys.argv) > 2 else 200
+    counts, wrong = collections.Counter(), set()
+    with tempfile.TemporaryDirectory() as folder, multiprocessing.Pool() as pool:
+        library = weather.build(folder)
+        if library is None:
+            print("not tried: there is no C compiler, by which synced files are kept")
+            print("0 passed, 0 failed")
+            return
+        work = ((program, library, mode, number) for mode in MODES for number in range(scripts))
+        for mode, number, tasks, fault in pool.imap_unordered(one, work, 4):
+            counts += tasks
+            if fault and (mode, number % 2) not in wrong:
+                wrong.add((mode, number % 2))
+                print(f"failed: {fault}")
+    print(f"twin: {scripts} scripts in each mode, " + ", ".join(f"{number} {task}" for task, number in counts.most_common()))
+    print(f"{2 * len(MODES) - len(wrong)} passed, {len(wrong)} failed")
+    sys.exit(bool(wrong))
+
+
+if __name__ == "__main__":
+    main()

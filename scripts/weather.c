@@ -1,0 +1,148 @@
+// Bad weather for a program, loaded before the C library. What the environment asks for:
+//   WEATHER_FILE=NAME WEATHER_CALL=N  the N-th read, write or sync of the file of this name fails, as a broken device's
+//   WEATHER_ON=1                      with it, each later one of that file fails, too
+//   WEATHER_SHORT=SEED                a read or write of a file or a stream takes only a part of what was asked
+//   WEATHER_SIGNALS=1                 with it, one of a stream is interrupted now and then
+//   WEATHER_ALLOC=N                   the N-th request for memory is refused
+//   WEATHER_DURABLE=1                 a file that was synced is copied beside itself, under its name with .durable behind it
+//   WEATHER_NOTE=FILE                 this file is made once that has happened
+// It has no header, since the kit's clang has none: what it uses of the C library on 64-bit Linux is declared here.
+typedef unsigned long size_t;
+typedef long ssize_t, off_t;
+void *dlsym(void *, const char *);
+char *getenv(const char *);
+long atol(const char *);
+int strcmp(const char *, const char *);
+int *__errno_location(void);
+#define NULL ((void *)0)
+#define RTLD_NEXT ((void *)-1l)
+#define errno (*__errno_location())
+enum { EINTR = 4, EIO = 5, ENOMEM = 12, O_WRONLY = 1, O_CREAT = 0100, O_APPEND = 02000, O_CLOEXEC = 02000000 };
+void *__libc_malloc(size_t);
+void *__libc_calloc(size_t, size_t);
+void *__libc_realloc(void *, size_t);
+
+static int (*real_open)(const char *, int, ...);
+static int (*real_close)(int), (*real_fdatasync)(int), (*real_fsync)(int);
+static ssize_t (*real_pread)(int, void *, size_t, off_t), (*real_pwrite)(int, const void *, size_t, off_t);
+static ssize_t (*real_read)(int, void *, size_t), (*real_write)(int, const void *, size_t);
+
+static const char *file, *note;
+static long failing, refused, signals, durable, on;
+static unsigned long seed;
+static long calls, requests;
+static unsigned long turns;
+static char is_bad[1024];
+static char names[64][64];
+
+static long next(long *count) { return __atomic_add_fetch(count, 1, __ATOMIC_SEQ_CST); }
+static int is_marked(int fd) { return fd >= 0 && fd < 1024 && __atomic_load_n(&is_bad[fd], __ATOMIC_SEQ_CST); }
+static void mark(int fd, char bad) {
+  if (fd >= 0 && fd < 1024) __atomic_store_n(&is_bad[fd], bad, __ATOMIC_SEQ_CST);
+}
+
+static long number(const char *name) {
+  const char *text = getenv(name);
+  return text == NULL ? 0 : atol(text);
+}
+
+__attribute__((constructor)) static void begin(void) {
+  real_open = dlsym(RTLD_NEXT, "open");
+  real_close = dlsym(RTLD_NEXT, "close");
+  real_fdatasync = dlsym(RTLD_NEXT, "fdatasync");
+  real_fsync = dlsym(RTLD_NEXT, "fsync");
+  real_pread = dlsym(RTLD_NEXT, "pread");
+  real_pwrite = dlsym(RTLD_NEXT, "pwrite");
+  real_read = dlsym(RTLD_NEXT, "read");
+  real_write = dlsym(RTLD_NEXT, "write");
+  file = getenv("WEATHER_FILE");
+  note = getenv("WEATHER_NOTE");
+  failing = number("WEATHER_CALL");
+  seed = number("WEATHER_SHORT");
+  on = number("WEATHER_ON");
+  signals = number("WEATHER_SIGNALS");
+  durable = number("WEATHER_DURABLE");
+  refused = number("WEATHER_ALLOC");
+  requests = 0;
+}
+
+static void tell(void) {
+  int made = note == NULL ? -1 : real_open(note, O_WRONLY | O_CREAT | O_APPEND | O_CLOEXEC, 0600);
+  if (made >= 0) real_close(made);
+}
+
+static int fails(int fd) {
+  if (!is_marked(fd) || failing == 0) return 0;
+  long call = next(&calls);
+  if (call < failing || (call > failing && !on)) return 0;
+  tell();
+  errno = EIO;
+  return 1;
+}
+
+// A number that hangs on the seed and on the turn.
+static unsigned long dice(void) {
+  unsigned long x = seed * 0x9E3779B97F4A7C15u + __atomic_add_fetch(&turns, 1, __ATOMIC_SEQ_CST) * 0xD6E8FEB86659FD93u;
+  x ^= x >> 32;
+  x *= 0xD6E8FEB86659FD93u;
+  return x ^ x >> 32;
+}
+
+static size_t part(size_t size) { return seed == 0 || size < 2 ? size : 1 + dice() % size; }
+
+int open(const char *path, int flags, ...) {
+  __builtin_va_list rest;
+  __builtin_va_start(rest, flags);
+  int mode = flags & O_CREAT ? __builtin_va_arg(rest, int) : 0;
+  __builtin_va_end(rest);
+  int fd = real_open(path, flags, mode);
+  mark(fd, file != NULL && strcmp(path, file) == 0);
+  for (int i = 0; durable && fd >= 0 && fd < 64 && i < 63 && (names[fd][i] = path[i]) != 0; i++) {
+  }
+  return fd;
+}
+
+int close(int fd) {
+  mark(fd, 0);
+  return real_close(fd);
+}
+
+// Keeps what is durable now. Names have fewer than 50 letters.
+static int keep(int fd, int synced) {
+  if (!durable || synced != 0 || fd < 0 || fd >= 64) return synced;
+  static char piece[1 << 20];
+  char name[72];
+  int length = 0;
+  while ((name[length] = names[fd][length]) != 0) length++;
+  for (int i = 0; i < 9; i++) name[length + i] = ".durable"[i];
+  int copy = real_open(name, O_WRONLY | O_CREAT | O_CLOEXEC, 0600);
+  ssize_t size = real_pread(fd, piece, sizeof piece, 0);
+  if (copy < 0 || size < 0 || real_pwrite(copy, piece, size, 0) != size) real_write(2, "weather: no copy\n", 17);
+  real_close(copy);
+  return 0;
+}
+
+int fdatasync(int fd) { return fails(fd) ? -1 : keep(fd, real_fdatasync(fd)); }
+int fsync(int fd) { return fails(fd) ? -1 : keep(fd, real_fsync(fd)); }
+ssize_t pread(int fd, void *to, size_t size, off_t at) { return fails(fd) ? -1 : real_pread(fd, to, part(size), at); }
+ssize_t pwrite(int fd, const void *from, size_t size, off_t at) { return fails(fd) ? -1 : real_pwrite(fd, from, part(size), at); }
+
+static int is_interrupted(void) {
+  if (signals == 0 || dice() % 4 != 0) return 0;
+  errno = EINTR;
+  return 1;
+}
+
+ssize_t read(int fd, void *to, size_t size) { return is_interrupted() ? -1 : real_read(fd, to, part(size)); }
+ssize_t write(int fd, const void *from, size_t size) { return is_interrupted() ? -1 : real_write(fd, from, part(size)); }
+
+static int refuse(void) {
+  if (refused == 0 || next(&requests) != refused) return 0;
+  tell();
+  errno = ENOMEM;
+  return 1;
+}
+
+void *malloc(size_t size) { return refuse() ? NULL : __libc_malloc(size); }
+void *calloc(size_t count, size_t size) { return refuse() ? NULL : __libc_calloc(count, size); }
+void *realloc(void *old, size_t size) { return refuse() ? NULL : __libc_realloc(old, size); }
