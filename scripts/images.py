@@ -229,7 +229,7 @@ def main():
             if fault:
                 wrong += 1
                 print(f"failed: {fault}")
-    print(f"images: {counts.total()} images: " + ", ".join(f"{number} {kind}" for kind, number in counts.most_common()))
+    print(f"images: {sum(counts.values())} images: " + ", ".join(f"{number} {kind}" for kind, number in counts.most_common()))
     print(f"{batches - wrong} passed, {wrong} failed")
     sys.exit(bool(wrong))
 
