@@ -271,7 +271,7 @@ def main():
     for name, fault in wrong.items():
         print(f"failed: {name}: {fault}")
     stops = sum(count for name, count in counts.items() if "stop " in name)
-    print(f"every step: {stops} stops and {counts.total() - stops} faults at {sum(SHARES)} steps on devices")
+    print(f"every step: {stops} stops and {sum(counts.values()) - stops} faults at {sum(SHARES)} steps on devices")
     print(f"{len(counts) - len(wrong)} passed, {len(wrong)} failed")
     sys.exit(bool(wrong))
 

@@ -151,14 +151,26 @@ def put(sector, at, data):
     return sector[:at] + data + sector[at + len(data):]
 
 
+def exchange(dice, sectors):
+    """A word of a node takes another place, most often one that a node of the image has."""
+    above = [at for at, sector in enumerate(sectors) if sector.startswith(b"WBCNODE1") and sector[16] > 1]
+    if above:
+        at = dice.choice(above)
+        words = [j for j in range(32) if sectors[at][32 + 8 * j]] or [0]
+        place = sectors[dice.choice(above)][32 + 8 * dice.choice(words)] if dice.getrandbits(2) else dice.randrange(len(sectors) + 1)
+        sectors[at] = put(sectors[at], 32 + 8 * dice.choice((dice.choice(words), dice.randrange(8))), struct.pack("<Q", place))
+
+
 def change(dice, sectors):
     """One change of an image, in place."""
     if not sectors:
         sectors.append(bytes(SECTOR))
         return
     at, other = dice.randrange(len(sectors)), dice.randrange(len(sectors))
-    kind = dice.randrange(12)
-    if kind < 3:
+    kind = dice.randrange(14)
+    if kind > 11:
+        exchange(dice, sectors)
+    elif kind < 3:
         offset = dice.randrange(dice.choice((48, 288, SECTOR)))
         sectors[at] = put(sectors[at], offset, bytes([dice.choice((0, 1, 2, 3, 4, 0x80, 0xFF, dice.getrandbits(8)))]))
     elif kind < 6:
@@ -217,7 +229,7 @@ def main():
             if fault:
                 wrong += 1
                 print(f"failed: {fault}")
-    print(f"images: {counts.total()} images: " + ", ".join(f"{number} {kind}" for kind, number in counts.most_common()))
+    print(f"images: {sum(counts.values())} images: " + ", ".join(f"{number} {kind}" for kind, number in counts.most_common()))
     print(f"{batches - wrong} passed, {wrong} failed")
     sys.exit(bool(wrong))
 

@@ -4,8 +4,9 @@
 
 In each mode, behind a first life that ends clean, 200 scripts of 40 lines by a fixed generator are run by `wbcache run` and as the same tasks by
 `wbcache replay`: each block of a request, each flush (a tick's and a durable write's too), each order that a `work` answered, and in every
-second script a suspend at the end. All answers are compared; and opened again in write-back over the files as they were synced last, and as they were
-written last, behind `stop old` and `stop new`: the generation, how many blocks are mapped and dirty, and each sector of the origin. It prints
+second script a suspend at the end. All answers are compared; and opened again in write-back over the files as they were synced last, as they were
+written last, and with one of the contents since the last sync for each sector of cache and origin, behind `stop old`, `stop new` and one with these
+positions: the generation, how many blocks are mapped and dirty, and each sector of the origin. A position past the last is refused. It prints
 what differs, what was tried, and at the end 'N passed, N failed': a check for each mode, with a suspend and without.
 """
 import collections
@@ -97,6 +98,16 @@ def run(program, mode, lines, environment=None):
     return done.returncode, done.stdout.splitlines()
 
 
+def read(name):
+    with open(name, "rb") as file:
+        return file.read()
+
+
+def write(name, data):
+    with open(name, "wb") as file:
+        file.write(data)
+
+
 def generation():
     """The newest generation in the metadata file, both of whose slots have a root."""
     with open("m.img", "rb") as file:
@@ -119,16 +130,50 @@ def replayed(program, lines):
     return done.stdout.splitlines()
 
 
+def since_sync(initial):
+    """By the journal of a run: the files as they were synced last, and of each sector that was written since what was written."""
+    files, pending, at = {name[0]: bytearray(data) for name, data in initial.items()}, {}, 0
+    data = read("journal")
+    while at < len(data):
+        kind, device, (offset, size) = data[at:at + 1], chr(data[at + 1]), struct.unpack_from("<QQ", data, at + 2)
+        at += 18 + size
+        if kind == b"w":
+            for i in range(0, size, 512):
+                pending.setdefault((device, (offset + i) // 512), []).append(data[at - size + i:at - size + i + 512])
+            continue
+        for device, sector in [it for it in pending if it[0] == device]:
+            files[device][sector * 512:sector * 512 + 512] = pending.pop((device, sector))[-1]
+    return files, pending
+
+
+def any_contents(initial, dice):
+    """Writes files in which each sector of cache and origin has one of the contents since the last sync: their names for a stop, and one that
+    no sector has."""
+    files, pending = since_sync(initial)
+    names, none = [], None
+    for (device, sector), contents in sorted(pending.items()):
+        position = dice.randrange(len(contents) + 1)
+        if device != "m" and position > 0:
+            names.append(f"{device}:{sector}:{position}")
+            files[device][sector * 512:sector * 512 + 512] = contents[position - 1]
+        none = f"{device}:{sector}:{len(contents) + 1}"
+    for name in FILES:
+        write(name, files[name[0]])
+    return names, none
+
+
 def compare(program, library, mode, number):
     """Plays a script twice."""
     for name, size in zip(FILES, (2048, 131072, 327680)):
-        with open(name, "wb") as file:
-            file.truncate(size)
+        write(name, bytes(size))
     subprocess.run([program, "format", table(mode)], check=True, capture_output=True)
     lives = [("writethrough", FIRST_LIFE), (mode, script_of(mode, number))]
     events, wanted = ["setup writethrough 64 4 10 4"], []
     for life, (its_mode, lines) in enumerate(lives):
-        environment = {**os.environ, "LD_PRELOAD": library, "WEATHER_DURABLE": "1"}
+        initial = {name: read(name) for name in FILES}
+        if os.path.exists("journal"):
+            os.remove("journal")
+        environment = {**os.environ, "LD_PRELOAD": library, "WEATHER_DURABLE": "1", "WEATHER_JOURNAL": "journal"}
         status, told = run(program, its_mode, lines, environment)
         weather.need(status == 0, f"life {life}: status {status}, {told}")
         if life == 1:
@@ -141,22 +186,27 @@ def compare(program, library, mode, number):
                     here, answer = answer[:int(task.split()[2])], answer[int(task.split()[2]):]
                     wanted += [f"0 {it}" for it in here]
                 wanted.append("0 done")
-    for base in "old", "new":
-        told = replayed(program, events + [f"stop {base}", "open writeback", f"view 0 {SECTORS}"])
-        count = len(wanted) + 1 + SECTORS
-        weather.need(len(told) == count, f"stop {base}: {len(told)} lines of a replay, and not {count}: {told[:len(wanted) + 1]}")
-        for one, other in zip(told, wanted):
-            weather.need(other is None and one.startswith("open ") or one == other, f"the machine answers '{one}', and the target '{other}'")
+    newest = {name: read(name) for name in FILES}
+    for base in "old", "new", "any":
         for name in FILES:
-            shutil.copy(name, name + ".newest")
             if base == "old":
                 shutil.copy(name + ".durable", name)
-        found = found_again(program)
-        for one, other in zip(told[len(wanted):], found):
-            weather.need(one == other, f"behind stop {base} the machine has '{one}', and the files '{other}'")
-        for name in FILES:
-            shutil.copy(name + ".newest", name)
-    return collections.Counter(line.split()[0] for line in events[1:] if not line.startswith("end") for line in [line.removeprefix("start 0 ")])
+            else:
+                write(name, newest[name])
+        stop = f"stop {base}"
+        if base == "any":
+            names, none = any_contents(initial, random.Random(number))
+            stop = " ".join(["stop old", *names])
+            if none:
+                weather.need(replayed(program, events + [f"stop old {none}"])[-1] == "skipped", f"the machine has a content {none}")
+        told, count = replayed(program, events + [stop, "open writeback", f"view 0 {SECTORS}"]), len(wanted) + 1 + SECTORS
+        weather.need(len(told) == count, f"{stop}: {len(told)} lines of a replay, and not {count}: {told[:len(wanted) + 1]}")
+        for one, other in zip(told, wanted):
+            weather.need(other is None and one.startswith("open ") or one == other, f"the machine answers '{one}', and the target '{other}'")
+        for one, other in zip(told[len(wanted):], found_again(program)):
+            weather.need(one == other, f"behind {stop} the machine has '{one}', and the files '{other}'")
+    counts = collections.Counter({"chosen content": len(names)})
+    return counts + collections.Counter(line.split()[0] for line in events[1:] if not line.startswith("end") for line in [line.removeprefix("start 0 ")])
 
 
 def one(work):

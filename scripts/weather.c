@@ -5,6 +5,7 @@
 //   WEATHER_SIGNALS=1                 with it, one of a stream is interrupted now and then
 //   WEATHER_ALLOC=N                   the N-th request for memory is refused
 //   WEATHER_DURABLE=1                 a file that was synced is copied beside itself, under its name with .durable behind it
+//   WEATHER_JOURNAL=FILE              each write and sync is noted there: `w` or `s`, the first letter of the file's name, offset, size, bytes
 //   WEATHER_NOTE=FILE                 this file is made once that has happened
 // It has no header, since the kit's clang has none: what it uses of the C library on 64-bit Linux is declared here.
 typedef unsigned long size_t;
@@ -34,6 +35,7 @@ static long calls, requests;
 static unsigned long turns;
 static char is_bad[1024];
 static char names[64][64];
+static int journal = -1;
 
 static long next(long *count) { return __atomic_add_fetch(count, 1, __ATOMIC_SEQ_CST); }
 static int is_marked(int fd) { return fd >= 0 && fd < 1024 && __atomic_load_n(&is_bad[fd], __ATOMIC_SEQ_CST); }
@@ -62,6 +64,8 @@ __attribute__((constructor)) static void begin(void) {
   on = number("WEATHER_ON");
   signals = number("WEATHER_SIGNALS");
   durable = number("WEATHER_DURABLE");
+  const char *path = getenv("WEATHER_JOURNAL");
+  if (path != NULL) journal = real_open(path, O_WRONLY | O_CREAT | O_APPEND | O_CLOEXEC, 0600);
   refused = number("WEATHER_ALLOC");
   requests = 0;
 }
@@ -97,7 +101,7 @@ int open(const char *path, int flags, ...) {
   __builtin_va_end(rest);
   int fd = real_open(path, flags, mode);
   mark(fd, file != NULL && strcmp(path, file) == 0);
-  for (int i = 0; durable && fd >= 0 && fd < 64 && i < 63 && (names[fd][i] = path[i]) != 0; i++) {
+  for (int i = 0; (durable || journal >= 0) && fd >= 0 && fd < 64 && i < 63 && (names[fd][i] = path[i]) != 0; i++) {
   }
   return fd;
 }
@@ -107,8 +111,18 @@ int close(int fd) {
   return real_close(fd);
 }
 
+// Notes a step on a file. The programs that are noted have one thread.
+static void enter(char kind, int fd, const void *data, long size, long at) {
+  if (journal < 0 || size < 0 || fd < 0 || fd >= 64) return;
+  long numbers[2] = {at, size};
+  char front[2] = {kind, names[fd][0]};
+  if (real_write(journal, front, 2) + real_write(journal, numbers, 16) + real_write(journal, data, size) != 18 + size)
+    real_write(2, "weather: no journal\n", 20);
+}
+
 // Keeps what is durable now. Names have fewer than 50 letters.
 static int keep(int fd, int synced) {
+  if (synced == 0) enter('s', fd, "", 0, 0);
   if (!durable || synced != 0 || fd < 0 || fd >= 64) return synced;
   static char piece[1 << 20];
   char name[72];
@@ -125,7 +139,13 @@ static int keep(int fd, int synced) {
 int fdatasync(int fd) { return fails(fd) ? -1 : keep(fd, real_fdatasync(fd)); }
 int fsync(int fd) { return fails(fd) ? -1 : keep(fd, real_fsync(fd)); }
 ssize_t pread(int fd, void *to, size_t size, off_t at) { return fails(fd) ? -1 : real_pread(fd, to, part(size), at); }
-ssize_t pwrite(int fd, const void *from, size_t size, off_t at) { return fails(fd) ? -1 : real_pwrite(fd, from, part(size), at); }
+
+ssize_t pwrite(int fd, const void *from, size_t size, off_t at) {
+  if (fails(fd)) return -1;
+  ssize_t written = real_pwrite(fd, from, part(size), at);
+  enter('w', fd, from, written, at);
+  return written;
+}
 
 static int is_interrupted(void) {
   if (signals == 0 || dice() % 4 != 0) return 0;
