@@ -67,7 +67,7 @@ desk_fields_sent P g s = declared_send (DeskInside.the_type P g) (
                               search (sendable, as_row_send, s),
                               (
                                 search (sendable, as_row_send, s),
-                                tt,
+                                (search (sendable, as_row_send, s), (search (sendable, as_row_send, s), tt)),
                               ),
                             ),
                           ),
