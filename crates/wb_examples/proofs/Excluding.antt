@@ -17,7 +17,8 @@ use Rattle.wb_devices.specs.declared.running.RunningCommit.{RunningCommit}
 use Rattle.wb_promise.specs.declared.job.Job.TheVariants.{Flush, Suspend}
 use Rattle.wb_promise.specs.declared.event.What.TheVariants.{Started}
 use Rattle.wb_promise.specs.States.{Shape, State, Actor, Phase, Stands, Gone, Opens, OfTarget}
-use Rattle.wb_promise.specs.Happenings.{Chosen, Looks, Commits, HasTask, SuspendStarts, DoesBegin}
+use Rattle.wb_tasks.specs.declared.step.DeskStep.TheVariants.{Arrive, Ask, BeginCommit}
+use Rattle.wb_promise.specs.Happenings.{Chosen, Looks, Commits, HasTask, SuspendStarts, DoesArrive, DoesAsk, DoesBegin, DoesLead}
 use Rattle.wb_examples.specs.Possible.{first_block}
 use Rattle.wb_examples.specs.Excluded.{ExcludesWrongAnswers, ExcludesWrongSuspends, StoresSeen, BeginsCommit, older, newer, foreign, given_reading, with_floor, opening}
 use Rattle.wb_promise.specs.Headline.{IsAllowedAt, IsLatest, ShowsAllowed}
@@ -75,7 +76,7 @@ excludes P A = record {
   raised = λ shape. refl;
   not_since = λ shape. refl;
   not_refused = λ shape. refl;
-  skipped = λ w a has skips. skips has;
+  skipped = λ w a has goes skips. elim skips [ inl none ↦ none has | inr waits ↦ goes waits ];
 }
 
 -- ---- suspends
@@ -85,14 +86,11 @@ module _ (P A : Type 0) where
   alone w other (Looks blocks) has starts = starts.0 other has
   alone w other chosen has starts = absurd starts
 
-  -- a commit of a job over whatever stands
-  begun : (w : State P A) (seen : Option (List Bool)) (most nodes : ℕ) (commit : RunningCommit) (tree : Mapping) → OfTarget w.phase (λ t. DoesBegin {P = P} {A = A} seen most t.desk (Began nodes) (Commits commit tree)) → (desk : DeskState P) × DoesBegin {P = P} {A = A} seen most desk (Began nodes) (Commits commit tree)
-  begun w seen most nodes commit tree begins = by_phase w.phase begins
-    where
-      by_phase : (phase : Phase P A) → OfTarget phase (λ t. DoesBegin {P = P} {A = A} seen most t.desk (Began nodes) (Commits commit tree)) → (desk : DeskState P) × DoesBegin {P = P} {A = A} seen most desk (Began nodes) (Commits commit tree)
-      by_phase (Stands t) b = (t.desk, b)
-      by_phase Gone b = absurd b
-      by_phase (Opens mode reading) b = absurd b
+  -- what a step does over a target it does over whatever stands
+  over_target : (phase : Phase P A) (Q : DeskState P → Type 0) → OfTarget phase (λ t. Q t.desk) → (desk : DeskState P) × Q desk
+  over_target (Stands t) Q q = (t.desk, q)
+  over_target Gone Q q = absurd q
+  over_target (Opens mode reading) Q q = absurd q
 
   unmarked : (desk : DeskState P) (entry : Entry) → entry.dirty ≡ false → StoresSeen P A desk entry → ⊥
   unmarked desk entry clean s =
@@ -107,17 +105,27 @@ module _ (P A : Type 0) where
       first_dirty (Some e ∷ es) = e.dirty
       first_dirty es = false
 
-  unclean : (shape : Shape) (w : State P A) (x : Actor) (commit : RunningCommit) → commit.image.root.clean ≡ false → BeginsCommit shape w x Suspend commit → ⊥
-  unclean shape w x commit not b =
-      let d = (begun w (Some x.seen) b.most b.nodes commit b.tree b.gives.2).1 in
+  unclean : (shape : Shape) (w : State P A) (x : Actor) (most : ℕ) (commit : RunningCommit) → commit.image.root.clean ≡ false → BeginsCommit shape w x Suspend (BeginCommit most) commit → ⊥
+  unclean shape w x most commit not b =
+      let d = (over_target w.phase (λ desk. DoesBegin {P = P} {A = A} (Some x.seen) most desk (Began b.nodes) (Commits commit b.tree)) b.gives.1).1 in
       let clean : commit.image.root.clean ≡ true = d.3.1.image_is.2.root_clean in
       absurd (let both : true ≡ false = sym clean ∙ not in cc)
 
-  clean : (shape : Shape) (w : State P A) (x : Actor) (commit : RunningCommit) → commit.image.root.clean ≡ true → BeginsCommit shape w x Flush commit → ⊥
-  clean shape w x commit is b =
-      let d = (begun w None b.most b.nodes commit b.tree b.gives.2).1 in
-      let unclean : commit.image.root.clean ≡ false = d.3.1.image_is.root_clean in
+  -- a flush begins none that is clean
+  unmarked_root : (most nodes : ℕ) (desk : DeskState P) (commit : RunningCommit) (tree : Mapping) → commit.image.root.clean ≡ true → DoesLead {P = P} {A = A} most desk (Began nodes) (Commits commit tree) → ⊥
+  unmarked_root most nodes desk commit tree is d =
+      let unclean : commit.image.root.clean ≡ false = d.1.3.1.image_is.root_clean in
       absurd (let both : true ≡ false = sym is ∙ unclean in cc)
+
+  clean : (shape : Shape) (w : State P A) (x : Actor) (most : ℕ) (commit : RunningCommit) → commit.image.root.clean ≡ true → BeginsCommit shape w x Flush (Arrive most) commit → ⊥
+  clean shape w x most commit is b =
+      let d = over_target w.phase (λ desk. DoesArrive {P = P} {A = A} most desk (Began b.nodes) (Commits commit b.tree)) b.gives.1 in
+      unmarked_root most b.nodes d.0 commit b.tree is d.1
+
+  clean_asked : (shape : Shape) (w : State P A) (x : Actor) (most : ℕ) (commit : RunningCommit) → commit.image.root.clean ≡ true → BeginsCommit shape w x Flush (Ask most) commit → ⊥
+  clean_asked shape w x most commit is b =
+      let d = over_target w.phase (λ desk. DoesAsk {P = P} {A = A} x.share most desk (Began b.nodes) (Commits commit b.tree)) b.gives.1 in
+      unmarked_root most b.nodes d.0 commit b.tree is d.1.1
 
   pub excludes_suspends : ExcludesWrongSuspends P A
   excludes_suspends = record {
@@ -129,6 +137,7 @@ module _ (P A : Type 0) where
     unmarked = unmarked;
     unclean = unclean;
     clean = clean;
+    clean_asked = clean_asked;
     raised = λ shape. refl;
     not_since = λ shape. refl;
     not_refused = λ shape. refl;

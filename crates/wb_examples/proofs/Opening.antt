@@ -1,6 +1,6 @@
 -- A run in which an opening is answered done, where no target stands and the metadata have no tree; and a flush over a target that may begin a
 -- commit whose desk has no entry.
-use Rattle.std.proofs.Common.{Global, ◌≡◌, ◌≢◌, ◌∙◌, ◌-◌, ◌+◌, inl, inr, ℕ, List, [], ◌∷◌, Some, None, refl, sym, ap, subst, arith, length, slice_get, replicate, map}
+use Rattle.std.proofs.Common.{false, Global, ◌≡◌, ◌≢◌, ◌∙◌, ◌-◌, ◌+◌, inl, inr, ℕ, List, [], ◌∷◌, Some, None, refl, sym, ap, subst, arith, length, slice_get, replicate, map}
 use Rattle.std.proofs.lemmas.List.{length-map}
 use Rattle.wb_types.specs.declared.geometry.Geometry.{Geometry}
 use Rattle.wb_types.specs.declared.mode.Mode.{Mode}
@@ -22,6 +22,7 @@ use Rattle.wb_tasks.specs.declared.step.DeviceStep.TheVariants.{Sync, WriteRoot}
 use Rattle.wb_tasks.specs.declared.step.Got.TheVariants.{Done, More, Began}
 use Rattle.wb_devices.specs.declared.devices.Devices.{Devices}
 use Rattle.wb_devices.specs.declared.running.RunningCommit.{RunningCommit}
+use Rattle.wb_stage.specs.declared.share.Share.TheVariants.{Nothing as Unshared}
 use Rattle.wb_promise.specs.declared.job.Job.TheVariants.{Open, Flush}
 use Rattle.wb_promise.specs.States.{Shape, State, Actor, Target, Stands, Gone, resting}
 use Rattle.wb_promise.specs.Happenings.{Plain, Begins, Reaches, Puts, Commits, Opened}
@@ -122,7 +123,7 @@ module _ (P A : Type 0) (d : Down P A) where
     devices = record { metadata = synced (rooted commit durable); cache = synced d.cache; origin = synced d.origin };
     commit = None;
     phase = Stands (record { words = fresh_words shape.geometry.origin_blocks; desk = target.desk });
-    actors = record { task = None; card = blank_card; orders = []; awaiting = []; buffer = []; seen = [] } ∷ all_resting rest;
+    actors = record { task = None; card = blank_card; orders = []; awaiting = []; buffer = []; seen = []; share = Unshared } ∷ all_resting rest;
   }
 
   pub rooted_size : length opened.devices.metadata ≡ shape.geometry.meta_sectors
@@ -131,7 +132,7 @@ module _ (P A : Type 0) (d : Down P A) where
   pub opened_is : ends global shape down opening ≡ opened
   opened_is = ap (λ (steps : List CellStep). record opened {
     phase = Stands (record { words = words_by (fresh_words shape.geometry.origin_blocks) steps; desk = target.desk });
-    actors = record { task = None; card = card_by (fresh_words shape.geometry.origin_blocks) blank_card steps; orders = []; awaiting = []; buffer = []; seen = [] } ∷ all_resting rest;
+    actors = record { task = None; card = card_by (fresh_words shape.geometry.origin_blocks) blank_card steps; orders = []; awaiting = []; buffer = []; seen = []; share = Unshared } ∷ all_resting rest;
   }) (no_seals none_then.root.clean 0 none_then.root.geometry.cache_blocks)
 
   pub known : IsKnown P A shape opened
@@ -178,7 +179,7 @@ module _ (P A : Type 0) (i : Idle P) where
       ∷ Does Done Plain
       ∷ []))
 
-  module _ (bare : BareDesk P shape.geometry desk m) (may : MayBegin desk) where
+  module _ (bare : BareDesk P shape.geometry desk m) (may : MayBegin desk) (whole : desk.broken ≡ false) where
     quiet : Quiet shape.geometry bare.images desk m
     quiet = elim bare.known.stands [ inl q ↦ q | inr broken ↦ absurd (let busy = broken.busy in let none = may.idle in cc) ]
 
@@ -194,7 +195,7 @@ module _ (P A : Type 0) (i : Idle P) where
     pub flushing_may : MayGo global shape idle flushing
     flushing_may =
         (i.others, tt)
-        ⨟ (refl, refl, begins_bare global P A shape.geometry desk m bare (node_count shape.geometry.cache_blocks) may)
+        ⨟ (refl, (whole, begins_bare global P A shape.geometry desk m bare (node_count shape.geometry.cache_blocks) may))
         ⨟ (refl, refl, (comes_next root_commit m (NodesWritten 0) (Sync Metadata) fits_now refl refl, refl))
         ⨟ (refl, refl, (comes_next (record root_commit { steps = NodesSynced }) (synced m) NodesSynced WriteRoot fits_synced refl refl, root_does (record root_commit { steps = NodesSynced }) (synced m) may.next refl))
         ⨟ (refl, refl, (comes_next (record root_commit { steps = RootWritten }) (rooted root_commit (synced m)) RootWritten (Sync Metadata) fits_rooted refl refl, refl))

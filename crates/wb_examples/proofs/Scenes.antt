@@ -30,6 +30,8 @@ use Rattle.wb_tasks.specs.Plan.{Plan}
 use Rattle.wb_tasks.specs.Tables.{TaskJob}
 use Rattle.wb_tasks.specs.declared.step.Answer.TheVariants.{Done as Finished}
 use Rattle.wb_devices.specs.declared.devices.Devices.{Devices}
+use Rattle.wb_stage.specs.declared.share.Share.TheVariants.{Nothing as Unshared}
+use Rattle.wb_stage.specs.declared.share.Share.{Share}
 use Rattle.wb_promise.specs.declared.job.Job.{Job}
 use Rattle.wb_promise.specs.States.{Shape, State, Actor, Stands, resting, start}
 use Rattle.wb_promise.specs.Happenings.{Happening}
@@ -77,17 +79,18 @@ pub record Scene (P : Type 0) : Type 0 where
 abbrev pub over : Job → TaskJob → Option (Job × Plan)
 over job task = Some (job, record { job = task; steps = []; answer = Finished })
 
--- what an actor knows for itself: of the shared words, and what it has seen in a suspend
+-- what an actor knows for itself: of the shared words, what it has seen in a suspend, and what it has of the commits of others
 pub record Own : Type 0 where
   pub card : Card
   pub seen : List Bool
+  pub share : Share
 
 abbrev pub nothing_known : Own
-nothing_known = record { card = blank_card; seen = [] }
+nothing_known = record { card = blank_card; seen = []; share = Unshared }
 
 abbrev own_in : List Actor → Own
 own_in [] = nothing_known
-own_in (x ∷ xs) = record { card = x.card; seen = x.seen }
+own_in (x ∷ xs) = record { card = x.card; seen = x.seen; share = x.share }
 
 module _ (P A : Type 0) (more : ℕ) (mode : Mode) (s : Setting P more mode) where
   open s use {global, rest}
@@ -97,7 +100,7 @@ module _ (P A : Type 0) (more : ℕ) (mode : Mode) (s : Setting P more mode) whe
     devices = scene.devices;
     commit = None;
     phase = Stands (record { words = scene.words; desk = scene.desk });
-    actors = record { task = scene.task; card = own.card; orders = scene.orders; awaiting = scene.awaiting; buffer = scene.buffer; seen = own.seen } ∷ rest;
+    actors = record { task = scene.task; card = own.card; orders = scene.orders; awaiting = scene.awaiting; buffer = scene.buffer; seen = own.seen; share = own.share } ∷ rest;
   }
 
   -- it leads there, but for what its actor knows then

@@ -249,16 +249,16 @@ module _ (P A : Type 0) (t : Tiny P A) (content : Bytes) (d0 : Devices (List His
 
   -- ---- the suspend
 
-  all_idle : (own : Own) → AreIdle (record { task = None; card = own.card; orders = []; awaiting = []; buffer = contents_at d0.origin whole; seen = own.seen } ∷ (s P A t).rest)
-  all_idle own = nobody_works (record { task = None; card = own.card; orders = []; awaiting = []; buffer = contents_at d0.origin whole; seen = own.seen } ∷ (s P A t).rest) refl (s P A t).idle
+  all_idle : (own : Own) → AreIdle (record { task = None; card = own.card; orders = []; awaiting = []; buffer = contents_at d0.origin whole; seen = own.seen; share = own.share } ∷ (s P A t).rest)
+  all_idle own = nobody_works (record { task = None; card = own.card; orders = []; awaiting = []; buffer = contents_at d0.origin whole; seen = own.seen; share = own.share } ∷ (s P A t).rest) refl (s P A t).idle
 
   pub suspending_leads : (dirty : Bool) (own : Own) (known : IsKnown P A shape0 (state (ready dirty) own)) → Leads P A 0 Writeback (s P A t) (state (ready dirty) own) (suspending dirty known.known.is.kept) (suspended dirty (bit_or 0 2))
   suspending_leads true own known =
       let kept = known.known.is.kept in
-      goes_to P A 0 Writeback (s P A t) _ _ _ (((s P A t).idle, (all_idle own, mapped P A t)) ⨟ (refl, refl, begins P A t true kept may_begin) ⨟ (refl, refl, puts_node true kept) ⨟ (refl, refl, (syncs_node true kept, refl)) ⨟ (refl, refl, puts_root true kept) ⨟ (refl, refl, (syncs_root true kept, refl)) ⨟ ((refl, refl), refl, refl) ⨟ tt) refl
+      goes_to P A 0 Writeback (s P A t) _ _ _ (((s P A t).idle, (all_idle own, mapped P A t)) ⨟ (refl, begins P A t true kept may_begin) ⨟ (refl, refl, puts_node true kept) ⨟ (refl, refl, (syncs_node true kept, refl)) ⨟ (refl, refl, puts_root true kept) ⨟ (refl, refl, (syncs_root true kept, refl)) ⨟ ((refl, refl), refl, refl) ⨟ tt) refl
   suspending_leads false own known =
       let kept = known.known.is.kept in
-      goes_to P A 0 Writeback (s P A t) _ _ _ (((s P A t).idle, (all_idle own, mapped P A t)) ⨟ (refl, refl, begins P A t false kept may_begin) ⨟ (refl, refl, puts_node false kept) ⨟ (refl, refl, (syncs_node false kept, refl)) ⨟ (refl, refl, puts_root false kept) ⨟ (refl, refl, (syncs_root false kept, refl)) ⨟ ((refl, refl), refl, refl) ⨟ tt) refl
+      goes_to P A 0 Writeback (s P A t) _ _ _ (((s P A t).idle, (all_idle own, mapped P A t)) ⨟ (refl, begins P A t false kept may_begin) ⨟ (refl, refl, puts_node false kept) ⨟ (refl, refl, (syncs_node false kept, refl)) ⨟ (refl, refl, puts_root false kept) ⨟ (refl, refl, (syncs_root false kept, refl)) ⨟ ((refl, refl), refl, refl) ⨟ tt) refl
 
   -- ---- the last stretches
 

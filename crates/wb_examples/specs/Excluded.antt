@@ -12,7 +12,8 @@ use Rattle.wb_types.specs.declared.refusal.Refusal.TheVariants.{Io, Memory, Busy
 use Rattle.wb_disk.specs.Device.{Content as Bytes, History}
 use Rattle.wb_tasks.specs.declared.step.Answer.{Answer}
 use Rattle.wb_tasks.specs.declared.step.Answer.TheVariants.{Done as Finished, Refused as Refuses}
-use Rattle.wb_tasks.specs.declared.step.DeskStep.TheVariants.{BeginCommit}
+use Rattle.wb_tasks.specs.declared.step.DeskStep.{DeskStep}
+use Rattle.wb_tasks.specs.declared.step.DeskStep.TheVariants.{Arrive, Ask, BeginCommit}
 use Rattle.wb_tasks.specs.declared.step.DeviceStep.TheVariants.{Write as WriteExtent}
 use Rattle.wb_tasks.specs.declared.step.Want.TheVariants.{Device, Desk, End}
 use Rattle.wb_tasks.specs.declared.step.Got.TheVariants.{Done, Began}
@@ -25,7 +26,7 @@ use Rattle.wb_promise.specs.declared.job.Job.TheVariants.{Read, Write, Flush, Su
 use Rattle.wb_promise.specs.declared.event.Event.TheVariants.{Start, Step}
 use Rattle.wb_promise.specs.declared.event.What.TheVariants.{Skipped, Started, Stepped, Refused}
 use Rattle.wb_promise.specs.States.{Shape, State, Actor}
-use Rattle.wb_promise.specs.Happenings.{Chosen, Plain, Commits, HasTask, IsSuspending, DoesBegin, Gives, StartsAs, MayBe}
+use Rattle.wb_promise.specs.Happenings.{Chosen, Plain, Commits, HasTask, IsSuspending, IsWaiting, DoesBegin, Gives, StartsAs, MayBe}
 use Rattle.wb_promise.specs.Clerk.{Notes, Doing, Reading, Position, noted_what}
 use Rattle.wb_promise.specs.Headline.{AnswersRightly, SkipsRightly}
 use Rattle.wb_examples.specs.Possible.{first_sector, first_block}
@@ -106,8 +107,8 @@ pub record ExcludesWrongAnswers (P A : Type 0) : Type 0 where
   pub raised : (shape : Shape) → floors_after Flush shape 1 Finished ≡ 1 ∷ []
   pub not_since : (shape : Shape) → floors_after Flush shape 0 Finished ≡ 0 ∷ []
   pub not_refused : (shape : Shape) → floors_after Flush shape 1 (Refuses Memory) ≡ 0 ∷ []
-  -- whoever has a task is not skipped
-  pub skipped : (w : State P A) (a : ℕ) → HasTask w a → ¬ SkipsRightly w (Step a) Skipped
+  -- whoever has a task is not skipped, but a flush that waits
+  pub skipped : (w : State P A) (a : ℕ) → HasTask w a → ¬ IsWaiting w a → ¬ SkipsRightly w (Step a) Skipped
 
 -- A commit that stores the first block's entry so, over a desk that maps this block alone, once a suspend has seen its copy dirty.
 pub record StoresSeen (P A : Type 0) (desk : DeskState P) (entry : Entry) : Type 0 where
@@ -119,14 +120,12 @@ pub record StoresSeen (P A : Type 0) (desk : DeskState P) (entry : Entry) : Type
   pub nodes : ℕ
   pub begins : DoesBegin {P = P} {A = A} (Some (true ∷ [])) most desk (Began nodes) (Commits commit tree)
 
--- a step of a job begins this commit
-pub record BeginsCommit {P A : Type 0} (shape : Shape) (w : State P A) (x : Actor) (job : Job) (commit : RunningCommit) : Type 0 where
-  pub clean : Bool
-  pub most : ℕ
+-- this step of a job begins this commit
+pub record BeginsCommit {P A : Type 0} (shape : Shape) (w : State P A) (x : Actor) (job : Job) (step : DeskStep) (commit : RunningCommit) : Type 0 where
   pub nodes : ℕ
   pub read : List Bytes
   pub tree : Mapping
-  pub gives : Gives shape w x job (Desk (BeginCommit clean most)) (Began nodes) read (Commits commit tree)
+  pub gives : Gives shape w x job (Desk step) (Began nodes) read (Commits commit tree)
 
 -- What suspends are not.
 pub record ExcludesWrongSuspends (P A : Type 0) : Type 0 where
@@ -139,9 +138,10 @@ pub record ExcludesWrongSuspends (P A : Type 0) : Type 0 where
   pub unanswered : (shape : Shape) (w : State P A) (a : ℕ) (job : Job) (refusal : Refusal) (read : List Bytes) (chosen : Chosen P A) → IsSuspending w → ¬ MayBe shape w (Start a job) (Refused refusal) read chosen
   -- what it has seen dirty is stored as dirty
   pub unmarked : (desk : DeskState P) (entry : Entry) → entry.dirty ≡ false → ¬ StoresSeen P A desk entry
-  -- its root is clean, and no flush's is
-  pub unclean : (shape : Shape) (w : State P A) (x : Actor) (commit : RunningCommit) → commit.image.root.clean ≡ false → ¬ BeginsCommit shape w x Suspend commit
-  pub clean : (shape : Shape) (w : State P A) (x : Actor) (commit : RunningCommit) → commit.image.root.clean ≡ true → ¬ BeginsCommit shape w x Flush commit
+  -- its root is clean, and no flush's is, whether it arrives or asks with a ticket
+  pub unclean : (shape : Shape) (w : State P A) (x : Actor) (most : ℕ) (commit : RunningCommit) → commit.image.root.clean ≡ false → ¬ BeginsCommit shape w x Suspend (BeginCommit most) commit
+  pub clean : (shape : Shape) (w : State P A) (x : Actor) (most : ℕ) (commit : RunningCommit) → commit.image.root.clean ≡ true → ¬ BeginsCommit shape w x Flush (Arrive most) commit
+  pub clean_asked : (shape : Shape) (w : State P A) (x : Actor) (most : ℕ) (commit : RunningCommit) → commit.image.root.clean ≡ true → ¬ BeginsCommit shape w x Flush (Ask most) commit
   -- one that is done raises the floor as a flush does
   pub raised : (shape : Shape) → floors_after Suspend shape 1 Finished ≡ 1 ∷ []
   pub not_since : (shape : Shape) → floors_after Suspend shape 0 Finished ≡ 0 ∷ []

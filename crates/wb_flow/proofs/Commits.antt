@@ -3,7 +3,7 @@ use Rattle.std.proofs.Common.{◌≡◌, ◌∙◌, ◌++◌, ℕ, zero, suc, Li
 use Rattle.wb_types.specs.declared.mode.Dev.{Dev}
 use Rattle.wb_types.specs.declared.refusal.Refusal.TheVariants.{Io}
 use Rattle.wb_words.specs.declared.step.CellStep.TheVariants.{SetFailed, SetSuspended}
-use Rattle.wb_tasks.specs.Plan.{Plan, after, after_fault, after_fault_of, first_step, node_writes, device_of, Fits}
+use Rattle.wb_tasks.specs.Plan.{Plan, after, after_fault, after_fault_of, failed_commit, first_step, node_writes, device_of, Fits}
 use Rattle.wb_tasks.specs.declared.step.Answer.{Answer}
 use Rattle.wb_tasks.specs.declared.step.Answer.TheVariants.{Done as Finished, Refused as Refuses}
 use Rattle.wb_tasks.specs.declared.step.DeviceStep.{DeviceStep}
@@ -73,12 +73,12 @@ pub first_of_closing : (purpose : Purpose) (c : Commit) → first_step (closing 
 first_of_closing Flush c = refl
 first_of_closing Suspend c = first_of_stage c.stage c.left c.node (Cell SetSuspended ∷ []) Finished
 
--- where it fails the failed bit is set, and its device is told
-pub failed_commit : (s : Plan) (c : Commit) (device : Dev) → ((step : DeviceStep) → after_fault_of s.job step ≡ Cell SetFailed ∷ []) → first_step s.steps s.answer ≡ first_step (commit_left c) Finished →
-    ((step : DeviceStep) → first_step (commit_left c) Finished ≡ Device step → device_of step ≡ device) → Fits (first_step s.steps s.answer) Fault → record { job = s.job; steps = Cell SetFailed ∷ []; answer = Refuses (Io device) } ≡ after s Fault
-failed_commit s c device fails same told fits = by_want (first_step s.steps s.answer) refl fits
+-- where it fails the failed bit is set, commits are broken, and its device is told
+pub after_failing : (s : Plan) (c : Commit) (device : Dev) → ((step : DeviceStep) → after_fault_of s.job step ≡ failed_commit) → first_step s.steps s.answer ≡ first_step (commit_left c) Finished →
+    ((step : DeviceStep) → first_step (commit_left c) Finished ≡ Device step → device_of step ≡ device) → Fits (first_step s.steps s.answer) Fault → record { job = s.job; steps = failed_commit; answer = Refuses (Io device) } ≡ after s Fault
+after_failing s c device fails same told fits = by_want (first_step s.steps s.answer) refl fits
   where
-    by_want : (w : Want) → first_step s.steps s.answer ≡ w → Fits w Fault → record { job = s.job; steps = Cell SetFailed ∷ []; answer = Refuses (Io device) } ≡ after_fault s w
+    by_want : (w : Want) → first_step s.steps s.answer ≡ w → Fits w Fault → record { job = s.job; steps = failed_commit; answer = Refuses (Io device) } ≡ after_fault s w
     by_want (Device step) is f = λ i. record { job = s.job; steps = sym (fails step) i; answer = Refuses (Io (sym (told step (sym same ∙ is)) i)) }
     by_want (Cell step) is f = absurd f
     by_want (Desk step) is f = absurd f

@@ -4,15 +4,13 @@ use Rattle.std.proofs.lemmas.List.{drop_more}
 use Rattle.wb_types.specs.declared.mode.Dev.{Dev}
 use Rattle.wb_types.specs.declared.number.OBlock.{OBlock}
 use Rattle.wb_types.specs.declared.refusal.Refusal.{Refusal}
-use Rattle.wb_types.specs.declared.refusal.Refusal.TheVariants.{Busy}
-use Rattle.wb_words.specs.declared.step.CellStep.TheVariants.{SetFailed}
-use Rattle.wb_tasks.specs.Plan.{Plan, table, want, after, after_fault_of, begun_steps, commit_steps, first_step, Fits, IsRare}
+use Rattle.wb_types.specs.declared.refusal.Refusal.TheVariants.{Failed}
+use Rattle.wb_tasks.specs.Plan.{Plan, table, want, after, after_fault_of, begun_steps, failed_commit, commit_steps, first_step, Fits, IsRare}
 use Rattle.wb_tasks.specs.declared.step.Answer.TheVariants.{Done as Finished, Refused as Refuses}
 use Rattle.wb_tasks.specs.declared.step.DeviceStep.{DeviceStep}
 use Rattle.wb_tasks.specs.declared.step.Got.{Got}
-use Rattle.wb_tasks.specs.declared.step.Got.TheVariants.{Done, Word, Lost, Fault, Refused, Began, More}
+use Rattle.wb_tasks.specs.declared.step.Got.TheVariants.{Done, Word, Lost, Fault, Refused, Began, Ticket, Served, More}
 use Rattle.wb_tasks.specs.declared.step.Want.{Want}
-use Rattle.wb_tasks.specs.declared.step.Want.TheVariants.{Cell}
 use Rattle.wb_tasks.proofs.Driving.{no_result}
 use Rattle.wb_flow.specs.Commits.{commit_left}
 use Rattle.wb_flow.specs.Phases.{closing, commit_job, commit_task_left}
@@ -20,7 +18,7 @@ use Rattle.wb_flow.specs.declared.commit.Commit.{Commit}
 use Rattle.wb_flow.specs.declared.committing.Purpose.{Purpose}
 use Rattle.wb_flow.specs.declared.committing.Purpose.TheVariants.{Flush, Suspend}
 use Rattle.wb_flow.specs.declared.committing.Phase.{Phase}
-use Rattle.wb_flow.specs.declared.committing.Phase.TheVariants.{LooksAtFail, Begins, Commits, SetsSuspended, GivesUp, SetsFailed, Ended}
+use Rattle.wb_flow.specs.declared.committing.Phase.TheVariants.{LooksAtFail, Begins, Asks, Commits, SetsSuspended, GivesUp, SetsFailed, BreaksCommits, Ended}
 use Rattle.wb_flow.specs.declared.committing.CommitTask.TheInside.{Inside}
 use Rattle.wb_flow.proofs.Commits.{IsNeither, done_or_failed, first_of_closing}
 
@@ -37,11 +35,16 @@ abbrev pub Comes : Got → Phase → Type 0
 Comes (Word word) LooksAtFail = Unit {0}
 Comes (Word word) Begins = Unit {0}
 Comes (Refused refusal) Begins = Unit {0}
+Comes (Refused refusal) Asks = Unit {0}
 Comes (Began nodes) Begins = Unit {0}
+Comes (Began nodes) Asks = Unit {0}
+Comes Ticket Begins = Unit {0}
+Comes Served Asks = Unit {0}
 Comes Done (Commits c) = Unit {0}
 Comes Done SetsSuspended = Unit {0}
 Comes Done (GivesUp refusal) = Unit {0}
 Comes Done (SetsFailed device) = Unit {0}
+Comes Done (BreaksCommits device) = Unit {0}
 Comes Fault (Commits c) = Unit {0}
 Comes got phase = ⊥
 
@@ -50,17 +53,24 @@ comes purpose blocks most LooksAtFail rest (Word word) h = tt
 comes purpose blocks most LooksAtFail rest got h = absurd h
 comes Flush blocks most Begins rest (Refused refusal) h = tt
 comes Flush blocks most Begins rest (Began nodes) h = tt
+comes Flush blocks most Begins rest Ticket h = tt
 comes Flush blocks most Begins rest got h = absurd h
 comes Suspend blocks most Begins (b ∷ rest) (Word word) h = tt
 comes Suspend blocks most Begins (b ∷ rest) got h = absurd h
 comes Suspend blocks most Begins [] (Refused refusal) h = tt
 comes Suspend blocks most Begins [] (Began nodes) h = tt
 comes Suspend blocks most Begins [] got h = absurd h
+comes purpose blocks most Asks rest (Refused refusal) h = tt
+comes purpose blocks most Asks rest (Began nodes) h = tt
+comes purpose blocks most Asks rest Served h = tt
+comes purpose blocks most Asks rest got h = absurd h
 comes purpose blocks most (Commits c) rest Done h = tt
 comes purpose blocks most (Commits c) rest Fault h = tt
 comes purpose blocks most (Commits c) rest (Word word) h = commits purpose c (Word word) tt h
 comes purpose blocks most (Commits c) rest (Refused refusal) h = commits purpose c (Refused refusal) tt h
 comes purpose blocks most (Commits c) rest (Began nodes) h = commits purpose c (Began nodes) tt h
+comes purpose blocks most (Commits c) rest Ticket h = commits purpose c Ticket tt h
+comes purpose blocks most (Commits c) rest Served h = commits purpose c Served tt h
 comes purpose blocks most (Commits c) rest Lost h = commits purpose c Lost tt h
 comes purpose blocks most (Commits c) rest More h = commits purpose c More tt h
 comes purpose blocks most (Commits c) rest got h = absurd h
@@ -71,6 +81,8 @@ comes purpose blocks most (GivesUp refusal) (b ∷ rest) got h = absurd h
 comes purpose blocks most (GivesUp refusal) [] got h = absurd (no_result (Refuses refusal) got h)
 comes purpose blocks most (SetsFailed device) rest Done h = tt
 comes purpose blocks most (SetsFailed device) rest got h = absurd h
+comes purpose blocks most (BreaksCommits device) rest Done h = tt
+comes purpose blocks most (BreaksCommits device) rest got h = absurd h
 comes purpose blocks most (Ended answer) rest got h = absurd (no_result answer got h)
 
 -- what is left of a task, and what it is in another phase, with these of its blocks left
@@ -89,27 +101,20 @@ unlooked LooksAtFail word fail begins h = fail refl
 unlooked Begins word fail begins h = begins refl
 unlooked phase word fail begins h = h
 
-pub undone : (phase : Phase) → ((c : Commit) → phase ≡ Commits c → ⊥) → (phase ≡ SetsSuspended → ⊥) → ((refusal : Refusal) → phase ≡ GivesUp refusal → ⊥) → ((device : Dev) → phase ≡ SetsFailed device → ⊥) → Comes Done phase → ⊥
-undone (Commits c) commits suspends gives fails h = commits c refl
-undone SetsSuspended commits suspends gives fails h = suspends refl
-undone (GivesUp refusal) commits suspends gives fails h = gives refusal refl
-undone (SetsFailed device) commits suspends gives fails h = fails device refl
-undone phase commits suspends gives fails h = h
+pub undone : (phase : Phase) → ((c : Commit) → phase ≡ Commits c → ⊥) → (phase ≡ SetsSuspended → ⊥) → ((refusal : Refusal) → phase ≡ GivesUp refusal → ⊥) → ((device : Dev) → phase ≡ SetsFailed device → ⊥) → ((device : Dev) → phase ≡ BreaksCommits device → ⊥) → Comes Done phase → ⊥
+undone (Commits c) commits suspends gives fails breaks h = commits c refl
+undone SetsSuspended commits suspends gives fails breaks h = suspends refl
+undone (GivesUp refusal) commits suspends gives fails breaks h = gives refusal refl
+undone (SetsFailed device) commits suspends gives fails breaks h = fails device refl
+undone (BreaksCommits device) commits suspends gives fails breaks h = breaks device refl
+undone phase commits suspends gives fails breaks h = h
 
 pub unfailed : (phase : Phase) → ((c : Commit) → phase ≡ Commits c → ⊥) → Comes Fault phase → ⊥
 unfailed (Commits c) commits h = commits c refl
 unfailed phase commits h = h
 
-refused_beginning : (phase : Phase) (refusal : Refusal) → Comes (Refused refusal) phase → Begins ≡ phase
-refused_beginning Begins refusal h = refl
-refused_beginning phase refusal h = absurd h
-
-began_beginning : (phase : Phase) (nodes : ℕ) → Comes (Began nodes) phase → Begins ≡ phase
-began_beginning Begins nodes h = refl
-began_beginning phase nodes h = absurd h
-
--- after a fault either sets the failed bit
-pub sets_failed : (purpose : Purpose) (blocks : List OBlock) (most : ℕ) (step : DeviceStep) → after_fault_of (commit_job purpose blocks most) step ≡ Cell SetFailed ∷ []
+-- after a fault either sets the failed bit, and breaks the commits
+pub sets_failed : (purpose : Purpose) (blocks : List OBlock) (most : ℕ) (step : DeviceStep) → after_fault_of (commit_job purpose blocks most) step ≡ failed_commit
 sets_failed Flush blocks most step = refl
 sets_failed Suspend blocks most step = refl
 
@@ -134,27 +139,63 @@ gave_up t refusal gives l is =
     let next = passed t l in
     ap (λ (p : Phase). in_phase t p (drop (t.past + 1) t.blocks.items)) gives ∙ ap (λ (s : Plan). after s Done) ((λ i. in_phase t (sym gives i) (sym next.1 i)) ∙ is)
 
--- what the desk refused is the commit; a flush then gives up all that it serves, but where another commit runs
-gives_all : (serves : List OBlock) (most : ℕ) (orders : List OBlock) (refusal : Refusal) → (refusal ≡ Busy → ⊥) → commit_task_left Flush serves most (GivesUp refusal) serves ≡ after (commit_task_left Flush serves most Begins orders) (Refused refusal)
-gives_all serves most orders Busy n = absurd (n refl)
-gives_all serves most orders refusal n = refl
+-- What the desk refused is the commit; a flush then gives up all that it serves, but where commits are broken.
+gives_all : (serves : List OBlock) (most : ℕ) (phase : Phase) (orders : List OBlock) (refusal : Refusal) → (refusal ≡ Failed → ⊥) → Comes (Refused refusal) phase →
+    commit_task_left Flush serves most (GivesUp refusal) serves ≡ after (commit_task_left Flush serves most phase orders) (Refused refusal)
+gives_all serves most phase orders Failed n h = absurd (n refl)
+gives_all serves most Begins orders refusal n h = refl
+gives_all serves most Asks orders refusal n h = refl
+gives_all serves most phase orders refusal n h = absurd h
 
-pub refused_flush : {old : Plan} (t : Inside) (refusal : Refusal) → t.purpose ≡ Flush → (refusal ≡ Busy → ⊥) → in_phase t t.phase (rest_of t) ≡ old → Fits (want old) (Refused refusal) → in_phase t (GivesUp refusal) t.blocks.items ≡ after old (Refused refusal)
+pub refused_flush : {old : Plan} (t : Inside) (refusal : Refusal) → t.purpose ≡ Flush → (refusal ≡ Failed → ⊥) → in_phase t t.phase (rest_of t) ≡ old → Fits (want old) (Refused refusal) → in_phase t (GivesUp refusal) t.blocks.items ≡ after old (Refused refusal)
 refused_flush t refusal flush n is h =
-    let begins = refused_beginning t.phase refusal (comes_to t (Refused refusal) is h) in
-    ap (λ (p : Purpose). commit_task_left p t.blocks.items t.most (GivesUp refusal) t.blocks.items) flush ∙ gives_all t.blocks.items t.most (rest_of t) refusal n
-    ∙ ap (λ (s : Plan). after s (Refused refusal)) ((λ i. commit_task_left (sym flush i) t.blocks.items t.most (begins i) (rest_of t)) ∙ is)
+    ap (λ (p : Purpose). commit_task_left p t.blocks.items t.most (GivesUp refusal) t.blocks.items) flush
+    ∙ gives_all t.blocks.items t.most t.phase (rest_of t) refusal n (comes_to t (Refused refusal) is h)
+    ∙ ap (λ (s : Plan). after s (Refused refusal)) ((λ i. commit_task_left (sym flush i) t.blocks.items t.most t.phase (rest_of t)) ∙ is)
 
 -- what began is the commit
-closed : (purpose : Purpose) (blocks : List OBlock) (most nodes : ℕ) → closing purpose (commit_steps nodes) ≡ begun_steps (commit_job purpose blocks most) nodes
-closed Flush blocks most nodes = refl
-closed Suspend blocks most nodes = refl
+begun : (t : Inside) (phase : Phase) (nodes : ℕ) (c : Commit) → commit_left c ≡ commit_steps nodes → Comes (Began nodes) phase → in_phase t (Commits c) (rest_of t) ≡ after (in_phase t phase (rest_of t)) (Began nodes)
+begun t phase nodes c e h = by_phase phase h
+  where
+    closed : (purpose : Purpose) → closing purpose (commit_steps nodes) ≡ begun_steps (commit_job purpose t.blocks.items t.most) nodes
+    closed Flush = refl
+    closed Suspend = refl
 
-pub began : {old : Plan} (t : Inside) (got : Got) (c : Commit) → ((nodes : ℕ) → got ≡ Began nodes → commit_left c ≡ commit_steps nodes) → IsRare got → in_phase t t.phase (rest_of t) ≡ old → Fits (want old) got → in_phase t (Commits c) (rest_of t) ≡ after old got
-began t (Began nodes) c e r is h =
-    let begins = began_beginning t.phase nodes (comes_to t (Began nodes) is h) in
-    (λ i. record { job = commit_job t.purpose t.blocks.items t.most; steps = (ap (closing t.purpose) (e nodes refl) ∙ closed t.purpose t.blocks.items t.most nodes) i; answer = Finished })
-    ∙ ap (λ (s : Plan). after s (Began nodes)) (ap (λ (p : Phase). in_phase t p (rest_of t)) begins ∙ is)
-began t Lost c e r is h = absurd (comes_to t Lost is h)
-began t More c e r is h = absurd (comes_to t More is h)
-began t got c e r is h = absurd r
+    with_steps : List Want → Plan
+    with_steps steps = record { job = commit_job t.purpose t.blocks.items t.most; steps = steps; answer = Finished }
+
+    leads : with_steps (closing t.purpose (commit_left c)) ≡ with_steps (begun_steps (commit_job t.purpose t.blocks.items t.most) nodes)
+    leads = ap with_steps (ap (closing t.purpose) e ∙ closed t.purpose)
+
+    by_phase : (phase : Phase) → Comes (Began nodes) phase → in_phase t (Commits c) (rest_of t) ≡ after (in_phase t phase (rest_of t)) (Began nodes)
+    by_phase Begins h = leads
+    by_phase Asks h = leads
+    by_phase phase h = absurd h
+
+pub began : {old : Plan} (t : Inside) (got : Got) (c : Commit) → ((nodes : ℕ) → got ≡ Began nodes → commit_left c ≡ commit_steps nodes) → (got ≡ Ticket → ⊥) → (got ≡ Served → ⊥) → IsRare got → in_phase t t.phase (rest_of t) ≡ old → Fits (want old) got → in_phase t (Commits c) (rest_of t) ≡ after old got
+began t (Began nodes) c e ticket served r is h = begun t t.phase nodes c (e nodes refl) (comes_to t (Began nodes) is h) ∙ ap (λ (s : Plan). after s (Began nodes)) is
+began t Lost c e ticket served r is h = absurd (comes_to t Lost is h)
+began t More c e ticket served r is h = absurd (comes_to t More is h)
+began t Ticket c e ticket served r is h = absurd (ticket refl)
+began t Served c e ticket served r is h = absurd (served refl)
+began t got c e ticket served r is h = absurd r
+
+-- with a ticket it asks; once it is served nothing is left
+ticketed : (t : Inside) (purpose : Purpose) (phase : Phase) (rest : List OBlock) → Comes Ticket phase → Fits (want (commit_task_left purpose t.blocks.items t.most phase rest)) Ticket →
+    commit_task_left purpose t.blocks.items t.most Asks rest ≡ after (commit_task_left purpose t.blocks.items t.most phase rest) Ticket
+ticketed t Flush Begins rest h f = refl
+ticketed t Suspend Begins [] h f = absurd f
+ticketed t Suspend Begins (b ∷ rest) h f = absurd f
+ticketed t purpose phase rest h f = absurd h
+
+pub asks : {old : Plan} (t : Inside) (got : Got) → got ≡ Ticket → in_phase t t.phase (rest_of t) ≡ old → Fits (want old) got → in_phase t Asks (rest_of t) ≡ after old got
+asks t Ticket e is h = ticketed t t.purpose t.phase (rest_of t) (comes_to t Ticket is h) (subst (λ (s : Plan). Fits (want s) Ticket) (sym is) h) ∙ ap (λ (s : Plan). after s Ticket) is
+asks t got e is h = absurd cc
+
+served : (t : Inside) (phase : Phase) → Comes Served phase → in_phase t (Ended Finished) (rest_of t) ≡ after (in_phase t phase (rest_of t)) Served
+served t Asks h = refl
+served t phase h = absurd h
+
+pub is_served : {old : Plan} (t : Inside) (got : Got) → got ≡ Served → in_phase t t.phase (rest_of t) ≡ old → Fits (want old) got → in_phase t (Ended Finished) (rest_of t) ≡ after old got
+is_served t Served e is h = served t t.phase (comes_to t Served is h) ∙ ap (λ (s : Plan). after s Served) is
+is_served t got e is h = absurd cc

@@ -6,9 +6,9 @@ use Rattle.wb_types.specs.declared.refusal.Refusal.TheVariants.{Io}
 use Rattle.wb_words.specs.declared.word.Word.TheVariants.{Fail}
 use Rattle.wb_words.specs.declared.step.CellStep.TheVariants.{Look, SetFailed, SetSuspended}
 use Rattle.wb_tasks.specs.Tables.{TaskJob, Flushing, Suspending, Opening}
-use Rattle.wb_tasks.specs.Plan.{Plan, seal_looks, release_orders}
+use Rattle.wb_tasks.specs.Plan.{Plan, failed_commit, seal_looks, release_orders}
 use Rattle.wb_tasks.specs.declared.step.DeviceStep.TheVariants.{Sync, ReadMetadata, WriteRoot}
-use Rattle.wb_tasks.specs.declared.step.DeskStep.TheVariants.{BeginCommit}
+use Rattle.wb_tasks.specs.declared.step.DeskStep.TheVariants.{Arrive, Ask, BeginCommit, BreakCommit}
 use Rattle.wb_tasks.specs.declared.step.Want.{Want}
 use Rattle.wb_tasks.specs.declared.step.Want.TheVariants.{Cell, Device, Desk}
 use Rattle.wb_tasks.specs.declared.step.Answer.{Answer}
@@ -16,7 +16,7 @@ use Rattle.wb_tasks.specs.declared.step.Answer.TheVariants.{Done as Finished, Re
 use Rattle.wb_flow.specs.declared.committing.Purpose.{Purpose}
 use Rattle.wb_flow.specs.declared.committing.Purpose.TheVariants.{Flush, Suspend}
 use Rattle.wb_flow.specs.declared.committing.Phase.{Phase as CommitPhase}
-use Rattle.wb_flow.specs.declared.committing.Phase.TheVariants.{LooksAtFail, Begins, Commits, SetsSuspended, GivesUp, SetsFailed, Ended}
+use Rattle.wb_flow.specs.declared.committing.Phase.TheVariants.{LooksAtFail, Begins, Asks, Commits, SetsSuspended, GivesUp, SetsFailed, BreaksCommits, Ended}
 use Rattle.wb_flow.specs.Commits.{commit_left, IsInRange}
 use Rattle.wb_flow.specs.declared.open.Phase.{Phase as OpenPhase}
 use Rattle.wb_flow.specs.declared.open.Phase.TheVariants.{SyncsMetadata as OpenSyncsMetadata, SyncsCache as OpenSyncsCache, SyncsOrigin as OpenSyncsOrigin, Reads, WritesRoot as OpenWritesRoot, SyncsRoot as OpenSyncsRoot, Ended as OpenEnded}
@@ -26,10 +26,10 @@ abbrev pub commit_job : Purpose → List OBlock → ℕ → TaskJob
 commit_job Flush blocks most = Flushing blocks most
 commit_job Suspend blocks most = Suspending blocks most
 
--- The steps up to the beginning of its commit; a suspend looks at these seals before.
+-- The steps up to the beginning of its commit, where it leads one; a suspend looks at these seals before.
 abbrev pub begin_steps : Purpose → ℕ → List OBlock → List Want
-begin_steps Flush most unseen = Desk (BeginCommit false most) ∷ []
-begin_steps Suspend most unseen = seal_looks unseen ++ Desk (BeginCommit true most) ∷ []
+begin_steps Flush most unseen = Desk (Arrive most) ∷ []
+begin_steps Suspend most unseen = seal_looks unseen ++ Desk (BeginCommit most) ∷ []
 
 -- these steps of its commit, and what follows them
 abbrev pub closing : Purpose → List Want → List Want
@@ -40,15 +40,18 @@ closing Suspend steps = steps ++ Cell SetSuspended ∷ []
 abbrev pub commit_task_steps : Purpose → List OBlock → ℕ → CommitPhase → List OBlock → List Want
 commit_task_steps purpose blocks most LooksAtFail rest = Cell (Look Fail) ∷ begin_steps purpose most blocks
 commit_task_steps purpose blocks most Begins rest = begin_steps purpose most rest
+commit_task_steps purpose blocks most Asks rest = Desk (Ask most) ∷ []
 commit_task_steps purpose blocks most (Commits commit) rest = closing purpose (commit_left commit)
 commit_task_steps purpose blocks most SetsSuspended rest = Cell SetSuspended ∷ []
 commit_task_steps purpose blocks most (GivesUp refusal) rest = release_orders rest
-commit_task_steps purpose blocks most (SetsFailed device) rest = Cell SetFailed ∷ []
+commit_task_steps purpose blocks most (SetsFailed device) rest = failed_commit
+commit_task_steps purpose blocks most (BreaksCommits device) rest = Desk BreakCommit ∷ []
 commit_task_steps purpose blocks most (Ended answer) rest = []
 
 abbrev pub commit_task_answer : CommitPhase → Answer
 commit_task_answer (GivesUp refusal) = Refuses refusal
 commit_task_answer (SetsFailed device) = Refuses (Io device)
+commit_task_answer (BreaksCommits device) = Refuses (Io device)
 commit_task_answer (Ended answer) = answer
 commit_task_answer phase = Finished
 

@@ -1,9 +1,13 @@
 //! A request that commits. A flush, after which all that was finished before it is durable:
 //!
 //! 1. look at the fail word;
-//! 2. begin a commit; where another one runs, answer `Busy`; where the desk refuses it for want of memory or of
-//!    generations, give up the orders of the replacements that it serves, and answer so;
-//! 3. the steps of the commit: see `Commit`; answer done.
+//! 2. arrive at the desk: lead a commit where none runs, else get a ticket of the next one;
+//! 3. with a ticket, ask, once no commit runs that began too early: where one has ended that began after the ticket was given, answer done;
+//!    else lead one;
+//! 4. the steps of the commit: see `Commit`; answer done.
+//!
+//! Where the desk refuses it for want of memory or of generations, it gives up the orders of the replacements that it serves, and answers so;
+//! where commits are broken it answers `Failed`.
 //!
 //! A suspend, after which a target is used again by opening it alone, and then has each dirty bit and hint that it had:
 //!
@@ -14,7 +18,7 @@
 //! 4. the steps of the commit;
 //! 5. set the suspended bit, and answer done.
 //!
-//! After a fault: set the failed bit, and answer `Io`. What the seals told is with the performer, who hands it to the desk.
+//! After a fault: set the failed bit, break the commits, and answer `Io`. What the seals told is with the performer, who hands it to the desk.
 
 ghost use Rattle.std.specs.Prelude.{◌≡◌};
 ghost use Rattle.wb_tasks.specs.Tables.{Flushing, Suspending};
@@ -38,8 +42,10 @@ enum Purpose {
 #[derive(Clone, Copy)]
 enum Phase {
     LooksAtFail,
-    /// A suspend looks at the seals that are left, and then begins its commit; a flush begins it.
+    /// A suspend looks at the seals that are left, and then begins its commit; a flush arrives.
     Begins,
+    /// A flush has a ticket.
+    Asks,
     Commits(Commit),
     /// The commit of a suspend has ended.
     SetsSuspended,
@@ -47,6 +53,7 @@ enum Phase {
     GivesUp(Refusal),
     /// A step on this device failed.
     SetsFailed(Dev),
+    BreaksCommits(Dev),
     Ended(Answer),
 }
 
@@ -115,12 +122,13 @@ impl Steps for CommitTask {
         match self.phase {
             Phase::LooksAtFail => Want::Cell(CellStep::Look(Word::Fail)),
             Phase::Begins => match self.purpose {
-                Purpose::Flush => Want::Desk(DeskStep::BeginCommit(false, self.most)),
+                Purpose::Flush => Want::Desk(DeskStep::Arrive(self.most)),
                 Purpose::Suspend => match self.blocks.get(self.past) {
                     Some(block) => Want::Cell(CellStep::Look(Word::Seal(*block))),
-                    None => Want::Desk(DeskStep::BeginCommit(true, self.most)),
+                    None => Want::Desk(DeskStep::BeginCommit(self.most)),
                 },
             },
+            Phase::Asks => Want::Desk(DeskStep::Ask(self.most)),
             Phase::Commits(commit) => commit.want(),
             Phase::SetsSuspended => Want::Cell(CellStep::SetSuspended),
             Phase::GivesUp(refusal) => match self.blocks.get(self.past) {
@@ -128,6 +136,7 @@ impl Steps for CommitTask {
                 None => Want::End(Answer::Refused(refusal)),
             },
             Phase::SetsFailed(_) => Want::Cell(CellStep::SetFailed),
+            Phase::BreaksCommits(_) => Want::Desk(DeskStep::BreakCommit),
             Phase::Ended(answer) => Want::End(answer),
         }
     }
@@ -165,7 +174,8 @@ impl Steps for CommitTask {
                     self.past += 1;
                 }
             }
-            Phase::SetsFailed(device) => {
+            Phase::SetsFailed(device) => self.phase = Phase::BreaksCommits(device),
+            Phase::BreaksCommits(device) => {
                 self.phase = Phase::Ended(Answer::Refused(Refusal::Io(device)));
             }
             // Nothing else can be done.
@@ -183,7 +193,7 @@ impl Steps for CommitTask {
         self.past = 0;
         match self.purpose {
             Purpose::Flush => match refusal {
-                Refusal::Busy => self.phase = Phase::Ended(Answer::Refused(Refusal::Busy)),
+                Refusal::Failed => self.phase = Phase::Ended(Answer::Refused(Refusal::Failed)),
                 _ => self.phase = Phase::GivesUp(refusal),
             },
             Purpose::Suspend => self.phase = Phase::Ended(Answer::Refused(refusal)),
@@ -191,7 +201,11 @@ impl Steps for CommitTask {
     }
 
     fn after_rare(&mut self, got: Got) {
-        // None of its steps is an exchange or reads metadata: its commit began.
-        self.phase = Phase::Commits(Commit::begun(got));
+        match got {
+            Got::Ticket => self.phase = Phase::Asks,
+            Got::Served => self.phase = Phase::Ended(Answer::Done),
+            // None of its steps is an exchange or reads metadata: its commit began.
+            _ => self.phase = Phase::Commits(Commit::begun(got)),
+        }
     }
 }

@@ -1,5 +1,5 @@
 -- Each step of a flush, or of a suspend, with each result that it may have, is followed.
-use Rattle.std.proofs.Common.{◌≡◌, ◌≢◌, ◌∙◌, ◌≤◌, ◌&&◌, ◌==◌, ◌⊎◌, inl, inr, ℕ, Bool, true, false, if◌then◌else◌, List, [], ◌∷◌, ◌++◌, Option, Some, None, refl, sym, ap, subst, arith, length, slice_get, slice_set, Contains, ◌+◌, ◌/◌}
+use Rattle.std.proofs.Common.{◌≡◌, ◌≢◌, ◌∙◌, ◌≤◌, ◌<◌, ◌&&◌, ◌==◌, ◌⊎◌, inl, inr, ℕ, zero, suc, Bool, true, false, if◌then◌else◌, List, [], ◌∷◌, ◌++◌, Option, Some, None, refl, sym, ap, subst, arith, length, slice_get, slice_set, Contains, ◌+◌, ◌/◌}
 use Rattle.std.proofs.lemmas.List.{length-set}
 use Rattle.std.proofs.lemmas.List.Elements.{Contains-append_cases, Contains-append_left, Contains-append_right}
 use Rattle.wb_types.specs.declared.number.OBlock.{OBlock}
@@ -9,7 +9,7 @@ use Rattle.wb_types.specs.declared.mode.Mode.{Mode}
 use Rattle.wb_types.specs.declared.mode.Dev.{Dev}
 use Rattle.wb_types.specs.declared.mode.Dev.TheVariants.{Metadata, Cache, Origin}
 use Rattle.wb_types.specs.declared.refusal.Refusal.{Refusal}
-use Rattle.wb_types.specs.declared.refusal.Refusal.TheVariants.{Busy, Memory, GenerationEnd}
+use Rattle.wb_types.specs.declared.refusal.Refusal.TheVariants.{Busy, Failed, Memory, GenerationEnd}
 use Rattle.wb_disk.specs.Device.{Content as Bytes, History, synced}
 use Rattle.wb_disk.specs.Failing.{synced_where, lands}
 use Rattle.wb_words.specs.Rule.{LockRule}
@@ -30,7 +30,7 @@ use Rattle.wb_meta.proofs.Stepping.{fails as step_fails}
 use Rattle.wb_policy.specs.declared.order.Order.{Order}
 use Rattle.wb_desk.specs.Desks.{DeskState}
 use Rattle.wb_desk.specs.Calls.{released}
-use Rattle.wb_desk.specs.Commits.{HasBegun, IsBeginRefused, commit_begun, commit_ended}
+use Rattle.wb_desk.specs.Commits.{HasBegun, IsBeginRefused, commit_begun, commit_broken, commit_ended}
 use Rattle.wb_tasks.specs.Plan.{Plan, want, after, got_of, device_of}
 use Rattle.wb_tasks.specs.Tables.{TaskJob}
 use Rattle.wb_tasks.specs.Ready.{HoldsBlocks, Suits, IsOwnStep}
@@ -38,22 +38,27 @@ use Rattle.wb_tasks.specs.declared.step.Answer.{Answer}
 use Rattle.wb_tasks.specs.declared.step.Answer.TheVariants.{Done as Finished, Refused as Refuses}
 use Rattle.wb_tasks.specs.declared.step.DeviceStep.{DeviceStep}
 use Rattle.wb_tasks.specs.declared.step.DeviceStep.TheVariants.{Read as ReadExtent, Sync, WriteNode, WriteRoot, ReadMetadata}
-use Rattle.wb_tasks.specs.declared.step.DeskStep.TheVariants.{BeginCommit, EndCommit, ReleaseOrder}
+use Rattle.wb_tasks.specs.declared.step.DeskStep.TheVariants.{Arrive, Ask, BeginCommit, BreakCommit, EndCommit, ReleaseOrder}
+use Rattle.wb_tasks.specs.declared.step.DeskStep.{DeskStep}
 use Rattle.wb_tasks.specs.declared.step.Want.{Want}
 use Rattle.wb_tasks.specs.declared.step.Want.TheVariants.{Cell, Device, Desk, End}
 use Rattle.wb_tasks.specs.declared.step.Got.{Got}
-use Rattle.wb_tasks.specs.declared.step.Got.TheVariants.{Done, Fault, Began, Refused as GotRefused}
+use Rattle.wb_tasks.specs.declared.step.Got.TheVariants.{Done, Fault, Began, Ticket, Served, Refused as GotRefused}
 use Rattle.wb_devices.specs.declared.devices.Devices.{Devices}
 use Rattle.wb_devices.specs.declared.running.RunningCommit.{RunningCommit}
 use Rattle.wb_devices.specs.Moving.{device_in}
 use Rattle.wb_devices.specs.Committing.{is_coming, is_committed}
+use Rattle.wb_desk.specs.Sharing.{IsLeadRefused}
+use Rattle.wb_stage.specs.declared.share.Share.{Share}
+use Rattle.wb_stage.specs.declared.share.Share.TheVariants.{Waiting}
+use Rattle.wb_stage.specs.Sharing.{IsCovered, share_then}
 use Rattle.wb_stage.specs.Asking.{DidRelease, IsGivenUp, ended}
 use Rattle.wb_meta.specs.Roots.{MayBeReadAs, Commit}
 use Rattle.wb_meta.proofs.Leading.{after_failure, after_failed_node}
 use Rattle.wb_promise.specs.declared.job.Job.{Job}
 use Rattle.wb_promise.specs.declared.job.Job.TheVariants.{Flush, Suspend}
-use Rattle.wb_promise.specs.States.{Shape, State, Actor, Target, Stands, with_device}
-use Rattle.wb_promise.specs.Effects.{actor_then, awaiting_then, buffer_then, seen_then, dropped, orders_then, device_done, device_failed, stepped, led}
+use Rattle.wb_promise.specs.States.{Shape, State, Phase, Actor, Target, Stands, with_device}
+use Rattle.wb_promise.specs.Effects.{actor_then, awaiting_then, buffer_then, seen_then, share_by, dropped, orders_then, device_done, device_failed, stepped, led}
 use Rattle.wb_runs.specs.Holding.{cards_of, AllSuited}
 use Rattle.wb_promise.specs.Clerk.{Notes, Doing, noted_step, device_note, failing, put, finished_note, made_durable}
 use Rattle.wb_runs.proofs.Desks.{given_up_stands}
@@ -61,7 +66,7 @@ use Rattle.wb_runs.proofs.Owning.{Owned}
 use Rattle.wb_runs.proofs.Ordering.{held_of}
 use Rattle.wb_runs.proofs.Images.{Images, later_of, one_image}
 use Rattle.wb_runs.proofs.Underway.{Underway, Readable, images_of, is_written, led_on, sync_does, sync_fails as commit_sync_fails, put_fails, IsPut}
-use Rattle.wb_runs.proofs.Metadata.{MetadataKept, AtDesk, Leading, Quiet, begins_over, ends_over, kept_readable}
+use Rattle.wb_runs.proofs.Metadata.{MetadataKept, AtDesk, Leading, Quiet, begins_over, ends_over, broken_over, kept_readable}
 use Rattle.wb_link.specs.World.{World, Shared, abstract_after_all}
 use Rattle.wb_refines.specs.Commits.{IsNoBegin, IsWrittenAfter, commit_task, commit_there}
 use Rattle.wb_simulation.specs.Actors.{IsCommitAt, AreAmongOthers}
@@ -71,20 +76,20 @@ use Rattle.wb_simulation.specs.Noting.{NotesAgree}
 use Rattle.wb_simulation.specs.Noted.{told}
 use Rattle.wb_simulation.specs.Sites.{ImagesAgree, IsRunning, locations, StateTakesClean}
 use Rattle.wb_simulation.specs.Telling.{Quietly, Releases, Answers}
-use Rattle.wb_simulation.specs.Worlds.{Situation, TurnedTo, DeskTurnedTo, Turn, Stays, Begins, Puts, Ends, GivesUp, WorldFollowsBy, WorldFollows}
-use Rattle.wb_simulation.specs.Laws.{WantsNext, flush_or_suspend, stepped_actor, after_step, turn_of}
+use Rattle.wb_simulation.specs.Worlds.{Commits as DeskCommits, Situation, TurnedTo, DeskTurnedTo, Turn, Stays, Begins, Puts, Ends, GivesUp, WorldFollowsBy, WorldFollows, one_begun, IsLeftOut, IsTakenIn}
+use Rattle.wb_simulation.specs.Laws.{WantsNext, AsksToLead, flush_or_suspend, stepped_actor, after_step, turn_of}
 use Rattle.wb_simulation.proofs.Commits.{commit_steps_followed}
 use Rattle.wb_simulation.proofs.Noted.{notes_followed}
 use Rattle.wb_simulation.proofs.Opening.{images_followed}
 use Rattle.wb_headline.specs.Desks.{DeskAgrees, live_orders}
 use Rattle.wb_headline.proofs.Desking.{desk_stays, desk_begins, desk_ends, desk_releases}
-use Rattle.wb_headline.proofs.Following.{situation, size, most, Followed, Goes}
+use Rattle.wb_headline.proofs.Following.{situation, commits_of, size, most, Followed, Goes}
 use Rattle.wb_headline.proofs.Rooted.{same_one}
 use Rattle.wb_headline.proofs.Suspends.{AllSeen, Saw, marked_places, saw_all, takes_seen, takes_none}
 use Rattle.std.proofs.lemmas.Bool.{cases_eq}
 use Rattle.wb_simulation.specs.Opened.{located}
 use Rattle.wb_headline.proofs.Keeping.{KeepingAt, saw_now, all_told}
-use Rattle.wb_simulation.specs.Actors.{IsOfCommit, IsAmongOthers}
+use Rattle.wb_simulation.specs.Actors.{IsOfCommit, IsAmongOthers, ticket_in}
 use Rattle.wb_simulation.proofs.Followed.{begins_by}
 use Rattle.wb_stage.specs.Seen.{seen_with}
 use Rattle.wb_promise.specs.Headline.{place_of}
@@ -147,31 +152,34 @@ runs_there : (of : Commit) (written : Bool) (s : Shared) → (written ≡ true �
 runs_there of true s w r c = (w refl, r, c)
 runs_there of false s w r c = tt
 
--- a step after which who takes it has the orders, the contents and the bits that it had
+-- a step after which who takes it has the orders, the contents, the bits and the share that it had
 abbrev IsStill : Want → Type 0
 IsStill (Cell (Look (SealWord block))) = ⊥
 IsStill (Cell step) = Unit {0}
 IsStill (Device (ReadExtent device e)) = ⊥
 IsStill (Device step) = Unit {0}
-IsStill (Desk (BeginCommit clean most)) = Unit {0}
+IsStill (Desk (BeginCommit most)) = Unit {0}
 IsStill (Desk EndCommit) = Unit {0}
+IsStill (Desk BreakCommit) = Unit {0}
 IsStill next = ⊥
 
-abbrev Still : Devices (List History) → Actor → Job → Want → Got → Type 0
-Still devices x job next got = (orders_then x.orders x.awaiting job next got ≡ x.orders) × (awaiting_then x.orders x.awaiting job next got ≡ x.awaiting) × (buffer_then devices x.buffer next got job ≡ x.buffer) × (seen_then x.seen next got job ≡ x.seen)
+abbrev Still : {P A : Type 0} → Phase P A → Devices (List History) → Actor → Job → Want → Got → Type 0
+Still phase devices x job next got = (orders_then x.orders x.awaiting job next got ≡ x.orders) × (awaiting_then x.orders x.awaiting job next got ≡ x.awaiting) × (buffer_then devices x.buffer next got job ≡ x.buffer) × (seen_then x.seen next got job ≡ x.seen) × (share_by phase x.share next got ≡ x.share)
 
-still : (devices : Devices (List History)) (x : Actor) (clean : Bool) (next : Want) (got : Got) → IsStill next → Still devices x (flush_or_suspend clean) next got
-still devices x clean (Cell (Look (SealWord block))) got k = absurd k
-still devices x true (Cell step) got k = (refl, refl, refl, refl)
-still devices x false (Cell step) got k = (refl, refl, refl, refl)
-still devices x clean (Device (ReadExtent device e)) got k = absurd k
-still devices x true (Device step) got k = (refl, refl, refl, refl)
-still devices x false (Device step) got k = (refl, refl, refl, refl)
-still devices x true (Desk (BeginCommit marked most)) got k = (refl, refl, refl, refl)
-still devices x false (Desk (BeginCommit marked most)) got k = (refl, refl, refl, refl)
-still devices x true (Desk EndCommit) got k = (refl, refl, refl, refl)
-still devices x false (Desk EndCommit) got k = (refl, refl, refl, refl)
-still devices x clean next got k = absurd k
+still : (P A : Type 0) (t : Target P) (devices : Devices (List History)) (x : Actor) (clean : Bool) (next : Want) (got : Got) → IsStill next → Still {P = P} {A = A} (Stands t) devices x (flush_or_suspend clean) next got
+still P A t devices x clean (Cell (Look (SealWord block))) got k = absurd k
+still P A t devices x true (Cell step) got k = (refl, refl, refl, refl, refl)
+still P A t devices x false (Cell step) got k = (refl, refl, refl, refl, refl)
+still P A t devices x clean (Device (ReadExtent device e)) got k = absurd k
+still P A t devices x true (Device step) got k = (refl, refl, refl, refl, refl)
+still P A t devices x false (Device step) got k = (refl, refl, refl, refl, refl)
+still P A t devices x true (Desk (BeginCommit most)) got k = (refl, refl, refl, refl, refl)
+still P A t devices x false (Desk (BeginCommit most)) got k = (refl, refl, refl, refl, refl)
+still P A t devices x true (Desk EndCommit) got k = (refl, refl, refl, refl, refl)
+still P A t devices x false (Desk EndCommit) got k = (refl, refl, refl, refl, refl)
+still P A t devices x true (Desk BreakCommit) got k = (refl, refl, refl, refl, refl)
+still P A t devices x false (Desk BreakCommit) got k = (refl, refl, refl, refl, refl)
+still P A t devices x clean next got k = absurd k
 
 -- nothing is noted of its steps on devices but which have failed
 not_noted : (shape : Shape) (mode : Mode) (m : Notes) (a : ℕ) (doing : Doing) (clean : Bool) (step : DeviceStep) (got : Got) (contents : List Bytes) → device_note shape mode m a doing (flush_or_suspend clean) step got contents ≡ m
@@ -215,7 +223,7 @@ module _ (P A : Type 0) (shape : Shape) (images : Images) (t : Target P) (commit
   its_task : (blocks : List OBlock) × (plan.job ≡ commit_task clean blocks (most P A shape))
   its_task =
       let b = beside P A shape images t commit devices actors n known f a x ex in
-      let r = doing_as clean (size P A shape) (most P A shape) _ plan x.card b.0 (doing_of (size P A shape) (most P A shape) t.words x b.0 (flush_or_suspend clean) plan (f.phase.agrees.each a x b.0 ex b.1) xt) in
+      let r = doing_as clean (size P A shape) (most P A shape) _ plan x.card x.share b.0 (doing_of (size P A shape) (most P A shape) t.words x b.0 (flush_or_suspend clean) plan (f.phase.agrees.each a x b.0 ex b.1) xt) in
       (r.blocks, r.job)
 
   abbrev s : Shared
@@ -224,9 +232,9 @@ module _ (P A : Type 0) (shape : Shape) (images : Images) (t : Target P) (commit
   -- the actor after such a step
   goes_still : (next : Want) (got : Got) → IsStill next → actor_then {P = P} {A = A} shape (Stands t) devices x next got ≡ record x { task = Rattle.wb_promise.specs.Effects.task_then (Some (flush_or_suspend clean, plan)) next got; card = Rattle.wb_promise.specs.Effects.card_then {P = P} {A = A} shape (Stands t) x.card next }
   goes_still next got k =
-      let v = still devices x clean next got k in
+      let v = still P A t devices x clean next got k in
       actor_is P A shape (Stands t) devices x (flush_or_suspend clean) plan next got xt
-      ∙ (λ i. record { task = Rattle.wb_promise.specs.Effects.task_then (Some (flush_or_suspend clean, plan)) next got; card = Rattle.wb_promise.specs.Effects.card_then {P = P} {A = A} shape (Stands t) x.card next; orders = v.0 i; awaiting = v.1 i; buffer = v.2 i; seen = v.3 i })
+      ∙ (λ i. record { task = Rattle.wb_promise.specs.Effects.task_then (Some (flush_or_suspend clean, plan)) next got; card = Rattle.wb_promise.specs.Effects.card_then {P = P} {A = A} shape (Stands t) x.card next; orders = v.0 i; awaiting = v.1 i; buffer = v.2 i; seen = v.3 i; share = v.4 i })
 
   -- the state after a step, by this actor
   abbrev then_is : Target P → Option RunningCommit → Devices (List History) → Want → Got → State P A
@@ -239,9 +247,9 @@ module _ (P A : Type 0) (shape : Shape) (images : Images) (t : Target P) (commit
   noted_less : Rattle.std.proofs.Common.◌<◌ a (length n.doings)
   noted_less = noted_within P A shape images t commit devices actors n known f a x ex
 
-  quiet_notes : {turn : Turn} {mode' : Mode} {words' : Words} {committing' : Bool} {orders' : List (Option Order)} {devices' : Devices (List History)} {y : Actor} (g : WorldFollowsBy turn Quietly a f.site.world (record (situation shape t devices' actors) { mode = mode'; words = words'; committing = committing'; orders = orders' }) y) →
+  quiet_notes : {turn : Turn} {mode' : Mode} {words' : Words} {commits' : DeskCommits} {orders' : List (Option Order)} {devices' : Devices (List History)} {y : Actor} (g : WorldFollowsBy turn Quietly a f.site.world (record (situation shape t devices' actors) { mode = mode'; words = words'; commits = commits'; orders = orders' }) y) →
       NotesAgree (size P A shape) n (abstract_after_all f.site.world g.records) (told f.notes g.records)
-  quiet_notes {turn} {mode'} {words'} {committing'} {orders'} {devices'} {y} g =
+  quiet_notes {turn} {mode'} {words'} {commits'} {orders'} {devices'} {y} g =
       let b = beside P A shape images t commit devices actors n known f a x ex in
       notes_followed.quiet turn a f.site.world _ _ g b.0 n f.notes b.1 noted_less f.notes_agree
 
@@ -351,6 +359,28 @@ module _ (P A : Type 0) (shape : Shape) (images : Images) (t : Target P) (commit
 
   -- ---- the desk
 
+  -- which of both it is
+  as_it_is : (which : Bool) → clean ≡ which → (G : Job → Type 0) → G (flush_or_suspend which) → G (flush_or_suspend clean)
+  as_it_is which is G g = subst (λ (c : Bool). G (flush_or_suspend c)) (sym is) g
+
+  wants_as : (which : Bool) → clean ≡ which → {next : Want} → next ≡ want plan → WantsNext now a x f.site.world (flush_or_suspend which) plan next
+  wants_as which is {next} e = subst (λ (c : Bool). WantsNext now a x f.site.world (flush_or_suspend c) plan next) is (wants e)
+
+  -- a flush that asked to lead a commit, and what it has then
+  asked_then : (step : DeskStep) (got : Got) → AsksToLead step → clean ≡ false → actor_then {P = P} {A = A} shape (Stands t) devices x (Desk step) got ≡ record (after_step (flush_or_suspend clean) plan got x) { share = share_then t.desk x.share step got }
+  asked_then step got asks flushes = by_step step asks
+    where
+      as_flush_is : x.task ≡ Some (Flush, plan)
+      as_flush_is = xt ∙ ap (λ (c : Bool). Some (flush_or_suspend c, plan)) flushes
+
+      named : (y : Share) → ◌≡◌ {A = Actor} (record (after_step Flush plan got x) { share = y }) (record (after_step (flush_or_suspend clean) plan got x) { share = y })
+      named y = ap (λ (c : Bool). record (after_step (flush_or_suspend c) plan got x) { share = y }) (sym flushes)
+
+      by_step : (v : DeskStep) → AsksToLead v → actor_then {P = P} {A = A} shape (Stands t) devices x (Desk v) got ≡ record (after_step (flush_or_suspend clean) plan got x) { share = share_then t.desk x.share v got }
+      by_step (Arrive allowed) k = actor_is P A shape (Stands t) devices x Flush plan (Desk (Arrive allowed)) got as_flush_is ∙ named (share_then t.desk x.share (Arrive allowed) got)
+      by_step (Ask allowed) k = actor_is P A shape (Stands t) devices x Flush plan (Desk (Ask allowed)) got as_flush_is ∙ named (share_then t.desk x.share (Ask allowed) got)
+      by_step v k = absurd k
+
   no_begin : (refusal : Refusal) → IsBeginRefused t.desk refusal → IsNoBegin refusal
   no_begin Busy r = tt
   no_begin Memory r = tt
@@ -358,28 +388,30 @@ module _ (P A : Type 0) (shape : Shape) (images : Images) (t : Target P) (commit
   no_begin refusal r = absurd r
 
   -- a commit begins, of the desk's mapping
-  begins : (nodes allowed : ℕ) (marked : Bool) (c : RunningCommit) (tree : Mapping) → Desk (BeginCommit marked allowed) ≡ want plan → c.steps ≡ NodesWritten 0 → (hint_of : P → ℕ → ℕ) → HasBegun hint_of (marks clean x.seen) t.desk c.image (commit_begun t.desk tree) →
+  begins : (step : DeskStep) (nodes : ℕ) (c : RunningCommit) (tree : Mapping) (y : Actor) → actor_then {P = P} {A = A} shape (Stands t) devices x (Desk step) (Began nodes) ≡ y → c.steps ≡ NodesWritten 0 → (hint_of : P → ℕ → ℕ) → HasBegun hint_of (marks clean x.seen) t.desk c.image (commit_begun t.desk tree) →
       (clean ≡ true → AllSeen t.words t.desk.tree.entries x.seen × ((block : OBlock) → number_of (place_in (word_at t.words.seals block)) ≡ place_of t.desk.tree.entries block.0)) →
-      Goes P A shape (then_is (record { words = t.words; desk = commit_begun t.desk tree }) (Some c) devices (Desk (BeginCommit marked allowed)) (Began nodes)) n
-  begins nodes allowed marked c tree next steps hint_of begun all = by_commit commit refl known
+      WorldFollowsBy (Begins clean) Quietly a f.site.world (record now { commits = one_begun now.commits }) y →
+      Goes P A shape (then_is (record { words = t.words; desk = commit_begun t.desk tree }) (Some c) devices (Desk step) (Began nodes)) n
+  begins step nodes c tree y is_then steps hint_of begun all g = by_commit commit refl known
     where
+      To : Type 0
+      To = Goes P A shape (then_is (record { words = t.words; desk = commit_begun t.desk tree }) (Some c) devices (Desk step) (Began nodes)) n
+
       idle : t.desk.space.committing ≡ false
       idle = begun.may.idle
 
-      quiet : Quiet shape.geometry images t.desk devices.metadata → AtDesk shape.geometry images t.desk None devices.metadata → Goes P A shape (then_is (record { words = t.words; desk = commit_begun t.desk tree }) (Some c) devices (Desk (BeginCommit marked allowed)) (Began nodes)) n
+      quiet : Quiet shape.geometry images t.desk devices.metadata → AtDesk shape.geometry images t.desk None devices.metadata → To
       quiet q k =
           let b = begins_over P shape.geometry images t.desk devices.metadata hint_of (marks clean x.seen) c tree k.is q steps begun in
-          let g = commit_steps_followed.begins clean now nodes allowed marked a x plan f.site.world (wants next) idle in
           let s' = (abstract_after_all f.site.world g.records).shared in
           let t' : Target P = record { words = t.words; desk = commit_begun t.desk tree } in
-          let y = after_step (flush_or_suspend clean) plan (Began nodes) x in
           let l = b.kept.0.stands in
           let one : later_of images ≡ None = ap later_of q.are in
           let agree : ImagesAgree shape.geometry images.committed None devices.metadata s = subst (λ (o : Option Stored). ImagesAgree shape.geometry images.committed o devices.metadata s) one f.phase.images_agree in
           let begun_there = images_followed.begin clean shape.geometry images.committed devices.metadata s s' agree g.turned in
           let same : b.now.committed ≡ images.committed = same_one b.turn images b.now (ap (λ (i : Images). i.running) q.are) b.turned in
           let later : later_of b.now ≡ None = ap later_of l.under.are ∙ ap (λ (v : CommitSteps). if is_written v then Some l.of.new else None) steps in
-          subst (λ (y : Actor). Goes P A shape (record { devices = devices; commit = Some c; phase = Stands t'; actors = slice_set actors a y }) n) (sym (goes_still (Desk (BeginCommit marked allowed)) (Began nodes) tt))
+          subst (λ (v : Actor). Goes P A shape (record { devices = devices; commit = Some c; phase = Stands t'; actors = slice_set actors a v }) n) (sym is_then)
           (leads_on P A shape images t commit devices actors n known f a x ex (Begins clean) Quietly t' (Some c) devices y n b.now (live_orders t'.desk) g (quiet_notes g) refl refl b.kept.0 refl (desk_begins P t.desk s s' f.phase.desk tree (begun_places clean x.seen hint_of t.desk c.image tree begun) g.desk.0 g.desk.1) (subst (λ (o : Option Stored). ImagesAgree shape.geometry b.now.committed o devices.metadata s') (sym later) (subst (λ (v : Stored). ImagesAgree shape.geometry v None devices.metadata s') (sym same) begun_there.0)) (λ state e. let is = some_is b.kept.1.0 state (sym b.kept.1.1 ∙ e) in (
             begun_there.1 ∙ f.phase.desk.mapping ∙ sym (begun_places clean x.seen hint_of t.desk c.image tree begun) ∙ ap (λ es. Rattle.wb_simulation.specs.Opened.located es) (sym b.kept.1.2) ∙ ap locations is,
             subst (StateTakesClean state) (sym g.turned.4) (begun_takes clean x.seen hint_of t.desk c.image tree t.words s state begun f.phase.agrees.words_agree all
@@ -387,19 +419,60 @@ module _ (P A : Type 0) (shape : Shape) (images : Images) (t : Target P) (commit
                 (ap (λ (v : Stored). v.found.entries) (sym is) ∙ b.kept.1.2)),
           )))
 
-      by_commit : (o : Option RunningCommit) → commit ≡ o → AtDesk shape.geometry images t.desk commit devices.metadata → Goes P A shape (then_is (record { words = t.words; desk = commit_begun t.desk tree }) (Some c) devices (Desk (BeginCommit marked allowed)) (Began nodes)) n
+      by_commit : (o : Option RunningCommit) → commit ≡ o → AtDesk shape.geometry images t.desk commit devices.metadata → To
       by_commit (Some d) e k = absurd (let k' = subst (λ (m : Option RunningCommit). AtDesk shape.geometry images t.desk m devices.metadata) e k in let busy = k'.stands.busy in let bad : false ≡ true = sym idle ∙ busy in cc)
       by_commit None e k =
           let k' = subst (λ (m : Option RunningCommit). AtDesk shape.geometry images t.desk m devices.metadata) e k in
           elim k'.stands [ inl q ↦ quiet q k' | inr b ↦ absurd (let bad : false ≡ true = sym idle ∙ b.busy in cc) ]
 
-  -- or none begins
-  begin_refused : (refusal : Refusal) (allowed : ℕ) (marked : Bool) → Desk (BeginCommit marked allowed) ≡ want plan → IsBeginRefused t.desk refusal → Goes P A shape (then_is t commit devices (Desk (BeginCommit marked allowed)) (GotRefused refusal)) n
-  begin_refused refusal allowed marked next r =
-      let g = commit_steps_followed.is_refused clean now allowed marked refusal a x plan f.site.world (no_begin refusal r) (wants next) in
-      let y = after_step (flush_or_suspend clean) plan (GotRefused refusal) x in
-      subst (λ (y : Actor). Goes P A shape (record { devices = devices; commit = commit; phase = Stands t; actors = slice_set actors a y }) n) (sym (goes_still (Desk (BeginCommit marked allowed)) (GotRefused refusal) tt))
+  -- what the desk says changes nothing there
+  desk_says : (step : DeskStep) (got : Got) (y : Actor) → actor_then {P = P} {A = A} shape (Stands t) devices x (Desk step) got ≡ y → WorldFollows Quietly a f.site.world now y → Goes P A shape (then_is t commit devices (Desk step) got) n
+  desk_says step got y is g =
+      subst (λ (v : Actor). Goes P A shape (record { devices = devices; commit = commit; phase = Stands t; actors = slice_set actors a v }) n) (sym is)
       (stays_on P A shape images t commit devices actors n known f a x ex Quietly t.words devices y n g (quiet_notes g) refl refl refl)
+
+  -- a suspend begins none
+  begin_refused : (refusal : Refusal) (allowed : ℕ) → Desk (BeginCommit allowed) ≡ want plan → clean ≡ true → IsBeginRefused t.desk refusal → Goes P A shape (then_is t commit devices (Desk (BeginCommit allowed)) (GotRefused refusal)) n
+  begin_refused refusal allowed next suspends r = desk_says (BeginCommit allowed) (GotRefused refusal) _ (goes_still (Desk (BeginCommit allowed)) (GotRefused refusal) tt)
+      (as_it_is true suspends (λ job. WorldFollows Quietly a f.site.world now (after_step job plan (GotRefused refusal) x)) (commit_steps_followed.is_refused now allowed refusal a x plan f.site.world (no_begin refusal r) (wants_as true suspends next)))
+
+  -- a flush leads none: the desk refuses it, or one was broken
+  lead_refused : (step : DeskStep) (refusal : Refusal) (asks : AsksToLead step) → Desk step ≡ want plan → clean ≡ false → IsLeadRefused t.desk refusal → IsLeftOut now.commits (ticket_in (Desk step) x.share) → Goes P A shape (then_is t commit devices (Desk step) (GotRefused refusal)) n
+  lead_refused step refusal asks next flushes r out = by r
+    where
+      To : Refusal → Type 0
+      To v = Goes P A shape (then_is t commit devices (Desk step) (GotRefused v)) n
+
+      answered : (v : Refusal) → WorldFollows Quietly a f.site.world now (record (after_step Flush plan (GotRefused v) x) { share = share_then t.desk x.share step (GotRefused v) }) → To v
+      answered v g = desk_says step (GotRefused v) _ (asked_then step (GotRefused v) asks flushes) (as_it_is false flushes (λ job. WorldFollows Quietly a f.site.world now (record (after_step job plan (GotRefused v) x) { share = share_then t.desk x.share step (GotRefused v) })) g)
+
+      by : ((refusal ≡ Failed) × (t.desk.broken ≡ true)) ⊎ ((t.desk.broken ≡ false) × (t.desk.space.committing ≡ false) × IsBeginRefused t.desk refusal) → To refusal
+      by (inl broken) = subst To (sym broken.0) (answered Failed (commit_steps_followed.is_broken now step (share_then t.desk x.share step (GotRefused Failed)) a x plan f.site.world asks (wants_as false flushes next) broken.1 out))
+      by (inr idle) = answered refusal (commit_steps_followed.is_not_led now refusal step (share_then t.desk x.share step (GotRefused refusal)) a x plan f.site.world asks (no_begin refusal idle.2) (wants_as false flushes next) out)
+
+  -- it is served by a commit of another, or gets a ticket
+  is_served : (step : DeskStep) (asks : AsksToLead step) → Desk step ≡ want plan → clean ≡ false → IsTakenIn now.commits (ticket_in (Desk step) x.share) → Goes P A shape (then_is t commit devices (Desk step) Served) n
+  is_served step asks next flushes taken = desk_says step Served _ (asked_then step Served asks flushes)
+      (as_it_is false flushes (λ job. WorldFollows Quietly a f.site.world now (record (after_step job plan Served x) { share = share_then t.desk x.share step Served }))
+      (commit_steps_followed.is_served now step (share_then t.desk x.share step Served) a x plan f.site.world asks (wants_as false flushes next) taken))
+
+  gets_ticket : (allowed : ℕ) → Desk (Arrive allowed) ≡ want plan → clean ≡ false → t.desk.broken ≡ false → t.desk.space.committing ≡ true → Goes P A shape (then_is t commit devices (Desk (Arrive allowed)) Ticket) n
+  gets_ticket allowed next flushes whole busy = desk_says (Arrive allowed) Ticket _ (asked_then (Arrive allowed) Ticket tt flushes)
+      (as_it_is false flushes (λ job. WorldFollows Quietly a f.site.world now (record (after_step job plan Ticket x) { share = Waiting (t.desk.ended + 2) }))
+      (commit_steps_followed.gets_ticket now allowed a x plan f.site.world (wants_as false flushes next) busy whole))
+
+  -- commits are broken, of which nothing comes on the devices
+  breaks : Desk BreakCommit ≡ want plan → Goes P A shape (then_is (record { words = t.words; desk = commit_broken t.desk }) commit devices (Desk BreakCommit) Done) n
+  breaks next =
+      let g = commit_steps_followed.breaks clean now a x plan f.site.world (wants next) in
+      let s' = (abstract_after_all f.site.world g.records).shared in
+      let t' : Target P = record { words = t.words; desk = commit_broken t.desk } in
+      let y = after_step (flush_or_suspend clean) plan Done x in
+      let known' = broken_over P shape.geometry images t.desk commit devices.metadata known in
+      let readable = kept_readable shape.geometry images devices.metadata P A (Stands t) commit known in
+      subst (λ (v : Actor). Goes P A shape (record { devices = devices; commit = commit; phase = Stands t'; actors = slice_set actors a v }) n) (sym (goes_still (Desk BreakCommit) Done tt))
+      (leads_on P A shape images t commit devices actors n known f a x ex Stays Quietly t' commit devices y n images (live_orders t'.desk) g (quiet_notes g) refl refl known' refl (desk_stays P t.desk s s' f.phase.desk (commit_broken t.desk) refl refl g.desk.0 g.desk.1)
+      (images_followed.stay shape.geometry images.committed (later_of images) devices.metadata devices.metadata s s' f.phase.images_agree g.turned readable.read) (λ state e. let r = f.phase.running state e in (g.turned.1 ∙ r.0, subst (StateTakesClean state) (sym g.turned.4) r.1)))
 
   -- the commit ends
   ends : (c : RunningCommit) → commit ≡ Some c → Desk EndCommit ≡ want plan → is_committed c.steps ≡ true → Goes P A shape (then_is (record { words = t.words; desk = ended t.desk }) None devices (Desk EndCommit) Done) n
@@ -475,7 +548,7 @@ module _ (P A : Type 0) (shape : Shape) (images : Images) (t : Target P) (commit
       finish : (v : Answer) (n' : Notes) (g : WorldFollows (Answers (commit_there clean) v) a f.site.world now (over v)) → NotesAgree (size P A shape) n' (abstract_after_all f.site.world g.records) (told f.notes g.records) → length n'.doings ≡ length n.doings → length n'.histories ≡ length n.histories → Goes P A shape (then_is t commit devices (End v) Done) n'
       finish v n' g notes d h =
           subst (λ (y : Actor). Goes P A shape (record { devices = devices; commit = commit; phase = Stands t; actors = slice_set actors a y }) n')
-          (sym (actor_is P A shape (Stands t) devices x (flush_or_suspend clean) plan (End v) Done xt ∙ (λ i. record { task = None; card = x.card; orders = orders_over v; awaiting = awaiting_over v; buffer = x.buffer; seen = seen_still clean v i })))
+          (sym (actor_is P A shape (Stands t) devices x (flush_or_suspend clean) plan (End v) Done xt ∙ (λ i. record { task = None; card = x.card; orders = orders_over v; awaiting = awaiting_over v; buffer = x.buffer; seen = seen_still clean v i; share = x.share })))
           (stays_on P A shape images t commit devices actors n known f a x ex (Answers (commit_there clean) v) t.words devices (over v) n' g notes d h refl)
 
       by_answer : (v : Answer) → End v ≡ want plan → Goes P A shape (then_is t commit devices (End v) Done) (noted_step shape t.desk.mode shown n a (Some (Some doing)) (End v) Done contents)
@@ -607,15 +680,47 @@ module _ (P A : Type 0) (shape : Shape) (images : Images) (t : Target P) (commit
       (commit_steps_followed.suspends (situation shape t devices actors) _ _ a x plan f.site.world rule.logs.fail (record { here = ex; task = xt; asks = sym next; agrees = f.phase.agrees }))
 
   -- once it asks for its commit it has seen all, and the seals tell
-  has_seen : (xt : x.task ≡ Some (Suspend, plan)) → (marked : Bool) (allowed : ℕ) → Desk (BeginCommit marked allowed) ≡ want plan → AllSeen t.words t.desk.tree.entries x.seen × ((block : OBlock) → number_of (place_in (word_at t.words.seals block)) ≡ place_of t.desk.tree.entries block.0)
-  has_seen xt marked allowed next =
-      let first = begins_by plan (Desk (BeginCommit marked allowed)) (sym next) (λ v q. absurd (cc)) in
+  has_seen : (xt : x.task ≡ Some (Suspend, plan)) → (allowed : ℕ) → Desk (BeginCommit allowed) ≡ want plan → AllSeen t.words t.desk.tree.entries x.seen × ((block : OBlock) → number_of (place_in (word_at t.words.seals block)) ≡ place_of t.desk.tree.entries block.0)
+  has_seen xt allowed next =
+      let first = begins_by plan (Desk (BeginCommit allowed)) (sym next) (λ v q. absurd (cc)) in
       let b = beside P A shape images t commit devices actors n known f a x ex in
-      let r : IsCommitAt (size P A shape) (most P A shape) _ true plan b.0 = doing_of (size P A shape) (most P A shape) t.words x b.0 Suspend plan (f.phase.agrees.each a x b.0 ex b.1) xt in
+      let r : IsCommitAt (size P A shape) (most P A shape) _ true plan x.share b.0 = doing_of (size P A shape) (most P A shape) t.words x b.0 Suspend plan (f.phase.agrees.each a x b.0 ex b.1) xt in
       let none = (subst (λ (ws : List Want). IsOfCommit true (most P A shape) ws) first.1 r.steps).2 in (
-        saw_all t.words t.desk.tree.entries x.seen marked allowed first.0 none (subst (λ (ws : List Want). Saw t.words t.desk.tree.entries x.seen ws) first.1 (saw_now P A shape images t commit devices actors n known f rule all_suited k a x ex Suspend plan xt refl)),
-        all_told P A shape images t commit devices actors n known f rule all_suited k a x ex Suspend plan xt refl (Desk (BeginCommit marked allowed)) next (λ b p d q. absurd (cc)),
+        saw_all t.words t.desk.tree.entries x.seen allowed first.0 none (subst (λ (ws : List Want). Saw t.words t.desk.tree.entries x.seen ws) first.1 (saw_now P A shape images t commit devices actors n known f rule all_suited k a x ex Suspend plan xt refl)),
+        all_told P A shape images t commit devices actors n known f rule all_suited k a x ex Suspend plan xt refl (Desk (BeginCommit allowed)) next (λ b p d q. absurd (cc)),
       )
+
+  -- a suspend begins its commit
+  suspends_by : (xt : x.task ≡ Some (Suspend, plan)) → doing.job ≡ Suspend → (allowed nodes : ℕ) (c : RunningCommit) (tree : Mapping) → Desk (BeginCommit allowed) ≡ want plan → c.steps ≡ NodesWritten 0 → (hint_of : P → ℕ → ℕ) → HasBegun hint_of (Some x.seen) t.desk c.image (commit_begun t.desk tree) →
+      Goes P A shape (record { devices = devices; commit = Some c; phase = Stands (record { words = t.words; desk = commit_begun t.desk tree }); actors = slice_set actors a (actor_then {P = P} {A = A} shape (Stands t) devices x (Desk (BeginCommit allowed)) (Began nodes)) }) n
+  suspends_by xt job_is allowed nodes c tree e steps hint_of begun =
+      begins P A shape images t commit devices actors n known f rule a x ex true plan xt doing noted job_is (BeginCommit allowed) nodes c tree _ (goes_still P A shape images t commit devices actors n known f rule a x ex true plan xt doing noted job_is (Desk (BeginCommit allowed)) (Began nodes) tt) steps hint_of begun (λ q. has_seen xt allowed e)
+      (commit_steps_followed.begins (situation shape t devices actors) nodes allowed a x plan f.site.world (record { here = ex; task = xt; asks = sym e; agrees = f.phase.agrees }) begun.may.idle)
+
+  -- a flush leads one
+  leads_by : (xt : x.task ≡ Some (Flush, plan)) → doing.job ≡ Flush → (step : DeskStep) (nodes : ℕ) (c : RunningCommit) (tree : Mapping) (asks : AsksToLead step) → Desk step ≡ want plan → t.desk.broken ≡ false → c.steps ≡ NodesWritten 0 → (hint_of : P → ℕ → ℕ) → HasBegun hint_of None t.desk c.image (commit_begun t.desk tree) → IsLeftOut (commits_of t.desk) (ticket_in (Desk step) x.share) →
+      Goes P A shape (record { devices = devices; commit = Some c; phase = Stands (record { words = t.words; desk = commit_begun t.desk tree }); actors = slice_set actors a (actor_then {P = P} {A = A} shape (Stands t) devices x (Desk step) (Began nodes)) }) n
+  leads_by xt job_is step nodes c tree asks e whole steps hint_of begun out =
+      begins P A shape images t commit devices actors n known f rule a x ex false plan xt doing noted job_is step nodes c tree _ (asked_then P A shape images t commit devices actors n known f rule a x ex false plan xt doing noted job_is step (Began nodes) asks refl) steps hint_of begun (λ q. absurd (cc))
+      (commit_steps_followed.leads (situation shape t devices actors) nodes step (share_then t.desk x.share step (Began nodes)) a x plan f.site.world asks (record { here = ex; task = xt; asks = sym e; agrees = f.phase.agrees }) begun.may.idle whole out)
+
+  -- one that asks with a ticket is served, or not, as the desk says
+  left_out : (allowed : ℕ) (share : Share) → ¬ IsCovered t.desk share → IsLeftOut (commits_of t.desk) (ticket_in (Desk (Ask allowed)) share)
+  left_out allowed (Waiting number) uncovered = not_covered (compare number t.desk.ended)
+    where
+      not_covered : (number ≤ t.desk.ended) ⊎ (t.desk.ended < number) → t.desk.ended < number
+      not_covered (inl covered) = absurd (uncovered covered)
+      not_covered (inr out) = out
+
+      compare : (n m : ℕ) → (n ≤ m) ⊎ (m < n)
+      compare zero m = inl (omega arith)
+      compare (suc n) zero = inr (omega arith)
+      compare (suc n) (suc m) = elim (compare n m) [ inl l ↦ inl (omega (arith, l)) | inr g ↦ inr (omega (arith, g)) ]
+  left_out allowed share uncovered = tt
+
+  taken_in : (allowed : ℕ) (share : Share) → IsCovered t.desk share → IsTakenIn (commits_of t.desk) (ticket_in (Desk (Ask allowed)) share)
+  taken_in allowed (Waiting number) covered = covered
+  taken_in allowed share covered = absurd covered
 
   -- ---- any step
 
@@ -627,6 +732,7 @@ module _ (P A : Type 0) (shape : Shape) (images : Images) (t : Target P) (commit
   IsCommon (Cell step) = Unit {0}
   IsCommon (Device step) = Unit {0}
   IsCommon (Desk EndCommit) = Unit {0}
+  IsCommon (Desk BreakCommit) = Unit {0}
   IsCommon (End answer) = Unit {0}
   IsCommon next = ⊥
 
@@ -639,6 +745,7 @@ module _ (P A : Type 0) (shape : Shape) (images : Images) (t : Target P) (commit
   as_flush true (Device (Sync Metadata)) got read chosen common g = g
   as_flush true (Device step) got read chosen common g = g
   as_flush true (Desk EndCommit) got read chosen common g = g
+  as_flush true (Desk BreakCommit) got read chosen common g = g
   as_flush true (End Finished) got read chosen common g = g
   as_flush true (End answer) got read chosen common g = g
   as_flush true next got read chosen common g = absurd common
@@ -672,10 +779,23 @@ module _ (P A : Type 0) (shape : Shape) (images : Images) (t : Target P) (commit
       let h = as_flush clean (Device WriteRoot) got read chosen tt g in
       let p = by_put P A shape images t commit devices actors n known f rule a x ex clean plan xt doing noted job_is suits WriteRoot refl e read tt chosen commit refl h.2 in
       subst (λ (v : Got). Any_done clean xt job_is (Device WriteRoot) v read chosen) (sym h.1) (subst (λ (c : Chosen P A). Any_done clean xt job_is (Device WriteRoot) Done read c) (sym p.1) p.2)
-  commit_steps true xt job_is (Desk (BeginCommit marked allowed)) (Began nodes) read (Commits c tree) asked e g = begins P A shape images t commit devices actors n known f rule a x ex true plan xt doing noted job_is nodes allowed marked c tree e g.2.2 g.2.3.0 g.2.3.1 (λ q. has_seen xt marked allowed e)
-  commit_steps false xt job_is (Desk (BeginCommit marked allowed)) (Began nodes) read (Commits c tree) asked e g = begins P A shape images t commit devices actors n known f rule a x ex false plan xt doing noted job_is nodes allowed marked c tree e g.2.2 g.2.3.0 g.2.3.1 (λ q. absurd (cc))
-  commit_steps clean xt job_is (Desk (BeginCommit marked allowed)) (GotRefused refusal) read Plain asked e g = begin_refused P A shape images t commit devices actors n known f rule a x ex clean plan xt doing noted job_is refusal allowed marked e g.2
-  commit_steps clean xt job_is (Desk (BeginCommit marked allowed)) got read chosen asked e g = absurd g.2
+  commit_steps true xt job_is (Desk (BeginCommit allowed)) (Began nodes) read (Commits c tree) asked e g = suspends_by xt job_is allowed nodes c tree e g.1.2 g.1.3.0 g.1.3.1
+  commit_steps true xt job_is (Desk (BeginCommit allowed)) (GotRefused refusal) read Plain asked e g = begin_refused P A shape images t commit devices actors n known f rule a x ex true plan xt doing noted job_is refusal allowed e refl g.1
+  commit_steps true xt job_is (Desk (BeginCommit allowed)) got read chosen asked e g = absurd g.1
+  commit_steps false xt job_is (Desk (BeginCommit allowed)) got read chosen asked e g = absurd (mine P A shape images t commit devices actors n known f rule a x ex false plan xt doing noted job_is suits (Desk (BeginCommit allowed)) e)
+  commit_steps false xt job_is (Desk (Arrive allowed)) Ticket read Plain asked e g = gets_ticket P A shape images t commit devices actors n known f rule a x ex false plan xt doing noted job_is allowed e refl g.1.0 g.1.1
+  commit_steps false xt job_is (Desk (Arrive allowed)) (Began nodes) read (Commits c tree) asked e g = leads_by xt job_is (Arrive allowed) nodes c tree tt e g.1.0 g.1.1.2 g.1.1.3.0 g.1.1.3.1 tt
+  commit_steps false xt job_is (Desk (Arrive allowed)) (GotRefused refusal) read Plain asked e g = lead_refused P A shape images t commit devices actors n known f rule a x ex false plan xt doing noted job_is (Arrive allowed) refusal tt e refl g.1 tt
+  commit_steps false xt job_is (Desk (Arrive allowed)) got read chosen asked e g = absurd g.1
+  commit_steps false xt job_is (Desk (Ask allowed)) Served read Plain asked e g = is_served P A shape images t commit devices actors n known f rule a x ex false plan xt doing noted job_is (Ask allowed) tt e refl (taken_in allowed x.share g.1)
+  commit_steps false xt job_is (Desk (Ask allowed)) (Began nodes) read (Commits c tree) asked e g = leads_by xt job_is (Ask allowed) nodes c tree tt e g.1.1.0 g.1.1.1.2 g.1.1.1.3.0 g.1.1.1.3.1 (left_out allowed x.share g.1.0)
+  commit_steps false xt job_is (Desk (Ask allowed)) (GotRefused refusal) read Plain asked e g = lead_refused P A shape images t commit devices actors n known f rule a x ex false plan xt doing noted job_is (Ask allowed) refusal tt e refl g.1.1 (left_out allowed x.share g.1.0)
+  commit_steps false xt job_is (Desk (Ask allowed)) got read chosen asked e g = absurd g.1.1
+  commit_steps true xt job_is (Desk (Arrive allowed)) got read chosen asked e g = absurd (mine P A shape images t commit devices actors n known f rule a x ex true plan xt doing noted job_is suits (Desk (Arrive allowed)) e)
+  commit_steps true xt job_is (Desk (Ask allowed)) got read chosen asked e g = absurd (mine P A shape images t commit devices actors n known f rule a x ex true plan xt doing noted job_is suits (Desk (Ask allowed)) e)
+  commit_steps clean xt job_is (Desk BreakCommit) got read chosen asked e g =
+      let h = as_flush clean (Desk BreakCommit) got read chosen tt g in
+      subst (λ (v : Got). Any_done clean xt job_is (Desk BreakCommit) v read chosen) (sym h.1) (breaks P A shape images t commit devices actors n known f rule a x ex clean plan xt doing noted job_is e)
   commit_steps clean xt job_is (Desk EndCommit) got read chosen asked e g =
       let h = as_flush clean (Desk EndCommit) got read chosen tt g in
       subst (λ (v : Got). Any_done clean xt job_is (Desk EndCommit) v read chosen) (sym h.1) (by_end P A shape images t commit devices actors n known f rule a x ex clean plan xt doing noted job_is suits read commit refl h.2 e chosen)

@@ -15,6 +15,7 @@ use Rattle.wb_tasks.specs.declared.step.Answer.TheVariants.{Done as Finished}
 use Rattle.wb_tasks.specs.declared.step.DeviceStep.TheVariants.{Sync, ReadMetadata, WriteRoot}
 use Rattle.wb_tasks.specs.declared.step.Want.{Want}
 use Rattle.wb_tasks.specs.declared.step.Want.TheVariants.{Device}
+use Rattle.wb_desk.specs.Desks.{DeskState}
 use Rattle.wb_devices.specs.declared.devices.Devices.{Devices}
 use Rattle.wb_devices.specs.declared.running.RunningCommit.{RunningCommit}
 use Rattle.wb_promise.specs.declared.job.Job.{Job}
@@ -28,7 +29,7 @@ use Rattle.wb_link.specs.Openings.{Site, AbstractPhase as PhaseThere, Stands as 
 use Rattle.wb_simulation.specs.Opened.{located, TakesClean}
 use Rattle.wb_simulation.specs.Noting.{NotesAgree}
 use Rattle.wb_simulation.specs.Sites.{ImagesAgree, DevicesAgree, StateTakesClean, locations}
-use Rattle.wb_simulation.specs.Worlds.{Situation, Agrees}
+use Rattle.wb_simulation.specs.Worlds.{Commits, Situation, Agrees}
 use Rattle.wb_headline.specs.Desks.{DeskAgrees, live_orders}
 use Rattle.wb_headline.proofs.Events.{Reached}
 
@@ -85,6 +86,10 @@ pub record IsOver (plan : Plan) (phase : PhaseThere) : Type 0 where
 
 -- ---- a state
 
+-- the commits of its desk
+abbrev pub commits_of : {P : Type 0} → DeskState P → Commits
+commits_of desk = record { committing = desk.space.committing; broken = desk.broken; ended = desk.ended }
+
 -- where the machine stands, with this target
 abbrev pub situation : {P : Type 0} → Shape → Target P → Devices (List History) → List Actor → Situation
 situation shape t devices actors = record {
@@ -92,7 +97,7 @@ situation shape t devices actors = record {
   size = block_size shape;
   most = node_count shape.geometry.cache_blocks;
   words = t.words;
-  committing = t.desk.space.committing;
+  commits = commits_of t.desk;
   orders = live_orders t.desk;
   devices = devices;
   actors = actors;

@@ -40,7 +40,7 @@ use Rattle.wb_desk.proofs.Entering.{entrance, named_inside}
 use Rattle.wb_desk.proofs.Leaving.{mapped_within}
 use Rattle.wb_stage.specs.Asking.{DidRelease, DidUnmap, IsGivenUp, is_of, order_of as order_found}
 use Rattle.wb_tasks.specs.Tables.{BlockJob, Reading, Writing, Displacing, Invalidating, Migrating, OnBlock, Flushing, Suspending, Opening, TaskJob, access_of, range_of}
-use Rattle.wb_tasks.specs.Plan.{Plan, want, after, after_fault, after_fault_of, after_refusal, first_step, later_steps, lets_go, lets_go_unless_busy, got_of}
+use Rattle.wb_tasks.specs.Plan.{Plan, want, after, after_fault, after_fault_of, after_refusal, first_step, later_steps, lets_go, got_of}
 use Rattle.wb_tasks.specs.Ready.{Has, MayTake, Suits, SuitsJob, IsOwnStep, IsJobs, block_of}
 use Rattle.wb_tasks.proofs.Readiness.{is_own_step, is_ready}
 use Rattle.wb_tasks.specs.declared.step.Answer.{Answer}
@@ -48,7 +48,7 @@ use Rattle.wb_tasks.specs.declared.step.Answer.TheVariants.{Done as Finished, Re
 use Rattle.wb_tasks.specs.declared.step.DeviceStep.{DeviceStep}
 use Rattle.wb_tasks.specs.declared.step.DeviceStep.TheVariants.{Read as ReadExtent, Write as WriteExtent}
 use Rattle.wb_tasks.specs.declared.step.DeskStep.{DeskStep}
-use Rattle.wb_tasks.specs.declared.step.DeskStep.TheVariants.{Map, Unmap, ReleaseOrder, BeginCommit, EndCommit}
+use Rattle.wb_tasks.specs.declared.step.DeskStep.TheVariants.{Map, Unmap, ReleaseOrder, Arrive, Ask, BeginCommit, EndCommit}
 use Rattle.wb_tasks.specs.declared.step.Migration.{Migration}
 use Rattle.wb_tasks.specs.declared.step.Migration.TheVariants.{Promote, Demote}
 use Rattle.wb_tasks.specs.declared.step.Want.{Want}
@@ -301,7 +301,7 @@ module _ (P A : Type 0) (shape : Shape) (images : Images) (t : Target P) (commit
       its_blocks : (looks : List OBlock) × (plan.job ≡ Suspending looks (most P A shape))
       its_blocks =
           let z = beside P A shape images t commit devices actors n known f a x ex in
-          let r : IsCommitAt (size P A shape) (most P A shape) _ true plan z.0 = doing_of (size P A shape) (most P A shape) t.words x z.0 Suspend plan (f.phase.agrees.each a x z.0 ex z.1) its_task in
+          let r : IsCommitAt (size P A shape) (most P A shape) _ true plan x.share z.0 = doing_of (size P A shape) (most P A shape) t.words x z.0 Suspend plan (f.phase.agrees.each a x z.0 ex z.1) its_task in
           (r.blocks, r.job)
 
       -- what it has seen up to now
@@ -368,22 +368,23 @@ module _ (P A : Type 0) (shape : Shape) (images : Images) (t : Target P) (commit
           subst (λ (g : Got). Saw t.words t.desk.tree.entries x.seen (after plan g).steps) (sym fault) (subst (λ (p : Plan). Saw t.words t.desk.tree.entries x.seen (after p Fault).steps) (sym (is_left (Device step) s.0 s.1)) (λ b. absurd b))
 
       -- of the desk it asks for its commit, and ends it
-      pub saw_begin : (clean : Bool) (allowed : ℕ) (desk' : DeskState P) (got : Got) → Desk (BeginCommit clean allowed) ≡ want plan → ((nodes : ℕ) × (got ≡ Began nodes)) ⊎ ((refusal : Refusal) × (got ≡ GotRefused refusal)) → Saw t.words desk'.tree.entries x.seen (after plan got).steps
-      saw_begin clean allowed desk' got e (inl began) =
-          let s = saw_first_of (Desk (BeginCommit clean allowed)) e (λ v q. absurd (cc)) in
-          subst (λ (g : Got). Saw t.words desk'.tree.entries x.seen (after plan g).steps) (sym began.1) (subst (λ (p : Plan). Saw t.words desk'.tree.entries x.seen (after p (Began began.0)).steps) (sym (is_left (Desk (BeginCommit clean allowed)) s.0 s.1)) (λ b. absurd (begun_once true its_blocks.0 (most P A shape) began.0 b)))
-      saw_begin clean allowed desk' got e (inr r) =
-          let s = saw_first_of (Desk (BeginCommit clean allowed)) e (λ v q. absurd (cc)) in
-          subst (λ (g : Got). Saw t.words desk'.tree.entries x.seen (after plan g).steps) (sym r.1) (subst (λ (p : Plan). Saw t.words desk'.tree.entries x.seen (after p (GotRefused r.0)).steps) (sym (is_left (Desk (BeginCommit clean allowed)) s.0 s.1)) (by_refusal r.0))
-        where
-          by_refusal : (refusal : Refusal) → Saw t.words desk'.tree.entries x.seen (lets_go_unless_busy (Suspending its_blocks.0 (most P A shape)) refusal)
-          by_refusal Rattle.wb_types.specs.declared.refusal.Refusal.TheVariants.Busy = λ b. absurd b
-          by_refusal refusal = λ b. absurd b
+      pub saw_begin : (allowed : ℕ) (desk' : DeskState P) (got : Got) → Desk (BeginCommit allowed) ≡ want plan → ((nodes : ℕ) × (got ≡ Began nodes)) ⊎ ((refusal : Refusal) × (got ≡ GotRefused refusal)) → Saw t.words desk'.tree.entries x.seen (after plan got).steps
+      saw_begin allowed desk' got e (inl began) =
+          let s = saw_first_of (Desk (BeginCommit allowed)) e (λ v q. absurd (cc)) in
+          subst (λ (g : Got). Saw t.words desk'.tree.entries x.seen (after plan g).steps) (sym began.1) (subst (λ (p : Plan). Saw t.words desk'.tree.entries x.seen (after p (Began began.0)).steps) (sym (is_left (Desk (BeginCommit allowed)) s.0 s.1)) (λ b. absurd (begun_once true its_blocks.0 (most P A shape) began.0 b)))
+      saw_begin allowed desk' got e (inr r) =
+          let s = saw_first_of (Desk (BeginCommit allowed)) e (λ v q. absurd (cc)) in
+          subst (λ (g : Got). Saw t.words desk'.tree.entries x.seen (after plan g).steps) (sym r.1) (subst (λ (p : Plan). Saw t.words desk'.tree.entries x.seen (after p (GotRefused r.0)).steps) (sym (is_left (Desk (BeginCommit allowed)) s.0 s.1)) (λ b. absurd b))
 
-      pub saw_end : (desk' : DeskState P) → ((b : ℕ) → place_of desk'.tree.entries b ≡ place_of t.desk.tree.entries b) → Desk EndCommit ≡ want plan → Saw t.words desk'.tree.entries x.seen (after plan Done).steps
-      saw_end desk' places e =
-          let s = saw_first_of (Desk EndCommit) e (λ v q. absurd (cc)) in
-          subst (λ (ws : List Want). Saw t.words desk'.tree.entries x.seen (later_steps ws)) (sym s.1) (saw_on t.words t.words t.desk.tree.entries desk'.tree.entries x.seen (Desk EndCommit) s.0 (λ b q. absurd (cc)) refl places s.2)
+      pub saw_end : (step : DeskStep) (desk' : DeskState P) → ((b : ℕ) → place_of desk'.tree.entries b ≡ place_of t.desk.tree.entries b) → Desk step ≡ want plan → Saw t.words desk'.tree.entries x.seen (after plan Done).steps
+      saw_end step desk' places e =
+          let s = saw_first_of (Desk step) e (λ v q. absurd (cc)) in
+          subst (λ (ws : List Want). Saw t.words desk'.tree.entries x.seen (later_steps ws)) (sym s.1) (saw_on t.words t.words t.desk.tree.entries desk'.tree.entries x.seen (Desk step) s.0 (λ b q. absurd (cc)) refl places s.2)
+
+      -- it never asks to share one
+      pub shares_none : (allowed : ℕ) → (Desk (Arrive allowed) ≡ want plan) ⊎ (Desk (Ask allowed) ≡ want plan) → ⊥
+      shares_none allowed (inl e) = own (Suspending its_blocks.0 (most P A shape)) (Desk (Arrive allowed)) its_blocks.1 e
+      shares_none allowed (inr e) = own (Suspending its_blocks.0 (most P A shape)) (Desk (Ask allowed)) its_blocks.1 e
 
     y_parted : (next : Want) (got : Got) → AreParted (y next got)
     y_parted next got = parted_then x.orders x.awaiting (job_of x.task) next got (k.parted a x ex)
@@ -458,7 +459,7 @@ module _ (P A : Type 0) (shape : Shape) (images : Images) (t : Target P) (commit
           z : (v : Rattle.wb_link.specs.World.AbstractActor) × (slice_get f.site.world.actors a ≡ Some v)
           z = beside P A shape images t commit devices actors n known f a x ex
 
-          doing : (j : Job) → x.task ≡ Some (j, plan) → IsDoing (size P A shape) (most P A shape) (f.phase.agrees.each a x z.0 ex z.1).failed j plan x.card z.0
+          doing : (j : Job) → x.task ≡ Some (j, plan) → IsDoing (size P A shape) (most P A shape) (f.phase.agrees.each a x z.0 ex z.1).failed j plan x.card x.share z.0
           doing j jt = doing_of (size P A shape) (most P A shape) t.words x z.0 j plan (f.phase.agrees.each a x z.0 ex z.1) jt
 
           is_seal : Cell (Seal b place dirty) ≡ want plan

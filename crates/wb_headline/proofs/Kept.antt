@@ -15,24 +15,25 @@ use Rattle.wb_tasks.specs.declared.step.Migration.TheVariants.{Demote}
 use Rattle.std.proofs.lemmas.List.Elements.{Contains-append_left, Contains-append_right}
 use Rattle.std.proofs.lemmas.Option.{get_or_from_slice_get}
 use Rattle.wb_desk.specs.Desks.{DeskState, MayReserve}
-use Rattle.wb_desk.specs.Commits.{HasBegun, commit_begun, commit_ended}
+use Rattle.wb_desk.specs.Commits.{HasBegun, commit_begun, commit_broken, commit_ended}
 use Rattle.wb_tasks.specs.Tables.{BlockJob, Reading, Writing, Displacing, Invalidating, Migrating, OnBlock}
 use Rattle.wb_tasks.specs.Plan.{Plan, want, after}
 use Rattle.wb_tasks.specs.Ready.{IsJobs}
 use Rattle.wb_tasks.specs.declared.step.DeviceStep.{DeviceStep}
 use Rattle.wb_tasks.specs.declared.step.DeviceStep.TheVariants.{Read as ReadExtent, Write as WriteExtent, Sync, ReadMetadata, WriteNode, WriteRoot}
-use Rattle.wb_tasks.specs.declared.step.DeskStep.TheVariants.{Map, Unmap, ReleaseOrder, BeginCommit, EndCommit}
+use Rattle.wb_tasks.specs.declared.step.DeskStep.{DeskStep}
+use Rattle.wb_tasks.specs.declared.step.DeskStep.TheVariants.{Map, Unmap, ReleaseOrder, Arrive, Ask, BeginCommit, BreakCommit, EndCommit}
 use Rattle.wb_tasks.specs.declared.step.Want.{Want}
 use Rattle.wb_tasks.specs.declared.step.Want.TheVariants.{Cell, Device, Desk, End}
 use Rattle.wb_tasks.specs.declared.step.Got.{Got}
-use Rattle.wb_tasks.specs.declared.step.Got.TheVariants.{Done, Fault, Began, Refused as GotRefused}
+use Rattle.wb_tasks.specs.declared.step.Got.TheVariants.{Done, Fault, Began, Ticket, Served, Refused as GotRefused}
 use Rattle.wb_devices.specs.declared.devices.Devices.{Devices}
 use Rattle.wb_devices.specs.declared.running.RunningCommit.{RunningCommit}
 use Rattle.wb_promise.specs.declared.job.Job.{Job}
 use Rattle.wb_promise.specs.declared.job.Job.TheVariants.{Read, Write, Flush, Suspend, Migrate, Replace, Invalidate}
 use Rattle.wb_promise.specs.declared.event.What.TheVariants.{Started}
 use Rattle.wb_promise.specs.States.{Shape, State, Actor, Target, Phase, Stands, OfReading, resting}
-use Rattle.wb_promise.specs.Happenings.{Chosen, Plain, Cut, Orders, Looks, Asks, Commits, Gives, DoesBegin, DoesRead, StartsAs, AreMapped, HasTask, OfSome, order_for}
+use Rattle.wb_promise.specs.Happenings.{Chosen, Plain, Cut, Orders, Looks, Asks, Commits, Gives, DoesArrive, DoesAsk, DoesBegin, DoesLead, DoesRead, StartsAs, AreMapped, HasTask, OfSome, order_for}
 use Rattle.wb_promise.specs.Effects.{actor_then, phase_then, phase_given, given, job_of, begun_desk, all_resting}
 use Rattle.wb_promise.specs.Clerk.{Notes}
 use Rattle.wb_promise.specs.Headline.{place_of}
@@ -45,7 +46,7 @@ use Rattle.wb_runs.proofs.Ordering.{held_of, then_had}
 use Rattle.wb_runs.proofs.Owning.{Owned, owned_given, owned_same}
 use Rattle.wb_headline.proofs.Orders.{AreParted}
 use Rattle.wb_headline.proofs.Following.{Followed}
-use Rattle.wb_headline.proofs.Keeping.{KeepingAt, Keeping, HasNone, NoOrders, TaskRight, GoesAmong, plainly, saw_among, saw_begin, saw_end, own, cell_keeps, device_keeps, answer_keeps, desk_plain, map_keeps, map_refused_keeps, unmap_keeps, request_unmap_keeps, release_keeps, flush_release_keeps, ready}
+use Rattle.wb_headline.proofs.Keeping.{KeepingAt, Keeping, HasNone, NoOrders, TaskRight, GoesAmong, plainly, saw_among, saw_begin, saw_end, shares_none, own, cell_keeps, device_keeps, answer_keeps, desk_plain, map_keeps, map_refused_keeps, unmap_keeps, request_unmap_keeps, release_keeps, flush_release_keeps, ready}
 use Rattle.wb_headline.proofs.Targets.{standing}
 use Rattle.wb_headline.proofs.Seeing.{mapped_there}
 use Rattle.wb_headline.proofs.Suspends.{Saw, SawTask, saw_first, marked_places}
@@ -207,35 +208,67 @@ module _ (P A : Type 0) (shape : Shape) (images : Images) (t : Target P) (commit
     abbrev After : Want → Got → Chosen P A → Type 0
     After next got chosen = Keeping (phase_then {P = P} {A = A} shape (Stands t) next got chosen) (slice_set actors a (actor_then {P = P} {A = A} shape (Stands t) devices x next got))
 
-    -- a commit begins, or does not
-    begins_keeps : (job : Job) → x.task ≡ Some (job, plan) → (seen : Option (List Bool)) (clean : Bool) (most : ℕ) (got : Got) (chosen : Chosen P A) → Desk (BeginCommit clean most) ≡ want plan → DoesBegin seen most t.desk got chosen → After (Desk (BeginCommit clean most)) got chosen
-    begins_keeps job xt seen clean most got chosen e d = desk_plain P A shape images t commit devices actors n known f rule all_suited k a x ex job plan xt (BeginCommit clean most) got (begun_desk chosen t.desk)
-        (λ s. saw_begin P A shape images t commit devices actors n known f rule all_suited k a x ex job plan xt s clean most (begun_desk chosen t.desk) got e (which got chosen d)) e
-        (ready P A shape images t commit devices actors n known f rule all_suited k a x ex job plan xt (Desk (BeginCommit clean most)) e) (by got chosen d)
-        (owned_same P t.desk actors a x (actor_then {P = P} {A = A} shape (Stands t) devices x (Desk (BeginCommit clean most)) got) ex k.owned (begun_desk chosen t.desk) refl (begun_orders P A chosen t.desk))
+    -- the desk answers who asks for a commit: one begins, or the desk stays
+    asks_keeps : (job : Job) → x.task ≡ Some (job, plan) → (step : DeskStep) (got : Got) (chosen : Chosen P A) → Desk step ≡ want plan → x.card.hold ≡ Nothing → held_of (actor_then {P = P} {A = A} shape (Stands t) devices x (Desk step) got) ≡ held_of x → ((b : ℕ) → place_of (begun_desk chosen t.desk).tree.entries b ≡ place_of t.desk.tree.entries b) → (job ≡ Suspend → Saw t.words (begun_desk chosen t.desk).tree.entries x.seen (after plan got).steps) →
+        KeepingAt (record { words = t.words; desk = begun_desk chosen t.desk }) (slice_set actors a (actor_then {P = P} {A = A} shape (Stands t) devices x (Desk step) got))
+    asks_keeps job xt step got chosen e none same places saw = desk_plain P A shape images t commit devices actors n known f rule all_suited k a x ex job plan xt step got (begun_desk chosen t.desk) saw e
+        none places
+        (owned_same P t.desk actors a x (actor_then {P = P} {A = A} shape (Stands t) devices x (Desk step) got) ex k.owned (begun_desk chosen t.desk) same (begun_orders P A chosen t.desk))
+
+    -- the entries that are stored are of the same blocks, marked or not
+    same_places : (seen : Option (List Bool)) (hint_of : P → ℕ → ℕ) (image : Image) (tree : Mapping) → HasBegun hint_of seen t.desk image (commit_begun t.desk tree) → (b : ℕ) → place_of tree.entries b ≡ place_of t.desk.tree.entries b
+    same_places None hint_of image tree h b = ap (λ (es : List (Option Entry)). place_of es b) h.image_is.same_entries
+    same_places (Some bits) hint_of image tree h b = ap (λ (es : List (Option Entry)). place_of es b) (h.image_is.2.same_entries ∙ h.image_is.1.entries) ∙ marked_places (hint_of t.desk.policy) bits t.desk.tree.entries 0 b
+
+    -- a suspend's begins, or does not
+    begins_keeps : (job : Job) → x.task ≡ Some (job, plan) → (most : ℕ) (got : Got) (chosen : Chosen P A) → Desk (BeginCommit most) ≡ want plan → DoesBegin (Some x.seen) most t.desk got chosen → After (Desk (BeginCommit most)) got chosen
+    begins_keeps job xt most got chosen e d = asks_keeps job xt (BeginCommit most) got chosen e (ready P A shape images t commit devices actors n known f rule all_suited k a x ex job plan xt (Desk (BeginCommit most)) e) refl (by got chosen d)
+        (λ s. saw_begin P A shape images t commit devices actors n known f rule all_suited k a x ex job plan xt s most (begun_desk chosen t.desk) got e (which got chosen d))
       where
-        which : (got : Got) (chosen : Chosen P A) → DoesBegin seen most t.desk got chosen → ((nodes : ℕ) × (got ≡ Began nodes)) ⊎ ((refusal : Refusal) × (got ≡ GotRefused refusal))
+        which : (got : Got) (chosen : Chosen P A) → DoesBegin (Some x.seen) most t.desk got chosen → ((nodes : ℕ) × (got ≡ Began nodes)) ⊎ ((refusal : Refusal) × (got ≡ GotRefused refusal))
         which (Began nodes) (Commits c tree) d = inl (nodes, refl)
         which (GotRefused refusal) Plain d = inr (refusal, refl)
         which got chosen d = absurd d
 
-        -- the entries that are stored are of the same blocks, marked or not
-        same_places : (seen : Option (List Bool)) (hint_of : P → ℕ → ℕ) (image : Image) (tree : Mapping) → HasBegun hint_of seen t.desk image (commit_begun t.desk tree) → (b : ℕ) → place_of tree.entries b ≡ place_of t.desk.tree.entries b
-        same_places None hint_of image tree h b = ap (λ (es : List (Option Entry)). place_of es b) h.image_is.same_entries
-        same_places (Some bits) hint_of image tree h b = ap (λ (es : List (Option Entry)). place_of es b) (h.image_is.2.same_entries ∙ h.image_is.1.entries) ∙ marked_places (hint_of t.desk.policy) bits t.desk.tree.entries 0 b
-
-        by : (got : Got) (chosen : Chosen P A) → DoesBegin seen most t.desk got chosen → (b : ℕ) → place_of (begun_desk chosen t.desk).tree.entries b ≡ place_of t.desk.tree.entries b
-        by (Began nodes) (Commits c tree) d b = same_places seen d.3.0 c.image tree d.3.1 b
+        by : (got : Got) (chosen : Chosen P A) → DoesBegin (Some x.seen) most t.desk got chosen → (b : ℕ) → place_of (begun_desk chosen t.desk).tree.entries b ≡ place_of t.desk.tree.entries b
+        by (Began nodes) (Commits c tree) d b = same_places (Some x.seen) d.3.0 c.image tree d.3.1 b
         by (GotRefused refusal) Plain d b = refl
         by got chosen d b = absurd d
+
+    -- a flush leads one, or does not
+    led_places : (most : ℕ) (got : Got) (chosen : Chosen P A) → DoesLead most t.desk got chosen → (b : ℕ) → place_of (begun_desk chosen t.desk).tree.entries b ≡ place_of t.desk.tree.entries b
+    led_places most (Began nodes) (Commits c tree) d b = same_places None d.1.3.0 c.image tree d.1.3.1 b
+    led_places most (GotRefused refusal) Plain d b = refl
+    led_places most got chosen d b = absurd d
+
+    arrives_keeps : (job : Job) → x.task ≡ Some (job, plan) → (most : ℕ) (got : Got) (chosen : Chosen P A) → Desk (Arrive most) ≡ want plan → DoesArrive most t.desk got chosen → After (Desk (Arrive most)) got chosen
+    arrives_keeps job xt most got chosen e d = asks_keeps job xt (Arrive most) got chosen e (ready P A shape images t commit devices actors n known f rule all_suited k a x ex job plan xt (Desk (Arrive most)) e) refl (by got chosen d) (λ s. absurd (shares_none P A shape images t commit devices actors n known f rule all_suited k a x ex job plan xt s most (inl e)))
+      where
+        by : (got : Got) (chosen : Chosen P A) → DoesArrive most t.desk got chosen → (b : ℕ) → place_of (begun_desk chosen t.desk).tree.entries b ≡ place_of t.desk.tree.entries b
+        by Ticket Plain d b = refl
+        by got chosen d b = led_places most got chosen d b
+
+    asked_keeps : (job : Job) → x.task ≡ Some (job, plan) → (most : ℕ) (got : Got) (chosen : Chosen P A) → Desk (Ask most) ≡ want plan → DoesAsk x.share most t.desk got chosen → After (Desk (Ask most)) got chosen
+    asked_keeps job xt most got chosen e d = asks_keeps job xt (Ask most) got chosen e (ready P A shape images t commit devices actors n known f rule all_suited k a x ex job plan xt (Desk (Ask most)) e) refl (by got chosen d) (λ s. absurd (shares_none P A shape images t commit devices actors n known f rule all_suited k a x ex job plan xt s most (inr e)))
+      where
+        by : (got : Got) (chosen : Chosen P A) → DoesAsk x.share most t.desk got chosen → (b : ℕ) → place_of (begun_desk chosen t.desk).tree.entries b ≡ place_of t.desk.tree.entries b
+        by Served Plain d b = refl
+        by got chosen d b = led_places most got chosen d.1 b
 
     ends_keeps : (job : Job) → x.task ≡ Some (job, plan) → (got : Got) (chosen : Chosen P A) → Desk EndCommit ≡ want plan → got ≡ Done → After (Desk EndCommit) got chosen
     ends_keeps job xt got chosen e done = desk_plain P A shape images t commit devices actors n known f rule all_suited k a x ex job plan xt EndCommit got (cond t.desk.space.committing (commit_ended t.desk) t.desk)
         (λ s. subst (λ (g : Got). Saw t.words (cond t.desk.space.committing (commit_ended t.desk) t.desk).tree.entries x.seen (after plan g).steps) (sym done)
-        (saw_end P A shape images t commit devices actors n known f rule all_suited k a x ex job plan xt s (cond t.desk.space.committing (commit_ended t.desk) t.desk) (λ b. ended_same P (Option ℕ) (λ (d : DeskState P). place_of d.tree.entries b) t.desk refl) e)) e
+        (saw_end P A shape images t commit devices actors n known f rule all_suited k a x ex job plan xt s EndCommit (cond t.desk.space.committing (commit_ended t.desk) t.desk) (λ b. ended_same P (Option ℕ) (λ (d : DeskState P). place_of d.tree.entries b) t.desk refl) e)) e
         (ready P A shape images t commit devices actors n known f rule all_suited k a x ex job plan xt (Desk EndCommit) e)
         (λ b. ended_same P (Option ℕ) (λ (d : DeskState P). place_of d.tree.entries b) t.desk refl)
         (owned_same P t.desk actors a x (actor_then {P = P} {A = A} shape (Stands t) devices x (Desk EndCommit) got) ex k.owned (cond t.desk.space.committing (commit_ended t.desk) t.desk) refl (ended_same P Rattle.wb_orders.specs.Orders.Orders (λ (d : DeskState P). d.orders) t.desk refl))
+
+    breaks_keeps : (job : Job) → x.task ≡ Some (job, plan) → (got : Got) (chosen : Chosen P A) → Desk BreakCommit ≡ want plan → got ≡ Done → After (Desk BreakCommit) got chosen
+    breaks_keeps job xt got chosen e done = desk_plain P A shape images t commit devices actors n known f rule all_suited k a x ex job plan xt BreakCommit got (commit_broken t.desk)
+        (λ s. subst (λ (g : Got). Saw t.words t.desk.tree.entries x.seen (after plan g).steps) (sym done) (saw_end P A shape images t commit devices actors n known f rule all_suited k a x ex job plan xt s BreakCommit (commit_broken t.desk) (λ b. refl) e)) e
+        (ready P A shape images t commit devices actors n known f rule all_suited k a x ex job plan xt (Desk BreakCommit) e)
+        (λ b. refl)
+        (owned_same P t.desk actors a x (actor_then {P = P} {A = A} shape (Stands t) devices x (Desk BreakCommit) got) ex k.owned (commit_broken t.desk) refl refl)
 
     -- it goes on
     pub step_keeps : (job : Job) → x.task ≡ Some (job, plan) → (next : Want) (got : Got) (read : List Bytes) (chosen : Chosen P A) → next ≡ want plan → Gives shape (standing P A shape images t commit devices actors n) x job next got read chosen → After next got chosen
@@ -258,8 +291,10 @@ module _ (P A : Type 0) (shape : Shape) (images : Images) (t : Target P) (commit
         (λ s. inl (suspend_gives_done P A shape (standing P A shape images t commit devices actors n) x t step got read chosen refl (subst (λ (j : Job). Gives shape (standing P A shape images t commit devices actors n) x j (Device step) got read chosen) s g)))
     step_keeps job xt (End answer) got read chosen e g = answer_keeps P A shape images t commit devices actors n known f rule all_suited k a x ex job plan xt answer got e
     step_keeps job xt (Desk EndCommit) got read chosen e g = ends_keeps job xt got chosen e g.1
-    step_keeps Suspend xt (Desk (BeginCommit clean most)) got read chosen e g = begins_keeps Suspend xt (Some x.seen) clean most got chosen e g.2
-    step_keeps job xt (Desk (BeginCommit clean most)) got read chosen e g = begins_keeps job xt None clean most got chosen e g.2
+    step_keeps job xt (Desk BreakCommit) got read chosen e g = breaks_keeps job xt got chosen e g.1
+    step_keeps job xt (Desk (Arrive most)) got read chosen e g = arrives_keeps job xt most got chosen e g.1
+    step_keeps job xt (Desk (Ask most)) got read chosen e g = asked_keeps job xt most got chosen e g.1
+    step_keeps job xt (Desk (BeginCommit most)) got read chosen e g = begins_keeps job xt most got chosen e g.1
     step_keeps job xt next got read chosen e g = absurd g
 
     -- a step on a device that fails

@@ -41,7 +41,7 @@ use Rattle.wb_simulation.specs.Sites.{StateTakesClean}
 use Rattle.wb_simulation.specs.Noting.{NotesAgree}
 use Rattle.wb_simulation.specs.Noted.{told}
 use Rattle.wb_simulation.specs.Telling.{Carries, Rests}
-use Rattle.wb_simulation.specs.Worlds.{Situation, Turn, Stays, WorldFollowsBy, WorldFollows, Maps, Unmaps, GivesUp, TurnedTo}
+use Rattle.wb_simulation.specs.Worlds.{Commits, Situation, Turn, Stays, WorldFollowsBy, WorldFollows, Maps, Unmaps, GivesUp, TurnedTo}
 use Rattle.wb_simulation.specs.Laws.{WantsNext, stepped_actor, after_step}
 use Rattle.wb_simulation.specs.Migrating.{SeesWhere, EndsOrder}
 use Rattle.wb_simulation.proofs.Noted.{notes_followed}
@@ -84,7 +84,7 @@ use Rattle.wb_runs.proofs.Owning.{Owned}
 use Rattle.wb_simulation.specs.Carried.{IsOrderFor}
 use Rattle.wb_runs.proofs.Located.{stands_alone, unmapped_there}
 use Rattle.wb_headline.specs.Desks.{live_orders, orders_living, DeskAgrees, block_there}
-use Rattle.wb_headline.proofs.Following.{situation, size, Followed, Goes}
+use Rattle.wb_headline.proofs.Following.{situation, commits_of, size, Followed, Goes}
 use Rattle.wb_headline.proofs.Targets.{standing, actor_is, beside, failing_same, noted_within, stays_on, leads_on}
 use Rattle.wb_headline.proofs.Orders.{keeps_so, leaves_from, left, none_waits, of_order, past, stands_so, at_there, live_at, for_block, only_held, only_of}
 use Rattle.wb_headline.proofs.Carried.{own, looks_seal, looks_number}
@@ -108,9 +108,9 @@ module _ (P A : Type 0) (shape : Shape) (images : Images) (t : Target P) (commit
   noted_less = noted_within P A shape images t commit devices actors n known f a x ex
 
   -- a migration's steps are not noted
-  pub carried_notes : {turn : Turn} {mode' : Mode} {words' : Words} {committing' : Bool} {orders' : List (Option Order)} {devices' : Devices (List History)} {y : Actor} (g : WorldFollowsBy turn Carries a f.site.world (record (situation shape t devices' actors) { mode = mode'; words = words'; committing = committing'; orders = orders' }) y) →
+  pub carried_notes : {turn : Turn} {mode' : Mode} {words' : Words} {commits' : Commits} {orders' : List (Option Order)} {devices' : Devices (List History)} {y : Actor} (g : WorldFollowsBy turn Carries a f.site.world (record (situation shape t devices' actors) { mode = mode'; words = words'; commits = commits'; orders = orders' }) y) →
       NotesAgree (size P A shape) n (abstract_after_all f.site.world g.records) (told f.notes g.records)
-  carried_notes {turn} {mode'} {words'} {committing'} {orders'} {devices'} {y} g =
+  carried_notes {turn} {mode'} {words'} {commits'} {orders'} {devices'} {y} g =
       let b = beside P A shape images t commit devices actors n known f a x ex in
       notes_followed.carries turn a f.site.world _ _ g b.0 n f.notes b.1 noted_less f.notes_agree
 
@@ -193,7 +193,7 @@ module _ (P A : Type 0) (shape : Shape) (images : Images) (t : Target P) (commit
         rested v e =
             let g = migrations_followed.answers now shape.geometry.origin_blocks a x migration block plan v f.site.world (wants e) suits in
             let b = beside P A shape images t commit devices actors n known f a x ex in
-            subst (λ (v' : Actor). Goes P A shape (record { devices = devices; commit = commit; phase = Stands t; actors = slice_set actors a v' }) (put n a None)) (sym (actor_is P A shape (Stands t) devices x migrating_job plan (End v) Done xt ∙ (λ i. record { task = None; card = x.card; orders = (answered_still x.orders x.awaiting migration block v).0 i; awaiting = (answered_still x.orders x.awaiting migration block v).1 i; buffer = x.buffer; seen = x.seen })))
+            subst (λ (v' : Actor). Goes P A shape (record { devices = devices; commit = commit; phase = Stands t; actors = slice_set actors a v' }) (put n a None)) (sym (actor_is P A shape (Stands t) devices x migrating_job plan (End v) Done xt ∙ (λ i. record { task = None; card = x.card; orders = (answered_still x.orders x.awaiting migration block v).0 i; awaiting = (answered_still x.orders x.awaiting migration block v).1 i; buffer = x.buffer; seen = x.seen; share = x.share })))
             (stays_on P A shape images t commit devices actors n known f a x ex Rests t.words devices (record x { task = None }) (put n a None) g
             (notes_followed.rests Stays a f.site.world _ _ g b.0 n f.notes b.1 noted_less f.notes_agree) (length-set n.doings a None) refl refl)
 
@@ -264,7 +264,7 @@ module _ (P A : Type 0) (shape : Shape) (t : Target P) (commit : Option RunningC
 
   -- the desk and its orders turn, and whatever is read of the metadata stays
   goes_to : (turn : Turn) (desk' : DeskState P) (y : Actor) (next : Want) (orders' : List (Option Order)) → actor_then {P = P} {A = A} shape (Stands t) devices x next Done ≡ y →
-      (g : WorldFollowsBy turn Carries a f.site.world (record now_at_desk { mode = desk'.mode; committing = desk'.space.committing; orders = orders' }) y) → (TurnedTo turn s (abstract_after_all f.site.world g.records).shared → TurnedTo Stays s (abstract_after_all f.site.world g.records).shared) →
+      (g : WorldFollowsBy turn Carries a f.site.world (record now_at_desk { mode = desk'.mode; commits = commits_of desk'; orders = orders' }) y) → (TurnedTo turn s (abstract_after_all f.site.world g.records).shared → TurnedTo Stays s (abstract_after_all f.site.world g.records).shared) →
       AtDesk shape.geometry b.goes.images desk' commit devices.metadata → orders' ≡ live_orders desk' → DeskAgrees desk' (abstract_after_all f.site.world g.records).shared →
       Goes P A shape (record { devices = devices; commit = commit; phase = Stands (record { words = t.words; desk = desk' }); actors = slice_set actors a (actor_then {P = P} {A = A} shape (Stands t) devices x next Done) }) n
   goes_to turn desk' y next orders' is g stays known' same desk =

@@ -251,7 +251,7 @@ module _ (P A : Type 0) (shape : Shape) (images : Images) (t : Target P) (commit
     answered_with : (there : Answer) (of : Rattle.wb_link.specs.Tables.Job) (n' : Notes) → length n'.doings ≡ length n.doings → length n'.histories ≡ length n.histories → (g : WorldFollows (Answers of there) a f.site.world (situation shape t devices actors) (record x { task = None })) →
         NotesAgree (size P A shape) n' (abstract_after_all f.site.world g.records) (told f.notes g.records) → Answered n'
     answered_with there of n' d h g notes =
-        subst (λ (y : Actor). Goes P A shape (record { devices = devices; commit = commit; phase = Stands (record { words = t.words; desk = t.desk }); actors = slice_set actors a y }) n') (sym (actor_is P A shape (Stands t) devices x job plan (End answer) Done xt ∙ (λ i. record { task = None; card = x.card; orders = orders_still x.orders x.awaiting job answer request i; awaiting = awaiting_still x.orders x.awaiting job answer request i; buffer = x.buffer; seen = seen_still x.seen job (End answer) Done request i })))
+        subst (λ (y : Actor). Goes P A shape (record { devices = devices; commit = commit; phase = Stands (record { words = t.words; desk = t.desk }); actors = slice_set actors a y }) n') (sym (actor_is P A shape (Stands t) devices x job plan (End answer) Done xt ∙ (λ i. record { task = None; card = x.card; orders = orders_still x.orders x.awaiting job answer request i; awaiting = awaiting_still x.orders x.awaiting job answer request i; buffer = x.buffer; seen = seen_still x.seen job (End answer) Done request i; share = x.share })))
         (stays_on P A shape images t commit devices actors n known f a x ex (Answers of there) t.words devices (record x { task = None }) n' g notes d h refl)
 
   -- by its job

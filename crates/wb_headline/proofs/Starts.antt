@@ -123,7 +123,7 @@ module _ (P A : Type 0) (shape : Shape) (images : Images) (t : Target P) (commit
       by (inl g) = stays_on P A shape images t commit devices actors n known f a x ex (Starts of) t.words devices y' (put n a (Some (begun n job))) g
           (notes_followed.starts of job Stays a f.site.world _ _ g y.0 n f.notes y.1 less f.notes_agree was.0 was.1) (length-set n.doings a (Some (begun n job))) refl refl
       by (inr g) =
-          let none = (subst (λ (q : Option (Job × Plan)). IsBusyAt (size P A shape) (most P A shape) (f.phase.agrees.each a x y.0 ex y.1).failed q x.card y.0) xt (f.phase.agrees.each a x y.0 ex y.1).at).0 in
+          let none = (subst (λ (q : Option (Job × Plan)). IsBusyAt (size P A shape) (most P A shape) (f.phase.agrees.each a x y.0 ex y.1).failed q x.card x.share y.0) xt (f.phase.agrees.each a x y.0 ex y.1).at).0 in
           stays_on P A shape images t commit devices actors n known f a x ex Quietly t.words devices y' (put n a (Some (begun n job))) g
           (notes_followed.starts_late job Stays a f.site.world _ _ g y.0 n f.notes y.1 less f.notes_agree none) (length-set n.doings a (Some (begun n job))) refl refl
 

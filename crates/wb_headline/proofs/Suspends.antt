@@ -36,7 +36,7 @@ use Rattle.wb_simulation.proofs.Opened.{found_at}
 -- its commit is still to begin
 abbrev pub BeginsLater : List Want → Type 0
 BeginsLater [] = ⊥
-BeginsLater (Desk (BeginCommit clean most) ∷ later) = Unit {0}
+BeginsLater (Desk (BeginCommit most) ∷ later) = Unit {0}
 BeginsLater (next ∷ later) = BeginsLater later
 
 -- the bit of each block that these entries have is that of its seal
@@ -68,7 +68,7 @@ saw_on words words' old new seen next later none seals places saw begins block c
     )
   where
     begins_before : (next : Want) (later : List Want) → BeginsLater later → BeginsLater (next ∷ later)
-    begins_before (Desk (BeginCommit clean most)) later b = tt
+    begins_before (Desk (BeginCommit most)) later b = tt
     begins_before next later b = b
 
 -- it has looked at a seal, which tells where its block stands
@@ -123,11 +123,11 @@ saw_seal words entries seen block later told saw begins other c at = by (place_i
 
 -- it starts with a look at the seal of each block that is mapped
 pub saw_first : (words : Words) (entries : List (Option Entry)) (caches most : ℕ) (blocks : List OBlock) (first : Want) → ((block : OBlock) (c : ℕ) → place_of entries block.0 ≡ Some c → (c < caches) × Contains blocks block) →
-    Saw words entries (replicate caches false) (first ∷ (seal_looks blocks ++ Desk (BeginCommit true most) ∷ []))
+    Saw words entries (replicate caches false) (first ∷ (seal_looks blocks ++ Desk (BeginCommit most) ∷ []))
 saw_first words entries caches most blocks first all begins block c at =
     let has = all block c at in (
       subst (λ (k : ℕ). c < k) (sym (length-replicate caches false)) has.0,
-      inl (Contains-behind first (seal_looks blocks ++ Desk (BeginCommit true most) ∷ []) (Cell (Look (SealWord block))) (Contains-append_left (seal_looks blocks) (Desk (BeginCommit true most) ∷ []) (Cell (Look (SealWord block))) (looks_at blocks has.1))),
+      inl (Contains-behind first (seal_looks blocks ++ Desk (BeginCommit most) ∷ []) (Cell (Look (SealWord block))) (Contains-append_left (seal_looks blocks) (Desk (BeginCommit most) ∷ []) (Cell (Look (SealWord block))) (looks_at blocks has.1))),
     )
   where
     looks_at : (blocks : List OBlock) → Contains blocks block → Contains (seal_looks blocks) (Cell (Look (SealWord block)))
@@ -135,9 +135,9 @@ saw_first words entries caches most blocks first all begins block c at =
     looks_at (b ∷ bs) has = first_or b block bs _ has (λ same. subst (λ (v : OBlock). Contains (seal_looks (b ∷ bs)) (Cell (Look (SealWord v)))) (sym same) (Contains-first (Cell (Look (SealWord b))) (seal_looks bs))) (λ later. Contains-behind (Cell (Look (SealWord b))) (seal_looks bs) (Cell (Look (SealWord block))) (looks_at bs later))
 
 -- where nothing is left but to begin its commit it has seen all
-pub saw_all : (words : Words) (entries : List (Option Entry)) (seen : List Bool) (clean : Bool) (most : ℕ) (later : List Want) → later ≡ [] → Saw words entries seen (Desk (BeginCommit clean most) ∷ later) → AllSeen words entries seen
-saw_all words entries seen clean most later none saw block c at = elim (saw tt block c at).1 [
-  | inl looks ↦ first_or (Desk (BeginCommit clean most)) (Cell (Look (SealWord block))) later _ looks (λ same. absurd (cc)) (λ still. absurd (let l = subst (λ (ws : List Want). Contains ws (Cell (Look (SealWord block)))) none still in omega (arith, l.1)))
+pub saw_all : (words : Words) (entries : List (Option Entry)) (seen : List Bool) (most : ℕ) (later : List Want) → later ≡ [] → Saw words entries seen (Desk (BeginCommit most) ∷ later) → AllSeen words entries seen
+saw_all words entries seen most later none saw block c at = elim (saw tt block c at).1 [
+  | inl looks ↦ first_or (Desk (BeginCommit most)) (Cell (Look (SealWord block))) later _ looks (λ same. absurd (cc)) (λ still. absurd (let l = subst (λ (ws : List Want). Contains ws (Cell (Look (SealWord block)))) none still in omega (arith, l.1)))
   | inr is ↦ is
 ]
 

@@ -15,7 +15,7 @@ use Rattle.wb_devices.specs.declared.devices.Devices.{Devices}
 use Rattle.wb_devices.specs.declared.running.RunningCommit.{RunningCommit}
 use Rattle.wb_promise.specs.declared.job.Job.{Job}
 use Rattle.wb_promise.specs.States.{Shape, State, Actor, Target, Phase, Stands}
-use Rattle.wb_promise.specs.Effects.{actor_then, task_then, card_then, orders_then, awaiting_then, buffer_then, seen_then, job_of}
+use Rattle.wb_promise.specs.Effects.{actor_then, task_then, card_then, orders_then, awaiting_then, buffer_then, seen_then, share_by, job_of}
 use Rattle.wb_promise.specs.Clerk.{Notes, Doing, failing}
 use Rattle.wb_runs.proofs.Images.{Images, later_of}
 use Rattle.wb_runs.proofs.Metadata.{MetadataKept, AtDesk, kept_readable}
@@ -46,6 +46,7 @@ pub actor_is : (P A : Type 0) (shape : Shape) (phase : Phase P A) (devices : Dev
       awaiting = awaiting_then x.orders x.awaiting job next got;
       buffer = buffer_then devices x.buffer next got job;
       seen = seen_then x.seen next got job;
+      share = share_by phase x.share next got;
     }
 actor_is P A shape phase devices x job plan next got xt = λ i. record {
   task = task_then (xt i) next got;
@@ -54,6 +55,7 @@ actor_is P A shape phase devices x job plan next got xt = λ i. record {
   awaiting = awaiting_then x.orders x.awaiting (job_of (xt i)) next got;
   buffer = buffer_then devices x.buffer next got (job_of (xt i));
   seen = seen_then x.seen next got (job_of (xt i));
+  share = share_by phase x.share next got;
 }
 
 -- what failed of an actor's job says of it what it said

@@ -22,6 +22,7 @@ use Rattle.wb_tasks.specs.declared.step.Got.TheVariants.{Done}
 use Rattle.wb_promise.specs.declared.event.Event.TheVariants.{Step}
 use Rattle.wb_promise.specs.declared.event.What.{What}
 use Rattle.wb_promise.specs.declared.event.What.TheVariants.{Stepped}
+use Rattle.wb_stage.specs.declared.share.Share.TheVariants.{Nothing}
 use Rattle.wb_promise.specs.declared.job.Job.TheVariants.{Open}
 use Rattle.wb_promise.specs.States.{Actor, Gone, Opens, Shape, Stands, Target, resting}
 use Rattle.wb_promise.specs.Happenings.{Opened, Plain}
@@ -64,7 +65,7 @@ module _ (g : Geometry) (n : ℕ) (devices : Devices Memory) (o : Opener) (made 
 
   -- with nothing to do, and this card
   abbrev rested : Actor
-  rested = record { task = None; card = card; orders = []; awaiting = []; buffer = []; seen = [] }
+  rested = record { task = None; card = card; orders = []; awaiting = []; buffer = []; seen = []; share = Nothing }
 
   actors : IsMade g n o.asked made → with_cards made.members.items made.target.crew.cards ≡ slice_set (actors_of n (Underway o)) o.asked.actor rested
   actors is = ap (λ (ms : List Member). with_cards ms made.target.crew.cards) is.members_are ∙ ap (λ (cs : List Card). with_cards (replicate n free) cs) is.cards_are

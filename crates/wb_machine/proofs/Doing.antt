@@ -4,7 +4,6 @@ use Rattle.std.specs.declared.alloc.Global.{Global}
 use Rattle.wb_types.specs.declared.mode.Dev.{Dev}
 use Rattle.wb_types.specs.declared.mode.Dev.TheVariants.{Metadata, Cache, Origin}
 use Rattle.wb_types.specs.declared.extent.Extent.{Extent}
-use Rattle.wb_types.specs.declared.refusal.Refusal.{Refusal}
 use Rattle.wb_disk.specs.Device.{Content as Bytes, History, newest, synced}
 use Rattle.wb_disk.specs.Extents.{GivesEach, written_each, written_where}
 use Rattle.wb_disk.specs.Crash.{Choice}
@@ -18,7 +17,7 @@ use Rattle.wb_tree.specs.declared.image.Image.{Image}
 use Rattle.wb_meta.specs.declared.commit_steps.CommitSteps.{CommitSteps}
 use Rattle.wb_meta.specs.declared.commit_steps.CommitSteps.TheVariants.{NodesWritten, NodesSynced, RootWritten, Done as Committed}
 use Rattle.wb_types.specs.Limits.{node_count}
-use Rattle.wb_desk.specs.Commits.{HasBegun, IsBeginRefused, commit_begun}
+use Rattle.wb_desk.specs.Commits.{HasBegun}
 use Rattle.wb_desk.specs.Desks.{DeskState}
 use Rattle.wb_desk.specs.Entries.{MayUnmap, HasLeft, mapped, unmapped}
 use Rattle.wb_types.specs.declared.number.OBlock.{OBlock}
@@ -30,23 +29,26 @@ use Rattle.wb_tasks.specs.declared.step.Answer.TheVariants.{Done as Finished, Re
 use Rattle.wb_tasks.specs.declared.step.DeviceStep.{DeviceStep}
 use Rattle.wb_tasks.specs.declared.step.DeviceStep.TheVariants.{Read as ReadExtent, Write as WriteExtent, Sync, WriteNode, WriteRoot}
 use Rattle.wb_tasks.specs.declared.step.DeskStep.{DeskStep}
-use Rattle.wb_tasks.specs.declared.step.DeskStep.TheVariants.{Map, Unmap, ReleaseOrder, BeginCommit, EndCommit}
+use Rattle.wb_tasks.specs.declared.step.DeskStep.TheVariants.{Map, Unmap, ReleaseOrder, Arrive, Ask, BeginCommit, EndCommit, BreakCommit}
 use Rattle.wb_tasks.specs.declared.step.Want.TheVariants.{Cell, Device, Desk, End}
 use Rattle.wb_tasks.specs.declared.step.Got.{Got}
-use Rattle.wb_tasks.specs.declared.step.Got.TheVariants.{Done, Fault, Began, Refused as GotRefused}
+use Rattle.wb_tasks.specs.declared.step.Got.TheVariants.{Done, Fault, Began, Ticket, Served, Refused as GotRefused}
 use Rattle.wb_devices.specs.declared.devices.Devices.{Devices}
 use Rattle.wb_devices.specs.declared.running.RunningCommit.{RunningCommit}
 use Rattle.wb_devices.specs.Committing.{is_coming}
 use Rattle.wb_devices.specs.Moving.{device_in}
 use Rattle.wb_stage.specs.Asking.{DidMap, DidUnmap, ended, DidRelease}
-use Rattle.wb_stage.specs.Stages.{DidAsk, DidBeginWith, EndsWith, IsServed, is_all_done}
+use Rattle.wb_stage.specs.Sharing.{IsCovered, MayGoOn}
+use Rattle.wb_stage.specs.Stages.{DidArrive, DidAsk, DidAskWith, DidBeginWith, EndsWith, IsServed, is_all_done}
+use Rattle.wb_stage.specs.declared.share.Share.{Share}
 use Rattle.wb_promise.specs.declared.job.Job.{Job}
 use Rattle.wb_promise.specs.declared.job.Job.TheVariants.{Read, Write, Flush, Suspend, Open, Invalidate, Migrate, Replace}
 use Rattle.wb_promise.specs.States.{Shape, Actor, Stands, Target as RunTarget, with_device}
-use Rattle.wb_promise.specs.Happenings.{Plain, Commits, Asks, AreWhole, DoesSync, FailsSync, Gives}
+use Rattle.wb_promise.specs.Happenings.{Chosen, Plain, Commits, Asks, AreWhole, Awaits, DoesArrive, DoesAsk, DoesBegin, DoesSync, FailsSync, Gives}
 use Rattle.wb_promise.specs.Effects.{contents_for, led}
 use Rattle.wb_machine.specs.declared.target.Target.{Target}
-use Rattle.wb_machine.specs.Serving.{Allows, DidAskFor, IsAskable, ComesNext, DoesOn, FailsAt, IsDoable, IsPossible, IsPut, MayBePut, Performs, PutsSector, DeskWasAsked, WasPut, IsCopy, Migrates, Unmaps, chosen_at, commit_by, noted_read, over, stood, target_told, GivesUp, is_clean}
+use Rattle.wb_machine.specs.Life.{Now}
+use Rattle.wb_machine.specs.Serving.{Allows, DidAskFor, IsAskable, ComesNext, DoesOn, FailsAt, IsDoable, IsPossible, IsPut, MayBePut, Performs, PutsSector, DeskWasAsked, WasPut, IsCopy, Migrates, Unmaps, chosen_at, commit_by, noted_read, over, stood, target_told, GivesUp}
 use Rattle.wb_policy.specs.declared.order.Order.{Order}
 
 -- ---- devices
@@ -217,92 +219,153 @@ puts_sector image steps step b p e = absurd p
 
 -- ---- the desk
 
--- the dirty bits with which a commit begins for a job that has seen these
-abbrev bits_of : Job → List Bool → Option (List Bool)
-bits_of Suspend seen = Some seen
-bits_of job seen = None
+-- what is asked for otherwise than by the beginning of a suspend's commit is served
+pub served : (step : DeskStep) → ((most : ℕ) → step ≡ BeginCommit most → ⊥) → IsServed (Desk step)
+served (Map block place) n = tt
+served (Unmap block) n = tt
+served (ReleaseOrder block) n = tt
+served (Arrive most) n = tt
+served (Ask most) n = tt
+served (BeginCommit most) n = n most refl
+served EndCommit n = tt
+served BreakCommit n = tt
 
-no_bits : (job : Job) (seen : List Bool) → (job ≡ Suspend → ⊥) → bits_of job seen ≡ None
-no_bits (Read extent) seen n = refl
-no_bits (Write extent content) seen n = refl
-no_bits (Invalidate block) seen n = refl
-no_bits Flush seen n = refl
-no_bits Suspend seen n = absurd (n refl)
-no_bits (Open mode) seen n = refl
-no_bits (Migrate migration block) seen n = refl
-no_bits (Replace old new) seen n = refl
+-- who has not to wait goes on
+pub going : (desk : DeskState Quiet) (share : Share) (step : DeskStep) → (Awaits desk share (Desk step) → ⊥) → MayGoOn desk share step
+going desk share (Map block place) n = tt
+going desk share (Unmap block) n = tt
+going desk share (ReleaseOrder block) n = tt
+going desk share (Arrive most) n = tt
+going desk share (Ask most) n = n
+going desk share (BeginCommit most) n = tt
+going desk share EndCommit n = tt
+going desk share BreakCommit n = tt
 
--- no commit is clean that does not begin for a suspend
-not_clean : (job : Job) → (job ≡ Suspend → ⊥) → true ≡ is_clean job → ⊥
-not_clean (Read extent) n e = cc
-not_clean (Write extent content) n e = cc
-not_clean (Invalidate block) n e = cc
-not_clean Flush n e = cc
-not_clean Suspend n e = n refl
-not_clean (Open mode) n e = cc
-not_clean (Migrate migration block) n e = cc
-not_clean (Replace old new) n e = cc
+module _ (desk : DeskState Quiet) (commit : Option RunningCommit) (desk' : DeskState Quiet) (commit' : Option RunningCommit) (held : List Order) (seen : List Bool) (share : Share) where
+  -- one call of the desk that begins no suspend's commit
+  pub asked_plainly : (with_entry : Quiet → ℕ → ℕ → Quiet) (without_entry : Quiet → ℕ → Quiet) (step : DeskStep) (got : Got) → ((most : ℕ) → step ≡ BeginCommit most → ⊥) → DidAsk with_entry without_entry held step share got desk commit desk' commit' → DidAskFor held seen share step got desk commit desk' commit'
+  asked_plainly enters leaves (Map block place) got n did = (enters, leaves, did)
+  asked_plainly enters leaves (Unmap block) got n did = (enters, leaves, did)
+  asked_plainly enters leaves (ReleaseOrder block) got n did = (enters, leaves, did)
+  asked_plainly enters leaves (Arrive most) got n did = (enters, leaves, did)
+  asked_plainly enters leaves (Ask most) got n did = (enters, leaves, did)
+  asked_plainly enters leaves (BeginCommit most) got n did = absurd (n most refl)
+  asked_plainly enters leaves EndCommit got n did = (enters, leaves, did)
+  asked_plainly enters leaves BreakCommit got n did = (enters, leaves, did)
 
--- what any other job asks for is served without bits
-pub served : (commit : Option RunningCommit) (job : Job) (step : DeskStep) → (job ≡ Suspend → ⊥) → IsAskable commit job step → IsServed (Desk step)
-served commit job (BeginCommit true most) n askable = not_clean job n askable
-served commit job (BeginCommit false most) n askable = tt
-served commit job (Map block place) n askable = tt
-served commit job (Unmap block) n askable = tt
-served commit job (ReleaseOrder block) n askable = tt
-served commit job EndCommit n askable = tt
+  -- and one that does
+  pub suspend_begins : (step : DeskStep) (most : ℕ) (got : Got) → step ≡ BeginCommit most → DidBeginWith (λ policy block. 0) seen most got desk commit desk' commit' → DidAskFor held seen share step got desk commit desk' commit'
+  suspend_begins step most got e did = subst (λ (s : DeskStep). DidAskFor held seen share s got desk commit desk' commit') (sym e) (λ policy block. 0, did)
 
-module _ (desk : DeskState Quiet) (commit : Option RunningCommit) (desk' : DeskState Quiet) (commit' : Option RunningCommit) (held : List Order) (seen : List Bool) where
-  -- one call of the desk for any other job
-  pub asked_plainly : (with_entry : Quiet → ℕ → ℕ → Quiet) (without_entry : Quiet → ℕ → Quiet) (job : Job) (step : DeskStep) (got : Got) → (job ≡ Suspend → ⊥) → DidAsk with_entry without_entry held step got desk commit desk' commit' → DidAskFor job held seen step got desk commit desk' commit'
-  asked_plainly enters leaves (Read extent) step got n did = (enters, leaves, did)
-  asked_plainly enters leaves (Write extent content) step got n did = (enters, leaves, did)
-  asked_plainly enters leaves (Invalidate block) step got n did = (enters, leaves, did)
-  asked_plainly enters leaves Flush step got n did = (enters, leaves, did)
-  asked_plainly enters leaves Suspend step got n did = absurd (n refl)
-  asked_plainly enters leaves (Open mode) step got n did = (enters, leaves, did)
-  asked_plainly enters leaves (Migrate migration block) step got n did = (enters, leaves, did)
-  asked_plainly enters leaves (Replace old new) step got n did = (enters, leaves, did)
+  abbrev Asked : DeskStep → Job → Got → Type 0
+  Asked step job got = DeskWasAsked desk commit job held seen share step got desk' commit'
 
-  -- and for a suspend, whose commit begins or ends
-  pub suspend_begins : (step : DeskStep) (clean : Bool) (most : ℕ) (got : Got) → step ≡ BeginCommit clean most → DidBeginWith (λ policy block. 0) (Some seen) most got desk commit desk' commit' → DidAskFor Suspend held seen step got desk commit desk' commit'
-  suspend_begins step clean most got e did = subst (λ (s : DeskStep). DidAskFor Suspend held seen s got desk commit desk' commit') (sym e) (λ policy block. 0, did)
+  -- the image of a commit that has begun is whole
+  abbrev BeginsWhole : Got → Type 0
+  BeginsWhole got = (nodes : ℕ) (running : RunningCommit) → got ≡ Began nodes → commit' ≡ Some running → AreWhole running.image
 
-  pub suspend_ends : (with_entry : Quiet → ℕ → ℕ → Quiet) (without_entry : Quiet → ℕ → Quiet) (step : DeskStep) (got : Got) → step ≡ EndCommit → DidAsk with_entry without_entry held step got desk commit desk' commit' → DidAskFor Suspend held seen step got desk commit desk' commit'
-  suspend_ends enters leaves step got e did =
-      let at_end = subst (λ (s : DeskStep). DidAsk enters leaves held s got desk commit desk' commit') e did in
-      subst (λ (s : DeskStep). DidAskFor Suspend held seen s got desk commit desk' commit') (sym e) (enters, leaves, at_end)
+  -- what begins is so whatever desk it left
+  begins : (bits : Option (List Bool)) (most nodes : ℕ) (running : RunningCommit) → nodes ≤ most → running.steps ≡ NodesWritten 0 → nodes ≡ length running.image.nodes.items → (hint_of : Quiet → ℕ → ℕ) → HasBegun hint_of bits desk running.image desk' → AreWhole running.image
+      → DoesBegin {P = Quiet} {A = Global} bits most desk (Began nodes) (Commits running desk'.tree)
+  begins bits most nodes running few steps many hint_of begun whole =
+      (few, many, steps, (hint_of, subst (λ (d : DeskState Quiet). HasBegun hint_of bits desk running.image d) begun.state begun), whole)
 
-  did_begin : (job : Job) (clean : Bool) (most nodes : ℕ) (running : RunningCommit) → clean ≡ is_clean job → nodes ≤ most → nodes ≡ length running.image.nodes.items → running.steps ≡ NodesWritten 0 → (hint_of : Quiet → ℕ → ℕ) → HasBegun hint_of (bits_of job seen) desk running.image desk' → AreWhole running.image → commit' ≡ Some running →
-      DeskWasAsked desk commit job held seen (BeginCommit clean most) (Began nodes) desk' commit'
-  did_begin job clean most nodes running n few many steps hint_of begun whole c =
-      let same : HasBegun hint_of (bits_of job seen) desk running.image (commit_begun desk desk'.tree) = subst (λ (d : DeskState Quiet). HasBegun hint_of (bits_of job seen) desk running.image d) begun.state begun in
-      record { chosen = Commits running desk'.tree; gives = λ shape devices words actors x own. by_job job n same shape devices words actors x own.1; desk_is = begun.state; commit_is = c }
-    where
-      by_job : (job : Job) → clean ≡ is_clean job → HasBegun hint_of (bits_of job seen) desk running.image (commit_begun desk desk'.tree) → (shape : Shape) (devices : Devices (List History)) (words : Words) (actors : List Actor) (x : Actor) → x.seen ≡ seen → Gives shape (stood devices commit (record { words = words; desk = desk }) actors) x job (Desk (BeginCommit clean most)) (Began nodes) [] (Commits running desk'.tree)
-      by_job (Read extent) n h shape devices words actors x own = (refl, n, (few, many, steps, (hint_of, h), whole))
-      by_job (Write extent content) n h shape devices words actors x own = (refl, n, (few, many, steps, (hint_of, h), whole))
-      by_job (Invalidate block) n h shape devices words actors x own = (refl, n, (few, many, steps, (hint_of, h), whole))
-      by_job Flush n h shape devices words actors x own = (refl, n, (few, many, steps, (hint_of, h), whole))
-      by_job Suspend n h shape devices words actors x own = (refl, n, (few, many, steps, (hint_of, subst (λ (bits : List Bool). HasBegun hint_of (Some bits) desk running.image (commit_begun desk desk'.tree)) (sym own) h), whole))
-      by_job (Open mode) n h shape devices words actors x own = (refl, n, (few, many, steps, (hint_of, h), whole))
-      by_job (Migrate migration block) n h shape devices words actors x own = (refl, n, (few, many, steps, (hint_of, h), whole))
-      by_job (Replace old new) n h shape devices words actors x own = (refl, n, (few, many, steps, (hint_of, h), whole))
+  -- what is so of a step whoever takes it
+  module _ (shape : Shape) (devices : Devices (List History)) (words : Words) (actors : List Actor) (x : Actor) where
+    abbrev w : Now
+    w = stood devices commit (record { words = words; desk = desk }) actors
 
-  did_refuse : (job : Job) (clean : Bool) (most : ℕ) (refusal : Refusal) → clean ≡ is_clean job → IsBeginRefused desk refusal → desk' ≡ desk → commit' ≡ commit → DeskWasAsked desk commit job held seen (BeginCommit clean most) (GotRefused refusal) desk' commit'
-  did_refuse job clean most refusal n refused d c = record { chosen = Plain; gives = λ shape devices words actors x own. by_job job n shape devices words actors x; desk_is = d; commit_is = c }
-    where
-      by_job : (job : Job) → clean ≡ is_clean job → (shape : Shape) (devices : Devices (List History)) (words : Words) (actors : List Actor) (x : Actor) → Gives shape (stood devices commit (record { words = words; desk = desk }) actors) x job (Desk (BeginCommit clean most)) (GotRefused refusal) [] Plain
-      by_job (Read extent) n shape devices words actors x = (refl, n, refused)
-      by_job (Write extent content) n shape devices words actors x = (refl, n, refused)
-      by_job (Invalidate block) n shape devices words actors x = (refl, n, refused)
-      by_job Flush n shape devices words actors x = (refl, n, refused)
-      by_job Suspend n shape devices words actors x = (refl, n, refused)
-      by_job (Open mode) n shape devices words actors x = (refl, n, refused)
-      by_job (Migrate migration block) n shape devices words actors x = (refl, n, refused)
-      by_job (Replace old new) n shape devices words actors x = (refl, n, refused)
+    gives_arrival : (job : Job) (most : ℕ) (got : Got) (chosen : Chosen Quiet Global) → DoesArrive most desk got chosen → Gives shape w x job (Desk (Arrive most)) got [] chosen
+    gives_arrival (Read extent) most got chosen does = (refl, does)
+    gives_arrival (Write extent content) most got chosen does = (refl, does)
+    gives_arrival (Invalidate block) most got chosen does = (refl, does)
+    gives_arrival Flush most got chosen does = (refl, does)
+    gives_arrival Suspend most got chosen does = (refl, does)
+    gives_arrival (Open mode) most got chosen does = (refl, does)
+    gives_arrival (Migrate migration block) most got chosen does = (refl, does)
+    gives_arrival (Replace old new) most got chosen does = (refl, does)
 
-  did_end : (job : Job) → is_all_done commit ≡ true → desk' ≡ ended desk → commit' ≡ None → DeskWasAsked desk commit job held seen EndCommit Done desk' commit'
+    gives_asking : (job : Job) (most : ℕ) (got : Got) (chosen : Chosen Quiet Global) → DoesAsk x.share most desk got chosen → Gives shape w x job (Desk (Ask most)) got [] chosen
+    gives_asking (Read extent) most got chosen does = (refl, does)
+    gives_asking (Write extent content) most got chosen does = (refl, does)
+    gives_asking (Invalidate block) most got chosen does = (refl, does)
+    gives_asking Flush most got chosen does = (refl, does)
+    gives_asking Suspend most got chosen does = (refl, does)
+    gives_asking (Open mode) most got chosen does = (refl, does)
+    gives_asking (Migrate migration block) most got chosen does = (refl, does)
+    gives_asking (Replace old new) most got chosen does = (refl, does)
+
+    gives_beginning : (job : Job) (most : ℕ) (got : Got) (chosen : Chosen Quiet Global) → DoesBegin (Some x.seen) most desk got chosen → Gives shape w x job (Desk (BeginCommit most)) got [] chosen
+    gives_beginning (Read extent) most got chosen does = (refl, does)
+    gives_beginning (Write extent content) most got chosen does = (refl, does)
+    gives_beginning (Invalidate block) most got chosen does = (refl, does)
+    gives_beginning Flush most got chosen does = (refl, does)
+    gives_beginning Suspend most got chosen does = (refl, does)
+    gives_beginning (Open mode) most got chosen does = (refl, does)
+    gives_beginning (Migrate migration block) most got chosen does = (refl, does)
+    gives_beginning (Replace old new) most got chosen does = (refl, does)
+
+    gives_break : (job : Job) → Gives shape w x job (Desk BreakCommit) Done [] Plain
+    gives_break (Read extent) = ((refl, refl), refl, tt)
+    gives_break (Write extent content) = ((refl, refl), refl, tt)
+    gives_break (Invalidate block) = ((refl, refl), refl, tt)
+    gives_break Flush = ((refl, refl), refl, tt)
+    gives_break Suspend = ((refl, refl), refl, tt)
+    gives_break (Open mode) = ((refl, refl), refl, tt)
+    gives_break (Migrate migration block) = ((refl, refl), refl, tt)
+    gives_break (Replace old new) = ((refl, refl), refl, tt)
+
+  -- a flush arrives: it leads a commit, is refused one, or gets a ticket
+  did_arrive : (job : Job) (most : ℕ) (got : Got) → node_count desk.geometry.cache_blocks ≤ most → Fits (Desk (Arrive most)) got → BeginsWhole got → DidArrive most got desk commit desk' commit' → Asked (Arrive most) job got
+  did_arrive job most (Began nodes) enough fits whole did =
+      let does = begins None most nodes did.1.0 fits did.1.2 did.1.3 did.1.4.0 did.1.4.1 (whole nodes did.1.0 refl did.1.1) in
+      record { chosen = Commits did.1.0 desk'.tree; gives = λ shape devices words actors x own. gives_arrival shape devices words actors x job most (Began nodes) (Commits did.1.0 desk'.tree) (did.0, does); desk_is = did.1.4.1.state; commit_is = did.1.1 }
+  did_arrive job most (GotRefused refusal) enough fits whole did =
+      record { chosen = Plain; gives = λ shape devices words actors x own. gives_arrival shape devices words actors x job most (GotRefused refusal) Plain (did.2 enough); desk_is = did.1; commit_is = did.0 }
+  did_arrive job most Ticket enough fits whole did =
+      record { chosen = Plain; gives = λ shape devices words actors x own. gives_arrival shape devices words actors x job most Ticket Plain (did.0, did.1); desk_is = did.2; commit_is = did.3 }
+  did_arrive job most got enough fits whole did = absurd did
+
+  -- one with a ticket asks: it is served, leads a commit, or is refused one
+  did_ask_again : (job : Job) (most : ℕ) (got : Got) → node_count desk.geometry.cache_blocks ≤ most → Fits (Desk (Ask most)) got → BeginsWhole got → DidAskWith share most got desk commit desk' commit' → Asked (Ask most) job got
+  did_ask_again job most Served enough fits whole did = record {
+    chosen = Plain;
+    gives = λ shape devices words actors x own. gives_asking shape devices words actors x job most Served Plain (subst (λ (s : Share). IsCovered desk s) (sym own.2) did.0);
+    desk_is = did.1;
+    commit_is = did.2;
+  }
+  did_ask_again job most (Began nodes) enough fits whole did =
+      let does = begins None most nodes did.1.1.0 fits did.1.1.2 did.1.1.3 did.1.1.4.0 did.1.1.4.1 (whole nodes did.1.1.0 refl did.1.1.1) in
+      record {
+        chosen = Commits did.1.1.0 desk'.tree;
+        gives = λ shape devices words actors x own. gives_asking shape devices words actors x job most (Began nodes) (Commits did.1.1.0 desk'.tree) (subst (λ (s : Share). ¬ IsCovered desk s) (sym own.2) did.0, (did.1.0, does));
+        desk_is = did.1.1.4.1.state;
+        commit_is = did.1.1.1;
+      }
+  did_ask_again job most (GotRefused refusal) enough fits whole did = record {
+    chosen = Plain;
+    gives = λ shape devices words actors x own. gives_asking shape devices words actors x job most (GotRefused refusal) Plain (subst (λ (s : Share). ¬ IsCovered desk s) (sym own.2) (did.2 enough).0, (did.2 enough).1);
+    desk_is = did.1;
+    commit_is = did.0;
+  }
+  did_ask_again job most got enough fits whole did = absurd did
+
+  -- a suspend's commit begins, or is refused
+  did_begin : (job : Job) (most : ℕ) (got : Got) (hint_of : Quiet → ℕ → ℕ) → node_count desk.geometry.cache_blocks ≤ most → Fits (Desk (BeginCommit most)) got → BeginsWhole got → DidBeginWith hint_of seen most got desk commit desk' commit' → Asked (BeginCommit most) job got
+  did_begin job most (Began nodes) hint_of enough fits whole did =
+      let does = begins (Some seen) most nodes did.0 fits did.2 did.3 hint_of did.4 (whole nodes did.0 refl did.1) in
+      record {
+        chosen = Commits did.0 desk'.tree;
+        gives = λ shape devices words actors x own. gives_beginning shape devices words actors x job most (Began nodes) (Commits did.0 desk'.tree)
+            (subst (λ (bits : List Bool). DoesBegin {P = Quiet} {A = Global} (Some bits) most desk (Began nodes) (Commits did.0 desk'.tree)) (sym own.1) does);
+        desk_is = did.4.state;
+        commit_is = did.1;
+      }
+  did_begin job most (GotRefused refusal) hint_of enough fits whole did =
+      record { chosen = Plain; gives = λ shape devices words actors x own. gives_beginning shape devices words actors x job most (GotRefused refusal) Plain (did.1.1 enough); desk_is = did.1.0; commit_is = did.0 }
+  did_begin job most got hint_of enough fits whole did = absurd did
+
+  did_end : (job : Job) → is_all_done commit ≡ true → desk' ≡ ended desk → commit' ≡ None → DeskWasAsked desk commit job held seen share EndCommit Done desk' commit'
   did_end job done d c = record { chosen = Plain; gives = λ shape devices words actors x own. by_job shape devices words actors x job; desk_is = d; commit_is = c }
     where
       by_job : (shape : Shape) (devices : Devices (List History)) (words : Words) (actors : List Actor) (x : Actor) (job : Job) → Gives shape (stood devices commit (record { words = words; desk = desk }) actors) x job (Desk EndCommit) Done [] Plain
@@ -315,13 +378,13 @@ module _ (desk : DeskState Quiet) (commit : Option RunningCommit) (desk' : DeskS
       by_job shape devices words actors x (Migrate migration block) = ((refl, refl), refl, done)
       by_job shape devices words actors x (Replace old new) = ((refl, refl), refl, done)
 
-  ends : (job : Job) → is_all_done commit ≡ true → EndsWith (is_all_done commit) desk commit desk' commit' → DeskWasAsked desk commit job held seen EndCommit Done desk' commit'
+  ends : (job : Job) → is_all_done commit ≡ true → EndsWith (is_all_done commit) desk commit desk' commit' → DeskWasAsked desk commit job held seen share EndCommit Done desk' commit'
   ends job done did =
       let all : EndsWith true desk commit desk' commit' = subst (λ (t : Bool). EndsWith t desk commit desk' commit') done did in
       did_end job done all.0 all.1
 
   -- a migration's block is mapped, or there is no memory for that
-  did_map : (with_entry : Quiet → ℕ → ℕ → Quiet) (job : Job) (b : OBlock) (c : CBlock) (got : Got) → Migrates job → Fits (Desk (Map b c)) got → DidMap with_entry b c got desk desk' → commit' ≡ commit → DeskWasAsked desk commit job held seen (Map b c) got desk' commit'
+  did_map : (with_entry : Quiet → ℕ → ℕ → Quiet) (job : Job) (b : OBlock) (c : CBlock) (got : Got) → Migrates job → Fits (Desk (Map b c)) got → DidMap with_entry b c got desk desk' → commit' ≡ commit → DeskWasAsked desk commit job held seen share (Map b c) got desk' commit'
   did_map with_entry (Migrate migration block) b c Done m f did k = record {
     chosen = Asks desk';
     gives = λ shape devices words actors x own. (refl, (did.0, did.1.0, did.1.1 ∙ ap (λ (p : Quiet). mapped desk c desk'.tree p) (sym (ap (λ (d : DeskState Quiet). d.policy) did.1.1))));
@@ -334,7 +397,7 @@ module _ (desk : DeskState Quiet) (commit : Option RunningCommit) (desk' : DeskS
   did_map with_entry job b c got m f did k = absurd m
 
   -- a block is unmapped, where the desk has it and its order lets it go
-  did_unmap : (without_entry : Quiet → ℕ → Quiet) (job : Job) (b : OBlock) → Unmaps job → DidUnmap without_entry b desk desk' → commit' ≡ commit → DeskWasAsked desk commit job held seen (Unmap b) Done desk' commit'
+  did_unmap : (without_entry : Quiet → ℕ → Quiet) (job : Job) (b : OBlock) → Unmaps job → DidUnmap without_entry b desk desk' → commit' ≡ commit → DeskWasAsked desk commit job held seen share (Unmap b) Done desk' commit'
   did_unmap without_entry job b m did k = record { chosen = Asks desk'; gives = λ shape devices words actors x own. by_job job m shape devices words actors x; desk_is = refl; commit_is = k }
     where
       left : (may : MayUnmap desk b) → HasLeft without_entry desk b may.cache desk' → HasLeft (λ policy block. desk'.policy) desk b may.cache desk'
@@ -347,49 +410,29 @@ module _ (desk : DeskState Quiet) (commit : Option RunningCommit) (desk' : DeskS
       by_job job m shape devices words actors x = absurd m
 
   -- or an order of those that the job may give up is
-  did_release : (job : Job) (b : OBlock) → GivesUp job → DidRelease held b desk desk' → commit' ≡ commit → DeskWasAsked desk commit job held seen (ReleaseOrder b) Done desk' commit'
+  did_release : (job : Job) (b : OBlock) → GivesUp job → DidRelease held b desk desk' → commit' ≡ commit → DeskWasAsked desk commit job held seen share (ReleaseOrder b) Done desk' commit'
   did_release (Migrate migration block) b m up k = record { chosen = Asks desk'; gives = λ shape devices words actors x own. (refl, refl, subst (λ (os : List Order). DidRelease os b desk desk') (sym own.0) up); desk_is = refl; commit_is = k }
   did_release Flush b m up k = record { chosen = Asks desk'; gives = λ shape devices words actors x own. (refl, refl, subst (λ (os : List Order). DidRelease os b desk desk') (sym own.0) up); desk_is = refl; commit_is = k }
   did_release job b m up k = absurd m
 
   -- so it is with whatever the desk was asked
-  did_plainly : (with_entry : Quiet → ℕ → ℕ → Quiet) (without_entry : Quiet → ℕ → Quiet) (job : Job) (step : DeskStep) (got : Got) → (job ≡ Suspend → ⊥) → IsAskable commit job step → Allows (node_count desk.geometry.cache_blocks) (Desk step) → Fits (Desk step) got →
-      ((nodes : ℕ) (running : RunningCommit) → got ≡ Began nodes → commit' ≡ Some running → AreWhole running.image) → DidAsk with_entry without_entry held step got desk commit desk' commit' → DeskWasAsked desk commit job held seen step got desk' commit'
-  did_plainly enters leaves job (Map b c) got n askable enough fits whole did = did_map enters job b c got askable fits did.0 did.1
-  did_plainly enters leaves job (Unmap b) Done n askable enough fits whole did = did_unmap leaves job b askable did.0 did.1
-  did_plainly enters leaves job (ReleaseOrder b) Done n askable enough fits whole did = did_release job b askable did.0 did.1
-  did_plainly enters leaves job EndCommit Done n askable enough fits whole did = ends job askable did
-  did_plainly enters leaves job (BeginCommit clean most) (Began nodes) n askable enough fits whole did =
-      did_begin job clean most nodes did.0 askable fits did.3 did.2 did.4.0 (subst (λ (bits : Option (List Bool)). HasBegun did.4.0 bits desk did.0.image desk') (sym (no_bits job seen n)) did.4.1) (whole nodes did.0 refl did.1) did.1
-  did_plainly enters leaves job (BeginCommit clean most) (GotRefused refusal) n askable enough fits whole did = did_refuse job clean most refusal askable (did.1.1 enough) did.1.0 did.0
-  did_plainly enters leaves job step got n askable enough fits whole did = absurd fits
-
-  did_suspend : (step : DeskStep) (got : Got) → IsAskable commit Suspend step → Allows (node_count desk.geometry.cache_blocks) (Desk step) → Fits (Desk step) got →
-      ((nodes : ℕ) (running : RunningCommit) → got ≡ Began nodes → commit' ≡ Some running → AreWhole running.image) → DidAskFor Suspend held seen step got desk commit desk' commit' → DeskWasAsked desk commit Suspend held seen step got desk' commit'
-  did_suspend (BeginCommit clean most) (Began nodes) askable enough fits whole did = did_begin Suspend clean most nodes did.1.0 askable fits did.1.3 did.1.2 did.0 did.1.4 (whole nodes did.1.0 refl did.1.1) did.1.1
-  did_suspend (BeginCommit clean most) (GotRefused refusal) askable enough fits whole did = did_refuse Suspend clean most refusal askable (did.1.1.1 enough) did.1.1.0 did.1.0
-  did_suspend EndCommit Done askable enough fits whole did = ends Suspend askable did.2
-  did_suspend (Map b c) got askable enough fits whole did = absurd askable
-  did_suspend (Unmap b) got askable enough fits whole did = absurd askable
-  did_suspend (ReleaseOrder b) got askable enough fits whole did = absurd askable
-  did_suspend step got askable enough fits whole did = absurd fits
-
-  pub did_ask : (job : Job) (step : DeskStep) (got : Got) → IsAskable commit job step → Allows (node_count desk.geometry.cache_blocks) (Desk step) → Fits (Desk step) got →
-      ((nodes : ℕ) (running : RunningCommit) → got ≡ Began nodes → commit' ≡ Some running → AreWhole running.image) → DidAskFor job held seen step got desk commit desk' commit' → DeskWasAsked desk commit job held seen step got desk' commit'
-  did_ask (Read extent) step got askable enough fits whole did = did_plainly did.0 did.1 (Read extent) step got (λ e. cc) askable enough fits whole did.2
-  did_ask (Write extent content) step got askable enough fits whole did = did_plainly did.0 did.1 (Write extent content) step got (λ e. cc) askable enough fits whole did.2
-  did_ask (Invalidate block) step got askable enough fits whole did = did_plainly did.0 did.1 (Invalidate block) step got (λ e. cc) askable enough fits whole did.2
-  did_ask Flush step got askable enough fits whole did = did_plainly did.0 did.1 Flush step got (λ e. cc) askable enough fits whole did.2
-  did_ask Suspend step got askable enough fits whole did = did_suspend step got askable enough fits whole did
-  did_ask (Open mode) step got askable enough fits whole did = did_plainly did.0 did.1 (Open mode) step got (λ e. cc) askable enough fits whole did.2
-  did_ask (Migrate migration block) step got askable enough fits whole did = did_plainly did.0 did.1 (Migrate migration block) step got (λ e. cc) askable enough fits whole did.2
-  did_ask (Replace old new) step got askable enough fits whole did = did_plainly did.0 did.1 (Replace old new) step got (λ e. cc) askable enough fits whole did.2
+  pub did_ask : (job : Job) (step : DeskStep) (got : Got) → IsAskable commit job step → Allows desk.geometry.cache_blocks seen (Desk step) → Fits (Desk step) got → BeginsWhole got → DidAskFor held seen share step got desk commit desk' commit' → Asked step job got
+  did_ask job (Map b c) got askable enough fits whole did = did_map did.0 job b c got askable fits did.2.0 did.2.1
+  did_ask job (Unmap b) Done askable enough fits whole did = did_unmap did.1 job b askable did.2.0 did.2.1
+  did_ask job (ReleaseOrder b) Done askable enough fits whole did = did_release job b askable did.2.0 did.2.1
+  did_ask job (Arrive most) got askable enough fits whole did = did_arrive job most got enough fits whole did.2
+  did_ask job (Ask most) got askable enough fits whole did = did_ask_again job most got enough fits whole did.2
+  did_ask job (BeginCommit most) got askable enough fits whole did = did_begin job most got did.0 enough.0 fits whole did.1
+  did_ask job EndCommit Done askable enough fits whole did = ends job askable did.2
+  did_ask job BreakCommit Done askable enough fits whole did =
+      record { chosen = Plain; gives = λ shape devices words actors x own. gives_break shape devices words actors x job; desk_is = did.2.0; commit_is = did.2.1 }
+  did_ask job step got askable enough fits whole did = absurd fits
 
 -- ---- an actor
 
-module _ (devices : Devices (List History)) (old : Target) (a : ℕ) (held : List Order) (seen : List Bool) (buffer : List Bytes) (devices' : Devices (List History)) (new : Target) where
+module _ (devices : Devices (List History)) (old : Target) (a : ℕ) (held : List Order) (seen : List Bool) (share : Share) (buffer : List Bytes) (devices' : Devices (List History)) (new : Target) where
   pub performs_word : (job : Job) (step : CellStep) (got : Got) (read : List Bytes) → got ≡ got_of (result_of old.crew.words step) → read ≡ [] → devices' ≡ devices → new.crew ≡ crew_after old.crew a step → new.desk ≡ old.desk → new.commit ≡ old.commit → new.failed ≡ flag new.crew.words.fail →
-      Performs devices old a job held seen buffer (Cell step) got read devices' new
+      Performs devices old a job held seen share buffer (Cell step) got read devices' new
   performs_word job step got read g r d w k c f = record { chosen = Plain; gives = λ shape actors x own. by_job shape actors x job; copies = no_copy job; leads = record { devices_are = d; crew_is = w; desk_is = k; commit_is = c; failed_is = f } }
     where
       no_copy : (job : Job) → IsCopy devices job (Cell step) read
@@ -412,7 +455,7 @@ module _ (devices : Devices (List History)) (old : Target) (a : ℕ) (held : Lis
       by_job shape actors x (Migrate migration block) = ((r, refl), g)
       by_job shape actors x (Replace old new) = ((r, refl), g)
 
-  pub performs_end : (job : Job) (answer : Answer) (read : List Bytes) → IsPossible devices old.commit job (End answer) → read ≡ [] → devices' ≡ devices → new ≡ old → old.failed ≡ flag old.crew.words.fail → Performs devices old a job held seen buffer (End answer) Done read devices' new
+  pub performs_end : (job : Job) (answer : Answer) (read : List Bytes) → IsPossible devices old.commit job (End answer) → read ≡ [] → devices' ≡ devices → new ≡ old → old.failed ≡ flag old.crew.words.fail → Performs devices old a job held seen share buffer (End answer) Done read devices' new
   performs_end job answer read can r d n f = rw n (record { chosen = Plain; gives = λ shape actors x own. by_job shape actors x job answer can; copies = no_copy job; leads = record { devices_are = d; crew_is = refl; desk_is = refl; commit_is = refl; failed_is = f } })
     where
       no_copy : (job : Job) → IsCopy devices job (End answer) read
@@ -436,7 +479,7 @@ module _ (devices : Devices (List History)) (old : Target) (a : ℕ) (held : Lis
       by_job shape actors x (Open mode) Finished can = absurd (can tt)
       by_job shape actors x (Open mode) (Refuses refusal) can = ((r, refl), refl)
 
-  pub performs_device : (job : Job) (step : DeviceStep) (read : List Bytes) (commit' : Option RunningCommit) → DoesOn devices old.commit job buffer step read devices' commit' → new ≡ record old { commit = commit' } → old.failed ≡ flag old.crew.words.fail → Performs devices old a job held seen buffer (Device step) Done read devices' new
+  pub performs_device : (job : Job) (step : DeviceStep) (read : List Bytes) (commit' : Option RunningCommit) → DoesOn devices old.commit job buffer step read devices' commit' → new ≡ record old { commit = commit' } → old.failed ≡ flag old.crew.words.fail → Performs devices old a job held seen share buffer (Device step) Done read devices' new
   performs_device job step read commit' does n f = rw n (record {
     chosen = chosen_at step devices';
     gives = λ shape actors x own. does.gives shape (target_told old) actors x;
@@ -444,8 +487,8 @@ module _ (devices : Devices (List History)) (old : Target) (a : ℕ) (held : Lis
     leads = record { devices_are = does.devices_are; crew_is = refl; desk_is = refl; commit_is = does.commit_is; failed_is = f };
   })
 
-  pub performs_desk : (job : Job) (step : DeskStep) (got : Got) (read : List Bytes) (desk' : DeskState Quiet) (commit' : Option RunningCommit) → DeskWasAsked old.desk old.commit job held seen step got desk' commit' → read ≡ [] → devices' ≡ devices →
-      new.crew ≡ old.crew → new.failed ≡ old.failed → new.desk ≡ desk' → new.commit ≡ commit' → old.failed ≡ flag old.crew.words.fail → Performs devices old a job held seen buffer (Desk step) got read devices' new
+  pub performs_desk : (job : Job) (step : DeskStep) (got : Got) (read : List Bytes) (desk' : DeskState Quiet) (commit' : Option RunningCommit) → DeskWasAsked old.desk old.commit job held seen share step got desk' commit' → read ≡ [] → devices' ≡ devices →
+      new.crew ≡ old.crew → new.failed ≡ old.failed → new.desk ≡ desk' → new.commit ≡ commit' → old.failed ≡ flag old.crew.words.fail → Performs devices old a job held seen share buffer (Desk step) got read devices' new
   performs_desk job step got read desk' commit' asked r d w b k c f = rw r (record {
     chosen = asked.chosen;
     gives = λ shape actors x own. subst (λ (none : List Bytes). Gives shape (over devices old actors) x job (Desk step) got none asked.chosen) (nothing job) (asked.gives shape devices old.crew.words actors x own);

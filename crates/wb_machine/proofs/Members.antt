@@ -5,6 +5,7 @@ use Rattle.std.proofs.lemmas.Bool.{cases_Bool, or_cases}
 use Rattle.wb_words.specs.declared.card.Card.{Card}
 use Rattle.wb_words.specs.Cards.{blank_card}
 use Rattle.wb_tasks.specs.Plan.{Plan}
+use Rattle.wb_stage.specs.declared.share.Share.TheVariants.{Nothing}
 use Rattle.wb_promise.specs.declared.job.Job.{Job}
 use Rattle.wb_promise.specs.declared.job.Job.TheVariants.{Read, Write, Flush, Suspend, Open, Invalidate, Migrate, Replace}
 use Rattle.wb_promise.specs.States.{Actor, resting}
@@ -53,9 +54,9 @@ set_task (n ∷ ms) (d ∷ cs) zero m = refl
 set_task (n ∷ ms) (d ∷ cs) (suc a) m = ap (λ xs. seat n d ∷ xs) (set_task ms cs a m)
 
 -- where nobody is at anything, one with this card rests beside others that have none
-pub all_free : (n a : ℕ) (card : Card) → seated (replicate n free) (slice_set (replicate n blank_card) a card) ≡ slice_set (replicate n resting) a (record { task = None; card = card; orders = []; awaiting = []; buffer = []; seen = [] })
+pub all_free : (n a : ℕ) (card : Card) → seated (replicate n free) (slice_set (replicate n blank_card) a card) ≡ slice_set (replicate n resting) a (record { task = None; card = card; orders = []; awaiting = []; buffer = []; seen = []; share = Nothing })
 all_free zero a card = refl
-all_free (suc n) zero card = ap (λ xs. record { task = None; card = card; orders = []; awaiting = []; buffer = []; seen = [] } ∷ xs) (none_set n)
+all_free (suc n) zero card = ap (λ xs. record { task = None; card = card; orders = []; awaiting = []; buffer = []; seen = []; share = Nothing } ∷ xs) (none_set n)
   where
     none_set : (k : ℕ) → seated (replicate k free) (replicate k blank_card) ≡ replicate k resting
     none_set zero = refl

@@ -71,7 +71,7 @@ refused_busy shape desk m (Open mode) desk' m' e t = absurd (cc)
 
 -- who has this task then
 abbrev pub tasked : Member → Job → Plan → Member
-tasked m job plan = record { task = Some (job, plan); orders = m.orders; awaiting = m.awaiting; buffer = m.buffer; seen = m.seen }
+tasked m job plan = record { task = Some (job, plan); orders = m.orders; awaiting = m.awaiting; buffer = m.buffer; seen = m.seen; share = m.share }
 
 -- the task of a job that starts over this desk, by who has these orders
 abbrev pub begins : Shape → DeskState Quiet → Member → Job → Plan

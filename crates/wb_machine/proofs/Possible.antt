@@ -13,7 +13,7 @@ use Rattle.wb_tasks.specs.declared.step.Answer.TheVariants.{Done as Finished, Re
 use Rattle.wb_tasks.specs.declared.step.DeviceStep.{DeviceStep}
 use Rattle.wb_tasks.specs.declared.step.DeviceStep.TheVariants.{Read as ReadExtent, Write as WriteExtent, Sync, ReadMetadata, WriteNode, WriteRoot}
 use Rattle.wb_tasks.specs.declared.step.DeskStep.{DeskStep}
-use Rattle.wb_tasks.specs.declared.step.DeskStep.TheVariants.{Map, Unmap, ReleaseOrder, BeginCommit, EndCommit}
+use Rattle.wb_tasks.specs.declared.step.DeskStep.TheVariants.{Map, Unmap, ReleaseOrder, Arrive, Ask, BeginCommit, EndCommit, BreakCommit}
 use Rattle.wb_tasks.specs.declared.step.Want.{Want}
 use Rattle.wb_tasks.specs.declared.step.Want.TheVariants.{Cell, Device, Desk, End}
 use Rattle.wb_tasks.specs.declared.step.Got.{Got}
@@ -23,7 +23,7 @@ use Rattle.wb_devices.specs.Moving.{device_in}
 use Rattle.wb_promise.specs.declared.job.Job.{Job}
 use Rattle.wb_promise.specs.declared.job.Job.TheVariants.{Read, Write, Flush, Suspend, Open, Invalidate, Migrate, Replace}
 use Rattle.wb_promise.specs.States.{Shape, Actor, Stands, Target as RunTarget}
-use Rattle.wb_promise.specs.Happenings.{Chosen, Puts, Opened, OfSome, DoesOpen, DoesPut, DoesSync, Gives}
+use Rattle.wb_promise.specs.Happenings.{Awaits, Chosen, Puts, Opened, OfSome, DoesOpen, DoesPut, DoesSync, Gives}
 use Rattle.wb_runs.specs.Holding.{AreUsedRightly}
 use Rattle.wb_runs.specs.Progress.{IsFree}
 use Rattle.wb_machine.specs.declared.phase.Phase.{Phase}
@@ -127,14 +127,10 @@ module _ (shape : Shape) (devices : Devices (List History)) (commit : Option Run
   reads_metadata (Replace old new) left g = g.2
 
   asks : (job : Job) (step : DeskStep) → G job (Desk step) → IsAskable commit job step
-  asks (Read extent) (BeginCommit clean most) g = g.1
-  asks (Write extent content) (BeginCommit clean most) g = g.1
-  asks (Invalidate block) (BeginCommit clean most) g = g.1
-  asks Flush (BeginCommit clean most) g = g.1
-  asks Suspend (BeginCommit clean most) g = g.1
-  asks (Open mode) (BeginCommit clean most) g = g.1
-  asks (Migrate migration block) (BeginCommit clean most) g = g.1
-  asks (Replace old new) (BeginCommit clean most) g = g.1
+  asks job (Arrive most) g = tt
+  asks job (Ask most) g = tt
+  asks job (BeginCommit most) g = tt
+  asks job BreakCommit g = tt
   asks (Read extent) EndCommit g = g.2
   asks (Write extent content) EndCommit g = g.2
   asks (Invalidate block) EndCommit g = g.2
@@ -193,11 +189,19 @@ has_task actors a x doing P at e p = subst (λ (o : Option Actor). OfSome o (λ 
 module _ (shape : Shape) (devices : Devices (List History)) (commit : Option RunningCommit) (t : RunTarget Quiet) (actors : List Actor) (free_so : IsFree shape (stood devices commit t actors)) where
   can_step : (a : ℕ) (x : Actor) → slice_get actors a ≡ Some x → (task : Option (Job × Plan)) → x.task ≡ task → CanStep devices commit task
   can_step a x at None e = tt
-  can_step a x at (Some doing) e =
-      let something = free_so.steps a (has_task actors a x doing (λ y d. Unit {0}) at e tt) in
-      let does = the_task actors a x doing (λ y job plan. (something.next ≡ want plan) × Gives shape (stood devices commit t actors) y job something.next something.got something.read something.chosen) at e something.may in
-      possible shape devices commit t actors x something.got something.read something.chosen doing.0 (want doing.1)
-      (subst (λ (next : Want). Gives shape (stood devices commit t actors) x doing.0 next something.got something.read something.chosen) does.0 does.1)
+  can_step a x at (Some doing) e = by_next (want doing.1) refl
+    where
+      goes_on : (Awaits t.desk x.share (want doing.1) → ⊥) → IsPossible devices commit doing.0 (want doing.1)
+      goes_on n =
+          let something = free_so.steps a (has_task actors a x doing (λ y d. Unit {0}) at e tt) (λ waits. n (the_task actors a x doing (λ y job plan. Awaits t.desk y.share (want plan)) at e waits)) in
+          let does = the_task actors a x doing (λ y job plan. (something.next ≡ want plan) × Gives shape (stood devices commit t actors) y job something.next something.got something.read something.chosen) at e something.may in
+          possible shape devices commit t actors x something.got something.read something.chosen doing.0 (want doing.1)
+          (subst (λ (next : Want). Gives shape (stood devices commit t actors) x doing.0 next something.got something.read something.chosen) does.0 does.1)
+
+      -- who asks with a ticket can do so once it has not to wait
+      by_next : (next : Want) → want doing.1 ≡ next → IsPossible devices commit doing.0 (want doing.1)
+      by_next (Desk (Ask most)) n = subst (λ (next : Want). IsPossible devices commit doing.0 next) (sym n) tt
+      by_next next n = goes_on (λ waits. subst (λ (w : Want). Awaits t.desk x.share w) n waits)
 
   pub all_can : AllCan devices commit actors
   all_can = λ a x at. can_step a x at x.task refl

@@ -21,12 +21,12 @@ use Rattle.wb_policy.specs.Situations.{is_passthrough}
 use Rattle.wb_policy.specs.declared.quiet.Quiet.{Quiet}
 use Rattle.wb_desk.specs.Commits.{commit_ended}
 use Rattle.wb_desk.specs.Desks.{DeskState}
-use Rattle.wb_tasks.specs.Tables.{TaskJob}
+use Rattle.wb_tasks.specs.Tables.{TaskJob, OnBlock, Flushing, Suspending, Opening}
 use Rattle.wb_tasks.specs.Plan.{Plan, after, want}
 use Rattle.wb_tasks.proofs.Readiness.{job_stays}
 use Rattle.wb_tasks.specs.declared.step.DeviceStep.{DeviceStep}
 use Rattle.wb_tasks.specs.declared.step.DeviceStep.TheVariants.{Read as ReadExtent, Write as WriteExtent, Sync, ReadMetadata, WriteNode, WriteRoot}
-use Rattle.wb_tasks.specs.declared.step.DeskStep.TheVariants.{Map, Unmap, ReleaseOrder, BeginCommit, EndCommit}
+use Rattle.wb_tasks.specs.declared.step.DeskStep.TheVariants.{Map, Unmap, ReleaseOrder, Arrive, Ask, BeginCommit, EndCommit, BreakCommit}
 use Rattle.wb_tasks.specs.declared.step.Want.{Want}
 use Rattle.wb_tasks.specs.declared.step.Want.TheVariants.{Cell, Device, Desk, End}
 use Rattle.wb_tasks.specs.declared.step.Got.{Got}
@@ -39,17 +39,18 @@ use Rattle.wb_promise.specs.declared.event.Event.TheVariants.{Start, Step, Fault
 use Rattle.wb_promise.specs.declared.event.What.{What}
 use Rattle.wb_promise.specs.declared.event.What.TheVariants.{Skipped, Refused, Started, Stepped, Stopped}
 use Rattle.wb_promise.specs.States.{Shape, Actor, Stands, Phase, Target as RunTarget}
-use Rattle.wb_promise.specs.Happenings.{Chosen, Plain, Cut, Orders, Looks, Begins, Reaches, Puts, Commits, Asks, Opened, OfSome, DoesNotApply, DoesMap, DoesRelease, DoesUnmap, Gives, Falters, IsSuspending, MayFailAt, StartGives, StartsAs}
-use Rattle.wb_promise.specs.Effects.{after_what, asked_desk, begun_desk, card_then, commit_then, desk_then, devices_then, given, job_of, phase_given, seen_then, task_then, went, words_then}
+use Rattle.wb_promise.specs.Happenings.{Chosen, Plain, Cut, Orders, Looks, Begins, Reaches, Puts, Commits, Asks, Opened, OfSome, Awaits, DoesNotApply, DoesMap, DoesRelease, DoesUnmap, Gives, Falters, IsSuspending, MayFailAt, StartGives, StartsAs}
+use Rattle.wb_promise.specs.Effects.{actor_then, after_what, asked_desk, begun_desk, commit_then, desk_then, devices_then, given, job_of, phase_given, seen_then, task_then, went, words_then}
 use Rattle.wb_runs.proofs.Desks.{is_live, is_unmappable}
 use Rattle.wb_machine.specs.declared.target.Target.{Target}
 use Rattle.wb_machine.specs.Life.{Now, Happens, starts_beside, suits_mode, wants_target}
-use Rattle.wb_machine.specs.Members.{HasBitsSeen, Member, free, seat, with_cards}
-use Rattle.wb_machine.specs.Serving.{member_given, MemberFails, FailsOrRests, GetsJob, IsPassed, Leads, LeavesStarted, NothingFails, Starts, StartsIf, Steps, MemberSteps, chosen_at, commit_by, crew_then, desk_given, done_by, failed_by, member_then, noted_read, over, stood, target_told}
+use Rattle.wb_machine.specs.Members.{Member, free, seat, with_cards}
+use Rattle.wb_machine.specs.Serving.{member_given, MemberFails, FailsOrRests, GetsJob, IsPassed, Leads, LeavesStarted, NothingFails, Rests, Starts, StartsIf, Steps, MemberSteps, chosen_at, commit_by, crew_then, desk_given, done_by, failed_by, member_then, noted_read, over, share_after, stood, target_told}
 use Rattle.wb_machine.specs.Standing.{AllRoomy, AllowsImages, IsTaskRoomy, IsRoomy}
 use Rattle.wb_machine.proofs.Members.{seat_at, set_both, set_task, somebody}
 use Rattle.wb_machine.proofs.Openings.{length_replicate, passes}
 use Rattle.wb_machine.proofs.Possible.{has_task, the_task}
+use Rattle.wb_stage.specs.declared.share.Share.{Share}
 use Rattle.wb_stage.specs.Asking.{IsGivenUp, order_of}
 use Rattle.wb_stage.specs.Seen.{seen_after, seen_at}
 use Rattle.wb_contents.proofs.Lists.{set_same}
@@ -247,12 +248,19 @@ module _ (shape : Shape) (devices : Devices (List History)) (t : Target) (member
   commit_on (Desk (Map block place)) got chosen = refl
   commit_on (Desk (Unmap block)) got chosen = refl
   commit_on (Desk (ReleaseOrder block)) got chosen = refl
-  commit_on (Desk (BeginCommit clean most)) got chosen = refl
+  commit_on (Desk (Arrive most)) got chosen = refl
+  commit_on (Desk (Ask most)) got chosen = refl
+  commit_on (Desk (BeginCommit most)) got chosen = refl
   commit_on (Desk EndCommit) got chosen = refl
+  commit_on (Desk BreakCommit) got chosen = refl
   commit_on (End answer) got chosen = refl
 
-  cards_on : (next : Want) (got : Got) → new ≡ member_then devices m next got →
-      with_cards (slice_set members a new) (crew_then t.crew a next).cards ≡ slice_set actors a (seat (member_then devices m next got) (card_then shape before.phase x.card next))
+  -- who has gone on by a step
+  abbrev seat_after : Want → Got → Actor
+  seat_after next got = actor_then shape before.phase devices x next got
+
+  cards_on : (next : Want) (got : Got) → new ≡ member_then devices (share_after t.desk m.share next got) m next got →
+      with_cards (slice_set members a new) (crew_then t.crew a next).cards ≡ slice_set actors a (seat_after next got)
   cards_on (Cell step) got e = set_both members t.crew.cards a new (card_after t.crew.words step x.card) ∙ ap (λ (v : Member). slice_set actors a (seat v (card_after t.crew.words step x.card))) e
   cards_on (Device step) got e = set_task members t.crew.cards a new ∙ ap (λ (v : Member). slice_set actors a (seat v x.card)) e
   cards_on (Desk step) got e = set_task members t.crew.cards a new ∙ ap (λ (v : Member). slice_set actors a (seat v x.card)) e
@@ -260,7 +268,7 @@ module _ (shape : Shape) (devices : Devices (List History)) (t : Target) (member
 
   -- where it leads, whatever it made of its device
   went_on : (doing : Job × Plan) (next : Want) (got : Got) (chosen : Chosen Quiet Global) (change : Job → List Bytes → DeviceStep → List History → List History) (devices' : Devices (List History)) (t' : Target) → m.task ≡ Some doing →
-      Leads (change doing.0 m.buffer) devices t a next got chosen devices' t' → new ≡ member_then devices m next got → over devices' t' (with_cards (slice_set members a new) t'.crew.cards) ≡ went shape before a next got chosen change
+      Leads (change doing.0 m.buffer) devices t a next got chosen devices' t' → new ≡ member_then devices (share_after t.desk m.share next got) m next got → over devices' t' (with_cards (slice_set members a new) t'.crew.cards) ≡ went shape before a next got chosen change
   went_on doing next got chosen change devices' t' e l is =
       let job : doing.0 ≡ job_of m.task = ap job_of (sym e) in
       rw (at, l.devices_are ∙ ap (λ (j : Job). devices_then (change j m.buffer) devices next) job, l.crew_is, l.desk_is, l.commit_is) (λ i. record {
@@ -274,11 +282,15 @@ module _ (shape : Shape) (devices : Devices (List History)) (t : Target) (member
       Happens shape before (Step a) what read (over devices' t' (with_cards (slice_set members a new) t'.crew.cards))
   step_happens what read devices' t' s = by_task m.task refl s
     where
+      rests : Rests devices t m what read devices' t' new → DoesNotApply before (Step a) → Happens shape before (Step a) what read (over devices' t' (with_cards (slice_set members a new) t'.crew.cards))
+      rests s d = rw (s.devices_are, s.target_is, s.read_is, stays s.member_is) (passes shape before (Step a) what d s.what_is)
+
       by_task : (o : Option (Job × Plan)) → m.task ≡ o → MemberSteps devices t a m o what read devices' t' new → Happens shape before (Step a) what read (over devices' t' (with_cards (slice_set members a new) t'.crew.cards))
-      by_task None e s = rw (s.devices_are, s.target_is, s.read_is, stays s.member_is) (passes shape before (Step a) what (λ h. idles e (λ d. Unit {0}) h) s.what_is)
-      by_task (Some doing) e s = rw (s.what_is, s.read_is) (record {
+      by_task None e s = rests s (inl (λ h. idles e (λ d. Unit {0}) h))
+      by_task (Some doing) e (inl s) = rests s.1 (inr (works_at doing e (λ y job plan. Awaits t.desk y.share (want plan)) s.0))
+      by_task (Some doing) e (inr s) = rw (s.what_is, s.read_is) (record {
         chosen = s.performs.chosen;
-        may = works_at doing e (λ y job plan. (want doing.1 ≡ want plan) × Gives shape before y job (want doing.1) s.got (noted_read doing.0 (want doing.1) s.given) s.performs.chosen) (refl, s.performs.gives shape actors x (refl, refl));
+        may = works_at doing e (λ y job plan. (want doing.1 ≡ want plan) × Gives shape before y job (want doing.1) s.got (noted_read doing.0 (want doing.1) s.given) s.performs.chosen) (refl, s.performs.gives shape actors x (refl, refl, refl));
         leads = went_on doing (want doing.1) s.got s.performs.chosen (λ job buffer. done_by job buffer s.performs.chosen) devices' t' e s.performs.leads s.member_is;
       })
 
@@ -300,7 +312,7 @@ module _ (shape : Shape) (devices : Devices (List History)) (t : Target) (member
         chosen = chosen_at f.step devices';
         may = (refl, refl, works_at doing e (λ y job plan. (Device f.step ≡ want plan) × MayFailAt devices choice (Device f.step) × Falters before choice (Device f.step) (chosen_at f.step devices')) (sym f.step_is, f.may, f.fails.falters (target_told t) actors));
         leads = went_on doing (Device f.step) Fault (chosen_at f.step devices') (λ job buffer. failed_by choice job buffer (chosen_at f.step devices')) devices' (record t { commit = commit' }) e
-            (record { devices_are = f.fails.devices_are; crew_is = refl; desk_is = refl; commit_is = f.fails.commit_is; failed_is = failed }) (f.member_is ∙ ap (λ next. member_then devices m next Fault) f.step_is);
+            (record { devices_are = f.fails.devices_are; crew_is = refl; desk_is = refl; commit_is = f.fails.commit_is; failed_is = failed }) (f.member_is ∙ ap (λ next. member_then devices m.share m next Fault) f.step_is);
       })
       by_task (Some doing) e (inr f) = nothing f.0 (λ h. f.1 (the_task actors a x doing (λ y job plan. MayFailAt devices choice (want plan)) at e h))
 
@@ -373,7 +385,10 @@ module _ (shape : Shape) (devices : Devices (List History)) (commit : Option Run
   desk_sizes Flush (Desk (ReleaseOrder b)) g = release_sizes t.desk actor.awaiting b chosen g.2
   desk_sizes (Open mode) (Desk (ReleaseOrder b)) g = absurd g
   desk_sizes (Replace old new) (Desk (ReleaseOrder b)) g = absurd g
-  desk_sizes job (Desk (BeginCommit clean most)) g = begun_sizes t.desk chosen
+  desk_sizes job (Desk (Arrive most)) g = begun_sizes t.desk chosen
+  desk_sizes job (Desk (Ask most)) g = begun_sizes t.desk chosen
+  desk_sizes job (Desk (BeginCommit most)) g = begun_sizes t.desk chosen
+  desk_sizes job (Desk BreakCommit) g = refl
   desk_sizes job (Desk EndCommit) g = ended_sizes t.desk t.desk.space.committing
   desk_sizes job (End answer) g = refl
 
@@ -390,9 +405,13 @@ step_keeps devices t a m what read devices' t' m' f s = by_task m.task s
     some_shape : Shape
     some_shape = record { geometry = t.desk.geometry; threshold = 0; actors = 0 }
 
+    rests : Rests devices t m what read devices' t' m' → Keeps t t'
+    rests s = rw s.target_is (record { blocks = refl; cards = refl; failed = f; sizes = refl })
+
     by_task : (o : Option (Job × Plan)) → MemberSteps devices t a m o what read devices' t' m' → Keeps t t'
-    by_task None s = rw s.target_is (record { blocks = refl; cards = refl; failed = f; sizes = refl })
-    by_task (Some doing) s =
+    by_task None s = rests s
+    by_task (Some doing) (inl s) = rests s.1
+    by_task (Some doing) (inr s) =
         let leads = s.performs.leads in
         let like = crew_like t.crew a (want doing.1) in
         record {
@@ -400,7 +419,7 @@ step_keeps devices t a m what read devices' t' m' f s = by_task m.task s
           cards = ap (λ (c : CrewState). length c.cards) leads.crew_is ∙ like.1;
           failed = leads.failed_is;
           sizes = ap (λ (d : DeskState Quiet). d.geometry) leads.desk_is
-              ∙ desk_sizes some_shape devices t.commit (target_told t) [] (seat m blank_card) s.got (noted_read doing.0 (want doing.1) s.given) s.performs.chosen doing.0 (want doing.1) (s.performs.gives some_shape [] (seat m blank_card) (refl, refl));
+              ∙ desk_sizes some_shape devices t.commit (target_told t) [] (seat m blank_card) s.got (noted_read doing.0 (want doing.1) s.given) s.performs.chosen doing.0 (want doing.1) (s.performs.gives some_shape [] (seat m blank_card) (refl, refl, refl));
         }
 
 -- a start keeps the desk's geometry
@@ -446,15 +465,6 @@ start_sizes shape desk m job what desk' m' s = by_test (is_none m.task) s
 
 -- ---- who commits allows as many nodes as an image may have, and who suspends has a bit for each cache block
 
-allowed_then : (nodes : ℕ) (doing : Job × Plan) (got : Got) → AllowsImages nodes doing.1.job → AllowsImages nodes (after doing.1 got).job
-allowed_then nodes doing got r = subst (λ (job : TaskJob). AllowsImages nodes job) (sym (job_stays doing.1 got)) r
-
-room_then : (cache_blocks : ℕ) (seen : List Bool) (doing : Job × Plan) (next : Want) (got : Got) → IsTaskRoomy cache_blocks seen (Some doing) → IsTaskRoomy cache_blocks seen (task_then (Some doing) next got)
-room_then cache_blocks seen doing (Cell step) got r = (allowed_then (node_count cache_blocks) doing got r.0, r.1)
-room_then cache_blocks seen doing (Device step) got r = (allowed_then (node_count cache_blocks) doing got r.0, r.1)
-room_then cache_blocks seen doing (Desk step) got r = (allowed_then (node_count cache_blocks) doing got r.0, r.1)
-room_then cache_blocks seen doing (End answer) got r = tt
-
 -- as many bits are there whatever was seen
 as_many_at : (place : Option CBlock) (dirty : Bool) (seen : List Bool) → length (seen_at place dirty seen) ≡ length seen
 as_many_at None dirty seen = refl
@@ -464,50 +474,66 @@ as_many_seen : (next : Want) (got : Got) (seen : List Bool) → length (seen_aft
 as_many_seen (Cell (Look (SealWord block))) (Word seal) seen = as_many_at (place_in seal) (dirty_in seal) seen
 as_many_seen next got seen = refl
 
-bits_then : (cache_blocks : ℕ) (seen : List Bool) (next : Want) (got : Got) (job : Job) → HasBitsSeen cache_blocks seen job → HasBitsSeen cache_blocks (seen_then seen next got job) job
-bits_then cache_blocks seen next got (Read extent) h = tt
-bits_then cache_blocks seen next got (Write extent content) h = tt
-bits_then cache_blocks seen next got (Invalidate block) h = tt
-bits_then cache_blocks seen next got Flush h = tt
-bits_then cache_blocks seen next got Suspend h = as_many_seen next got seen ∙ h
-bits_then cache_blocks seen next got (Open mode) h = tt
-bits_then cache_blocks seen next got (Migrate migration block) h = tt
-bits_then cache_blocks seen next got (Replace old new) h = tt
+bits_then : (next : Want) (got : Got) (seen : List Bool) (job : Job) → length (seen_then seen next got job) ≡ length seen
+bits_then next got seen (Read extent) = refl
+bits_then next got seen (Write extent content) = refl
+bits_then next got seen (Invalidate block) = refl
+bits_then next got seen Flush = refl
+bits_then next got seen Suspend = as_many_seen next got seen
+bits_then next got seen (Open mode) = refl
+bits_then next got seen (Migrate migration block) = refl
+bits_then next got seen (Replace old new) = refl
+
+allowed_by : (cache_blocks : ℕ) (seen seen' : List Bool) (job : TaskJob) → length seen' ≡ length seen → AllowsImages cache_blocks seen job → AllowsImages cache_blocks seen' job
+allowed_by cache_blocks seen seen' (OnBlock job) e r = tt
+allowed_by cache_blocks seen seen' (Flushing serves most) e r = r
+allowed_by cache_blocks seen seen' (Suspending looks most) e r = (r.0, e ∙ r.1)
+allowed_by cache_blocks seen seen' (Opening left) e r = tt
+
+allowed_then : (cache_blocks : ℕ) (seen seen' : List Bool) (doing : Job × Plan) (got : Got) → length seen' ≡ length seen → AllowsImages cache_blocks seen doing.1.job → AllowsImages cache_blocks seen' (after doing.1 got).job
+allowed_then cache_blocks seen seen' doing got e r = subst (λ (job : TaskJob). AllowsImages cache_blocks seen' job) (sym (job_stays doing.1 got)) (allowed_by cache_blocks seen seen' doing.1.job e r)
+
+room_then : (cache_blocks : ℕ) (seen seen' : List Bool) (doing : Job × Plan) (next : Want) (got : Got) → length seen' ≡ length seen → IsTaskRoomy cache_blocks seen (Some doing) → IsTaskRoomy cache_blocks seen' (task_then (Some doing) next got)
+room_then cache_blocks seen seen' doing (Cell step) got e r = allowed_then cache_blocks seen seen' doing got e r
+room_then cache_blocks seen seen' doing (Device step) got e r = allowed_then cache_blocks seen seen' doing got e r
+room_then cache_blocks seen seen' doing (Desk step) got e r = allowed_then cache_blocks seen seen' doing got e r
+room_then cache_blocks seen seen' doing (End answer) got e r = tt
 
 -- so it is after a step of who is at a task
-roomy_then : (cache_blocks : ℕ) (devices : Devices (List History)) (m : Member) (doing : Job × Plan) (next : Want) (got : Got) → m.task ≡ Some doing → IsRoomy cache_blocks m → IsRoomy cache_blocks (member_then devices m next got)
-roomy_then cache_blocks devices m doing next got e r =
+roomy_then : (cache_blocks : ℕ) (devices : Devices (List History)) (share : Share) (m : Member) (doing : Job × Plan) (next : Want) (got : Got) → m.task ≡ Some doing → IsRoomy cache_blocks m → IsRoomy cache_blocks (member_then devices share m next got)
+roomy_then cache_blocks devices share m doing next got e r =
     let was = subst (λ (k : Option (Job × Plan)). IsTaskRoomy cache_blocks m.seen k) e r in
     subst (λ (k : Option (Job × Plan)). IsTaskRoomy cache_blocks (seen_then m.seen next got (job_of k)) (task_then k next got)) (sym e)
-    (room_then cache_blocks (seen_then m.seen next got doing.0) doing next got (was.0, bits_then cache_blocks m.seen next got doing.0 was.1))
+    (room_then cache_blocks m.seen (seen_then m.seen next got doing.0) doing next got (bits_then next got m.seen doing.0) was)
 
 pub step_roomy : (cache_blocks : ℕ) (devices : Devices (List History)) (t : Target) (a : ℕ) (m : Member) (what : What) (read : List Bytes) (devices' : Devices (List History)) (t' : Target) (m' : Member) → IsRoomy cache_blocks m → Steps devices t a m what read devices' t' m' → IsRoomy cache_blocks m'
 step_roomy cache_blocks devices t a m what read devices' t' m' r s = by_task m.task refl s
   where
     by_task : (o : Option (Job × Plan)) → m.task ≡ o → MemberSteps devices t a m o what read devices' t' m' → IsRoomy cache_blocks m'
     by_task None e s = subst (λ (v : Member). IsRoomy cache_blocks v) (sym s.member_is) r
-    by_task (Some doing) e s = subst (λ (v : Member). IsRoomy cache_blocks v) (sym s.member_is) (roomy_then cache_blocks devices m doing (want doing.1) s.got e r)
+    by_task (Some doing) e (inl s) = subst (λ (v : Member). IsRoomy cache_blocks v) (sym s.1.member_is) r
+    by_task (Some doing) e (inr s) = subst (λ (v : Member). IsRoomy cache_blocks v) (sym s.member_is) (roomy_then cache_blocks devices (share_after t.desk m.share (want doing.1) s.got) m doing (want doing.1) s.got e r)
 
 pub fault_roomy : (cache_blocks : ℕ) (choice : Choice) (devices : Devices (List History)) (commit : Option RunningCommit) (m : Member) (what : What) (devices' : Devices (List History)) (commit' : Option RunningCommit) (m' : Member) → IsRoomy cache_blocks m → FailsOrRests choice devices commit m what devices' commit' m' → IsRoomy cache_blocks m'
 fault_roomy cache_blocks choice devices commit m what devices' commit' m' r f = by_task m.task refl f
   where
     by_task : (o : Option (Job × Plan)) → m.task ≡ o → MemberFails choice devices commit m o what devices' commit' m' → IsRoomy cache_blocks m'
     by_task None e f = subst (λ (v : Member). IsRoomy cache_blocks v) (sym f.member_is) r
-    by_task (Some doing) e (inl f) = subst (λ (v : Member). IsRoomy cache_blocks v) (sym f.member_is) (roomy_then cache_blocks devices m doing (want doing.1) Fault e r)
+    by_task (Some doing) e (inl f) = subst (λ (v : Member). IsRoomy cache_blocks v) (sym f.member_is) (roomy_then cache_blocks devices m.share m doing (want doing.1) Fault e r)
     by_task (Some doing) e (inr f) = subst (λ (v : Member). IsRoomy cache_blocks v) (sym f.0.member_is) r
 
 no_more : (n : ℕ) → n ≤ n
 no_more n = omega arith
 
 pub given_roomy : (shape : Shape) (mode : Mode) (m : Member) (job : Job) (chosen : Chosen Quiet Global) → IsRoomy shape.geometry.cache_blocks (member_given shape mode m job chosen)
-given_roomy shape mode m (Read extent) chosen = (tt, tt)
-given_roomy shape mode m (Write extent content) chosen = (tt, tt)
-given_roomy shape mode m (Invalidate block) chosen = (tt, tt)
-given_roomy shape mode m Flush chosen = (no_more (node_count shape.geometry.cache_blocks), tt)
+given_roomy shape mode m (Read extent) chosen = tt
+given_roomy shape mode m (Write extent content) chosen = tt
+given_roomy shape mode m (Invalidate block) chosen = tt
+given_roomy shape mode m Flush chosen = no_more (node_count shape.geometry.cache_blocks)
 given_roomy shape mode m Suspend chosen = (no_more (node_count shape.geometry.cache_blocks), length_replicate shape.geometry.cache_blocks false)
-given_roomy shape mode m (Open opened_in) chosen = (tt, tt)
-given_roomy shape mode m (Migrate migration block) chosen = (tt, tt)
-given_roomy shape mode m (Replace old new) chosen = (tt, tt)
+given_roomy shape mode m (Open opened_in) chosen = tt
+given_roomy shape mode m (Migrate migration block) chosen = tt
+given_roomy shape mode m (Replace old new) chosen = tt
 
 pub start_roomy : (shape : Shape) (desk : DeskState Quiet) (m : Member) (job : Job) (what : What) (desk' : DeskState Quiet) (m' : Member) → IsRoomy shape.geometry.cache_blocks m → Starts shape desk m job what desk' m' → IsRoomy shape.geometry.cache_blocks m'
 start_roomy shape desk m job what desk' m' r s = by_test (is_none m.task) s

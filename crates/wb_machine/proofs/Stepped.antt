@@ -1,5 +1,5 @@
 -- What a member is after a step on its job, by the parts that the step changes.
-use Rattle.std.proofs.Common.{◌≡◌, ◌∙◌, ℕ, Bool, true, false, List, [], Option, Some, None, refl, sym, ap, subst, ◌≢◌, Vec, arith}
+use Rattle.std.proofs.Common.{◌≡◌, ◌∙◌, inr, ℕ, Bool, true, false, List, [], Option, Some, None, refl, sym, ap, subst, ◌≢◌, Vec, arith}
 use Rattle.wb_disk.specs.Device.{Content as Bytes, History}
 use Rattle.wb_devices.specs.declared.devices.Devices.{Devices}
 use Rattle.wb_policy.specs.declared.order.Order.{Order}
@@ -9,11 +9,12 @@ use Rattle.wb_tasks.specs.Tables.{BlockJob, Reading, Writing, Displacing, Invali
 use Rattle.wb_tasks.proofs.Readiness.{is_own_step}
 use Rattle.wb_words.specs.declared.card.Card.{Card}
 use Rattle.wb_tasks.specs.declared.step.DeviceStep.TheVariants.{Read as ReadExtent}
-use Rattle.wb_tasks.specs.declared.step.DeskStep.TheVariants.{Map, Unmap, ReleaseOrder, BeginCommit, EndCommit}
+use Rattle.wb_tasks.specs.declared.step.DeskStep.TheVariants.{Map, Unmap, ReleaseOrder, Arrive, Ask, BeginCommit, EndCommit, BreakCommit}
 use Rattle.wb_tasks.specs.declared.step.Want.{Want}
 use Rattle.wb_tasks.specs.declared.step.Want.TheVariants.{Cell, Device, Desk, End}
 use Rattle.wb_tasks.specs.declared.step.Got.{Got}
 use Rattle.wb_tasks.specs.declared.step.Got.TheVariants.{Done}
+use Rattle.wb_stage.specs.declared.share.Share.{Share}
 use Rattle.wb_promise.specs.declared.job.Job.{Job}
 use Rattle.wb_promise.specs.declared.job.Job.TheVariants.{Migrate}
 use Rattle.wb_promise.specs.declared.event.What.TheVariants.{Stepped}
@@ -22,7 +23,7 @@ use Rattle.wb_machine.specs.declared.target.Target.{Target}
 use Rattle.wb_machine.specs.declared.machine.TheConstants.{ACTORS}
 use Rattle.wb_machine.specs.Life.{shape_of}
 use Rattle.wb_machine.specs.Members.{Member}
-use Rattle.wb_machine.specs.Serving.{Allows, Performs, Steps, MemberSteps, is_copied, member_then, noted_read, may_give_up}
+use Rattle.wb_machine.specs.Serving.{Allows, Performs, Steps, MemberSteps, is_copied, member_then, noted_read, may_give_up, share_after}
 use Rattle.std.specs.declared.alloc.Global.{Global}
 use Rattle.wb_words.specs.Cards.{blank_card}
 use Rattle.wb_tasks.specs.declared.step.Answer.TheVariants.{Done as Finished}
@@ -69,11 +70,11 @@ module _ (m : Member) (orders awaiting : List Order) (seen : orders ≡ m.orders
       (subst (λ (x : List Order). IsLeftBy got x left new) b f)
 
   -- and it took its step with them, and with what was in its buffer
-  pub performs_so : (devices : Devices (List History)) (old : Target) (a : ℕ) (held : List Order) (seen : List Bool) (buffer given : List Bytes) (devices' : Devices (List History)) (new : Target) → held ≡ may_give_up job orders awaiting → seen ≡ m.seen → buffer ≡ m.buffer →
-      Performs devices old a job held seen buffer next got given devices' new → Performs devices old a job (may_give_up job m.orders m.awaiting) m.seen m.buffer next got given devices' new
-  performs_so devices old a held bits buffer given devices' new h s b p =
-      subst (λ (x : List Order). Performs devices old a job x m.seen m.buffer next got given devices' new) (h ∙ ap (λ (x : List Order). may_give_up job x awaiting) seen ∙ ap (λ (x : List Order). may_give_up job m.orders x) waiting)
-      (subst (λ (x : List Bool). Performs devices old a job held x m.buffer next got given devices' new) s (subst (λ (x : List Bytes). Performs devices old a job held bits x next got given devices' new) b p))
+  pub performs_so : (devices : Devices (List History)) (old : Target) (a : ℕ) (held : List Order) (seen : List Bool) (share : Share) (buffer given : List Bytes) (devices' : Devices (List History)) (new : Target) → held ≡ may_give_up job orders awaiting → seen ≡ m.seen → share ≡ m.share → buffer ≡ m.buffer →
+      Performs devices old a job held seen share buffer next got given devices' new → Performs devices old a job (may_give_up job m.orders m.awaiting) m.seen m.share m.buffer next got given devices' new
+  performs_so devices old a held bits share buffer given devices' new h s r b p =
+      subst (λ (x : List Order). Performs devices old a job x m.seen m.share m.buffer next got given devices' new) (h ∙ ap (λ (x : List Order). may_give_up job x awaiting) seen ∙ ap (λ (x : List Order). may_give_up job m.orders x) waiting)
+      (subst (λ (x : List Bool). Performs devices old a job held x m.share m.buffer next got given devices' new) s (subst (λ (x : Share). Performs devices old a job held bits x m.buffer next got given devices' new) r (subst (λ (x : List Bytes). Performs devices old a job held bits share x next got given devices' new) b p)))
 
 -- what it writes next where it read nothing
 pub buffer_stays : (devices : Devices (List History)) (buffer : List Bytes) (next : Want) (got : Got) (job : Job) → is_copied job next ≡ false → buffer_then devices buffer next got job ≡ buffer
@@ -81,57 +82,80 @@ buffer_stays devices buffer (Device (ReadExtent device e)) Done (Migrate migrati
 buffer_stays devices buffer next got job c = refl
 
 -- and where it read it
-pub buffer_read : (devices : Devices (List History)) (old : Target) (a : ℕ) (job : Job) (held : List Order) (seen : List Bool) (buffer : List Bytes) (next : Want) (got : Got) (given : List Bytes) (devices' : Devices (List History)) (new : Target) →
-    is_copied job next ≡ true → Performs devices old a job held seen buffer next got given devices' new → buffer_then devices buffer next got job ≡ given
-buffer_read devices old a (Migrate migration block) held seen buffer (Device (ReadExtent device e)) got given devices' new c p =
-    let done : got ≡ Done = (p.gives (shape_of old.desk.geometry ACTORS) [] (record { task = None; card = blank_card; orders = held; awaiting = held; buffer = []; seen = seen }) (refl, refl)).2 in
+pub buffer_read : (devices : Devices (List History)) (old : Target) (a : ℕ) (job : Job) (held : List Order) (seen : List Bool) (share : Share) (buffer : List Bytes) (next : Want) (got : Got) (given : List Bytes) (devices' : Devices (List History)) (new : Target) →
+    is_copied job next ≡ true → Performs devices old a job held seen share buffer next got given devices' new → buffer_then devices buffer next got job ≡ given
+buffer_read devices old a (Migrate migration block) held seen share buffer (Device (ReadExtent device e)) got given devices' new c p =
+    let done : got ≡ Done = (p.gives (shape_of old.desk.geometry ACTORS) [] (record { task = None; card = blank_card; orders = held; awaiting = held; buffer = []; seen = seen; share = share }) (refl, refl, refl)).2 in
     ap (λ (g : Got). buffer_then devices buffer (Device (ReadExtent device e)) g (Migrate migration block)) done ∙ sym p.copies
-buffer_read devices old a job held seen buffer next got given devices' new c p = absurd (cc)
+buffer_read devices old a job held seen share buffer next got given devices' new c p = absurd (cc)
 
 module _ (devices : Devices (List History)) (old : Target) (a : ℕ) (m : Member) (job : Job) (plan : Plan) (got : Got) (given : List Bytes) (devices' : Devices (List History)) (new : Target) (m' : Member) where
-  pub steps_at : (next : Want) → next ≡ want plan → m.task ≡ Some (job, plan) → Performs devices old a job (may_give_up job m.orders m.awaiting) m.seen m.buffer next got given devices' new → (read : List Bytes) → read ≡ noted_read job next given →
-      m'.task ≡ task_then m.task next got → m'.orders ≡ orders_then m.orders m.awaiting job next got → m'.awaiting ≡ awaiting_then m.orders m.awaiting job next got → m'.buffer ≡ buffer_then devices m.buffer next got job → m'.seen ≡ seen_then m.seen next got job → Steps devices old a m (Stepped next got) read devices' new m'
-  steps_at next n e p read r t o w b s = subst (λ (d : Option (Job × Plan)). MemberSteps devices old a m d (Stepped next got) read devices' new m') (sym e) (record {
+  pub steps_at : (next : Want) → next ≡ want plan → m.task ≡ Some (job, plan) → Performs devices old a job (may_give_up job m.orders m.awaiting) m.seen m.share m.buffer next got given devices' new → (read : List Bytes) → read ≡ noted_read job next given →
+      m'.task ≡ task_then m.task next got → m'.orders ≡ orders_then m.orders m.awaiting job next got → m'.awaiting ≡ awaiting_then m.orders m.awaiting job next got → m'.buffer ≡ buffer_then devices m.buffer next got job → m'.seen ≡ seen_then m.seen next got job → m'.share ≡ share_after old.desk m.share next got → Steps devices old a m (Stepped next got) read devices' new m'
+  steps_at next n e p read r t o w b s h = subst (λ (d : Option (Job × Plan)). MemberSteps devices old a m d (Stepped next got) read devices' new m') (sym e) (inr (record {
     got = got;
     given = given;
     what_is = ap (λ (x : Want). Stepped x got) n;
     read_is = r ∙ ap (λ (x : Want). noted_read job x given) n;
-    performs = subst (λ (x : Want). Performs devices old a job (may_give_up job m.orders m.awaiting) m.seen m.buffer x got given devices' new) n p;
-    member_is = same_member ∙ ap (λ (x : Want). member_then devices m x got) n;
-  })
+    performs = subst (λ (x : Want). Performs devices old a job (may_give_up job m.orders m.awaiting) m.seen m.share m.buffer x got given devices' new) n p;
+    member_is = same_member ∙ ap (λ (x : Want). member_then devices (share_after old.desk m.share x got) m x got) n;
+  }))
     where
-      of_parts : (x : Member) (task : Option (Job × Plan)) (orders awaiting : List Order) (buffer : List Bytes) (seen : List Bool) → x.task ≡ task → x.orders ≡ orders → x.awaiting ≡ awaiting → x.buffer ≡ buffer → x.seen ≡ seen → x ≡ record { task = task; orders = orders; awaiting = awaiting; buffer = buffer; seen = seen }
-      of_parts x task orders awaiting buffer seen t o w b s = rw (sym t, sym o, sym w, sym b, sym s) refl
+      of_parts : (x : Member) (task : Option (Job × Plan)) (orders awaiting : List Order) (buffer : List Bytes) (seen : List Bool) (share : Share) → x.task ≡ task → x.orders ≡ orders → x.awaiting ≡ awaiting → x.buffer ≡ buffer → x.seen ≡ seen → x.share ≡ share → x ≡ record { task = task; orders = orders; awaiting = awaiting; buffer = buffer; seen = seen; share = share }
+      of_parts x task orders awaiting buffer seen share t o w b s h = rw (sym t, sym o, sym w, sym b, sym s, sym h) refl
 
       job_is : job ≡ job_of m.task
       job_is = ap job_of (sym e)
 
-      same_member : m' ≡ member_then devices m next got
-      same_member = of_parts m' (task_then m.task next got) (orders_then m.orders m.awaiting (job_of m.task) next got) (awaiting_then m.orders m.awaiting (job_of m.task) next got) (buffer_then devices m.buffer next got (job_of m.task)) (seen_then m.seen next got (job_of m.task)) t
-          (o ∙ ap (λ (j : Job). orders_then m.orders m.awaiting j next got) job_is) (w ∙ ap (λ (j : Job). awaiting_then m.orders m.awaiting j next got) job_is) (b ∙ ap (λ (j : Job). buffer_then devices m.buffer next got j) job_is) (s ∙ ap (λ (j : Job). seen_then m.seen next got j) job_is)
+      same_member : m' ≡ member_then devices (share_after old.desk m.share next got) m next got
+      same_member = of_parts m' (task_then m.task next got) (orders_then m.orders m.awaiting (job_of m.task) next got) (awaiting_then m.orders m.awaiting (job_of m.task) next got) (buffer_then devices m.buffer next got (job_of m.task)) (seen_then m.seen next got (job_of m.task)) (share_after old.desk m.share next got) t
+          (o ∙ ap (λ (j : Job). orders_then m.orders m.awaiting j next got) job_is) (w ∙ ap (λ (j : Job). awaiting_then m.orders m.awaiting j next got) job_is) (b ∙ ap (λ (j : Job). buffer_then devices m.buffer next got j) job_is) (s ∙ ap (λ (j : Job). seen_then m.seen next got j) job_is) h
 
 -- ---- what a step of a task asks for
 
-no_commit : (job : BlockJob) (clean : Bool) (most : ℕ) → IsAsked job (BeginCommit clean most) → ⊥
-no_commit (Reading part) clean most asked = asked
-no_commit (Writing part) clean most asked = asked
-no_commit (Displacing part) clean most asked = asked
-no_commit (Invalidating part) clean most asked = asked
-no_commit (Migrating migration part) clean most asked = asked
-
-allows_next : (nodes : ℕ) (job : TaskJob) (next : Want) → IsOwnStep job next → AllowsImages nodes job → Allows nodes next
-allows_next nodes job (Cell step) own a = tt
-allows_next nodes job (Device step) own a = tt
-allows_next nodes job (Desk (Map block place)) own a = tt
-allows_next nodes job (Desk (Unmap block)) own a = tt
-allows_next nodes job (Desk (ReleaseOrder block)) own a = tt
-allows_next nodes job (Desk EndCommit) own a = tt
-allows_next nodes job (End answer) own a = tt
-allows_next nodes (OnBlock job) (Desk (BeginCommit clean most)) own a = absurd (no_commit job clean most own)
-allows_next nodes (Flushing serves bound) (Desk (BeginCommit clean most)) own a = omega (arith, own.1, a)
-allows_next nodes (Suspending blocks bound) (Desk (BeginCommit clean most)) own a = omega (arith, own.1, a)
-allows_next nodes (Opening left) (Desk (BeginCommit clean most)) own a = absurd own
+allows_next : (cache_blocks : ℕ) (seen : List Bool) (job : TaskJob) (next : Want) → IsOwnStep job next → AllowsImages cache_blocks seen job → Allows cache_blocks seen next
+allows_next cache_blocks seen job (Cell step) own a = tt
+allows_next cache_blocks seen job (Device step) own a = tt
+allows_next cache_blocks seen job (Desk (Map block place)) own a = tt
+allows_next cache_blocks seen job (Desk (Unmap block)) own a = tt
+allows_next cache_blocks seen job (Desk (ReleaseOrder block)) own a = tt
+allows_next cache_blocks seen job (Desk EndCommit) own a = tt
+allows_next cache_blocks seen job (Desk BreakCommit) own a = tt
+allows_next cache_blocks seen job (End answer) own a = tt
+allows_next cache_blocks seen (OnBlock job) (Desk (Arrive most)) own a = absurd (no_arrival job most own)
+  where
+    no_arrival : (job : BlockJob) (most : ℕ) → IsAsked job (Arrive most) → ⊥
+    no_arrival (Reading part) most asked = asked
+    no_arrival (Writing part) most asked = asked
+    no_arrival (Displacing part) most asked = asked
+    no_arrival (Invalidating part) most asked = asked
+    no_arrival (Migrating migration part) most asked = asked
+allows_next cache_blocks seen (OnBlock job) (Desk (Ask most)) own a = absurd (no_asking job most own)
+  where
+    no_asking : (job : BlockJob) (most : ℕ) → IsAsked job (Ask most) → ⊥
+    no_asking (Reading part) most asked = asked
+    no_asking (Writing part) most asked = asked
+    no_asking (Displacing part) most asked = asked
+    no_asking (Invalidating part) most asked = asked
+    no_asking (Migrating migration part) most asked = asked
+allows_next cache_blocks seen (OnBlock job) (Desk (BeginCommit most)) own a = absurd (no_commit job most own)
+  where
+    no_commit : (job : BlockJob) (most : ℕ) → IsAsked job (BeginCommit most) → ⊥
+    no_commit (Reading part) most asked = asked
+    no_commit (Writing part) most asked = asked
+    no_commit (Displacing part) most asked = asked
+    no_commit (Invalidating part) most asked = asked
+    no_commit (Migrating migration part) most asked = asked
+allows_next cache_blocks seen (Flushing serves bound) (Desk (Arrive most)) own a = omega (arith, own, a)
+allows_next cache_blocks seen (Flushing serves bound) (Desk (Ask most)) own a = omega (arith, own, a)
+allows_next cache_blocks seen (Flushing serves bound) (Desk (BeginCommit most)) own a = absurd own
+allows_next cache_blocks seen (Suspending blocks bound) (Desk (Arrive most)) own a = absurd own
+allows_next cache_blocks seen (Suspending blocks bound) (Desk (Ask most)) own a = absurd own
+allows_next cache_blocks seen (Suspending blocks bound) (Desk (BeginCommit most)) own a = let enough = a.0 in (omega (arith, own, enough), a.1)
+allows_next cache_blocks seen (Opening left) (Desk (Arrive most)) own a = absurd own
+allows_next cache_blocks seen (Opening left) (Desk (Ask most)) own a = absurd own
+allows_next cache_blocks seen (Opening left) (Desk (BeginCommit most)) own a = absurd own
 
 -- who commits asks for as many nodes as its job allows
-pub allows : (blocks nodes : ℕ) (plan : Plan) (card : Card) → Suits blocks plan card → AllowsImages nodes plan.job → Allows nodes (want plan)
-allows blocks nodes plan card suits a = allows_next nodes plan.job (want plan) (is_own_step blocks plan card suits) a
+pub allows : (blocks cache_blocks : ℕ) (seen : List Bool) (plan : Plan) (card : Card) → Suits blocks plan card → AllowsImages cache_blocks seen plan.job → Allows cache_blocks seen (want plan)
+allows blocks cache_blocks seen plan card suits a = allows_next cache_blocks seen plan.job (want plan) (is_own_step blocks plan card suits) a

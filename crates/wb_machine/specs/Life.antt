@@ -29,6 +29,7 @@ use Rattle.wb_tasks.specs.declared.step.DeviceStep.TheVariants.{Sync, ReadMetada
 use Rattle.wb_tasks.specs.declared.step.Want.{Want}
 use Rattle.wb_tasks.specs.declared.step.Want.TheVariants.{Device, End}
 use Rattle.wb_tasks.specs.declared.step.Answer.TheVariants.{Done as Finished}
+use Rattle.wb_stage.specs.declared.share.Share.TheVariants.{Nothing}
 use Rattle.wb_promise.specs.declared.job.Job.{Job}
 use Rattle.wb_promise.specs.declared.job.Job.TheVariants.{Open, Invalidate, Suspend}
 use Rattle.wb_promise.specs.declared.event.Event.{Event}
@@ -67,7 +68,7 @@ contents_of devices = record { metadata = devices.metadata.contents; cache = dev
 
 -- who opens in this mode, with this left of the opening
 abbrev pub opening_actor : Mode → Plan → Actor
-opening_actor mode plan = record { task = Some (Open mode, plan); card = blank_card; orders = []; awaiting = []; buffer = []; seen = [] }
+opening_actor mode plan = record { task = Some (Open mode, plan); card = blank_card; orders = []; awaiting = []; buffer = []; seen = []; share = Nothing }
 
 -- Beside who opens nobody is at anything. Over a target each is at what its member is at, and has a card.
 abbrev pub actors_of : ℕ → Phase → List Actor

@@ -1,26 +1,30 @@
 -- What actors are at over a target that stands.
-use Rattle.std.specs.Prelude.{◌≡◌, ℕ, Bool, true, false, List, [], ◌∷◌, Option, Some, None, is_some, length, slice_get}
+use Rattle.std.specs.Prelude.{ℕ, Bool, true, false, List, [], ◌∷◌, Option, Some, None, is_some, slice_get}
 use Rattle.std.specs.List.{list_any}
 use Rattle.wb_disk.specs.Device.{Content as Bytes}
 use Rattle.wb_policy.specs.declared.order.Order.{Order}
 use Rattle.wb_tasks.specs.Plan.{Plan}
 use Rattle.wb_words.specs.declared.card.Card.{Card}
+use Rattle.wb_stage.specs.declared.share.Share.{Share}
+use Rattle.wb_stage.specs.declared.share.Share.TheVariants.{Nothing}
 use Rattle.wb_promise.specs.declared.job.Job.{Job}
 use Rattle.wb_promise.specs.declared.job.Job.TheVariants.{Suspend}
 use Rattle.wb_promise.specs.States.{Actor}
 
 -- what an actor is at, but for its card: what is left of its task, if it has one, the orders that it has, those that wait for a flush of it,
--- what its migration has read last, and for each cache block whether its suspend has seen its copy dirty
+-- what its migration has read last, for each cache block whether its suspend has seen its copy dirty, and what its flush has of the commits
+-- that others lead
 pub record Member : Type 0 where
   pub task : Option (Job × Plan)
   pub orders : List Order
   pub awaiting : List Order
   pub buffer : List Bytes
   pub seen : List Bool
+  pub share : Share
 
 -- who is at what this member is at, with this card
 abbrev pub seat : Member → Card → Actor
-seat member card = record { task = member.task; card = card; orders = member.orders; awaiting = member.awaiting; buffer = member.buffer; seen = member.seen }
+seat member card = record { task = member.task; card = card; orders = member.orders; awaiting = member.awaiting; buffer = member.buffer; seen = member.seen; share = member.share }
 
 -- each member with its card
 abbrev pub with_cards : List Member → List Card → List Actor
@@ -29,7 +33,7 @@ with_cards _ _ = []
 
 -- a member that is at nothing
 abbrev pub free : Member
-free = record { task = None; orders = []; awaiting = []; buffer = []; seen = [] }
+free = record { task = None; orders = []; awaiting = []; buffer = []; seen = []; share = Nothing }
 
 -- this one is there, and at something
 abbrev pub works : Option Member → Bool
@@ -61,8 +65,3 @@ suspends member = is_to_suspend member.task
 
 abbrev pub somebody_suspends : List Member → Bool
 somebody_suspends members = list_any suspends members
-
--- a suspend has a bit for each cache block
-abbrev pub HasBitsSeen : ℕ → List Bool → Job → Type 0
-HasBitsSeen cache_blocks seen Suspend = length seen ≡ cache_blocks
-HasBitsSeen cache_blocks seen job = Unit {0}

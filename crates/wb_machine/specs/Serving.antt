@@ -2,6 +2,7 @@
 use Rattle.std.specs.Prelude.{◌≡◌, ◌≤◌, ◌+◌, ◌⊎◌, ℕ, Bool, true, false, if◌then◌else◌, length, List, [], ◌∷◌, Option, Some, None, is_none, is_some, slice_get, slice_set, IfSome}
 use Rattle.std.specs.declared.alloc.Global.{Global}
 use Rattle.wb_types.specs.Extents.{pieces}
+use Rattle.wb_types.specs.Limits.{node_count}
 use Rattle.wb_types.specs.declared.entry.Entry.{Entry}
 use Rattle.wb_types.specs.declared.extent.Extent.{Extent}
 use Rattle.wb_types.specs.declared.geometry.Geometry.{Geometry}
@@ -26,7 +27,7 @@ use Rattle.wb_tasks.specs.Ready.{HoldsBlocks}
 use Rattle.wb_tasks.specs.declared.step.DeviceStep.{DeviceStep}
 use Rattle.wb_tasks.specs.declared.step.DeviceStep.TheVariants.{Read as ReadExtent, Write as WriteExtent, Sync, ReadMetadata, WriteNode, WriteRoot}
 use Rattle.wb_tasks.specs.declared.step.DeskStep.{DeskStep}
-use Rattle.wb_tasks.specs.declared.step.DeskStep.TheVariants.{Map, Unmap, ReleaseOrder, BeginCommit, EndCommit}
+use Rattle.wb_tasks.specs.declared.step.DeskStep.TheVariants.{Map, Unmap, ReleaseOrder, Arrive, Ask, BeginCommit, EndCommit}
 use Rattle.wb_tasks.specs.declared.step.Answer.TheVariants.{Done as Finished}
 use Rattle.wb_tasks.specs.declared.step.Want.{Want}
 use Rattle.wb_tasks.specs.declared.step.Want.TheVariants.{Cell, Device, Desk, End}
@@ -49,9 +50,11 @@ use Rattle.wb_promise.specs.declared.job.Job.{Job}
 use Rattle.wb_promise.specs.declared.job.Job.TheVariants.{Read, Write, Flush, Suspend, Open, Invalidate, Migrate, Replace}
 use Rattle.wb_promise.specs.declared.event.What.{What}
 use Rattle.wb_promise.specs.declared.event.What.TheVariants.{Skipped, Refused, Started, Stepped}
+use Rattle.wb_stage.specs.Sharing.{share_then}
 use Rattle.wb_stage.specs.Stages.{DidAsk, DidBeginWith, is_all_done}
+use Rattle.wb_stage.specs.declared.share.Share.{Share}
 use Rattle.wb_promise.specs.States.{Shape, Actor, Stands, Gone, Target as RunTarget, block_size}
-use Rattle.wb_promise.specs.Happenings.{Chosen, Plain, Orders, Looks, Puts, AreMapped, DoesPut, FailsPut, Gives, IsNextOf, MayFailAt, Falters, KeepsMigration, KeepsReplacement, StartGives, begun_as, extent_of, order_for, task_job, sector_put}
+use Rattle.wb_promise.specs.Happenings.{Chosen, Plain, Orders, Looks, Puts, AreMapped, Awaits, DoesPut, FailsPut, Gives, IsNextOf, MayFailAt, Falters, KeepsMigration, KeepsReplacement, StartGives, begun_as, extent_of, order_for, task_job, sector_put}
 use Rattle.wb_runs.specs.Holding.{AllSuited}
 use Rattle.wb_promise.specs.Effects.{buffer_then, commit_then, contents_at, contents_for, cut_of, desk_then, device_done, device_failed, devices_then, job_of, looks_of, awaiting_then, orders_given, orders_then, seen_then, task_then, unseen}
 use Rattle.wb_machine.specs.declared.phase.Phase.{Phase}
@@ -100,6 +103,7 @@ member_given shape mode m job chosen = record {
   awaiting = m.awaiting;
   buffer = m.buffer;
   seen = unseen shape job m.seen;
+  share = m.share;
 }
 
 -- What a start that is not skipped leaves of the desk and of who starts: an order may be given.
@@ -158,9 +162,9 @@ abbrev pub may_give_up : Job → (orders awaiting : List Order) → List Order
 may_give_up Flush orders awaiting = awaiting
 may_give_up job orders awaiting = orders
 
--- an actor at this job has these to give up, and has seen this of the copies in the cache
-abbrev pub HasAtHand : Job → Actor → List Order → List Bool → Type 0
-HasAtHand job x held seen = (may_give_up job x.orders x.awaiting ≡ held) × (x.seen ≡ seen)
+-- an actor at this job has these to give up, has seen this of the copies in the cache, and has this of the commits that others lead
+abbrev pub HasAtHand : Job → Actor → List Order → List Bool → Share → Type 0
+HasAtHand job x held seen share = (may_give_up job x.orders x.awaiting ≡ held) × (x.seen ≡ seen) × (x.share ≡ share)
 
 -- ---- steps
 
@@ -253,19 +257,14 @@ IsDoable devices commit job (WriteNode number) = ComesNext commit (WriteNode num
 IsDoable devices commit job WriteRoot = ComesNext commit WriteRoot devices.metadata
 IsDoable devices commit job (ReadMetadata left) = ⊥
 
--- the root of a commit that begins for a job is marked clean
-abbrev pub is_clean : Job → Bool
-is_clean Suspend = true
-is_clean job = false
-
--- the desk can be asked for it: a commit begins that is clean for a suspend alone, or ends once all of it was done; a migration's block is
--- mapped, a block is unmapped, or an order given up
+-- the desk can be asked for it: a commit ends once all of it was done; a migration's block is mapped, a block is unmapped, or an order given
+-- up; the rest is asked for whenever it comes
 abbrev pub IsAskable : Option RunningCommit → Job → DeskStep → Type 0
-IsAskable commit job (BeginCommit clean most) = clean ≡ is_clean job
 IsAskable commit job EndCommit = is_all_done commit ≡ true
 IsAskable commit job (Map block place) = Migrates job
 IsAskable commit job (Unmap block) = Unmaps job
 IsAskable commit job (ReleaseOrder block) = GivesUp job
+IsAskable commit job step = Unit {0}
 
 -- A step of a job can be done. No opening is answered done over a target.
 abbrev pub IsPossible : Devices (List History) → Option RunningCommit → Job → Want → Type 0
@@ -274,10 +273,12 @@ IsPossible devices commit job (Desk step) = IsAskable commit job step
 IsPossible devices commit job (End Finished) = ¬ Opens job
 IsPossible devices commit job next = Unit {0}
 
--- a commit that begins may have an image of so many nodes
-abbrev pub Allows : ℕ → Want → Type 0
-Allows nodes (Desk (BeginCommit clean most)) = nodes ≤ most
-Allows nodes next = Unit {0}
+-- A commit that begins may have an image of as many nodes as so many cache blocks have, and that of a suspend has a bit for each.
+abbrev pub Allows : ℕ → List Bool → Want → Type 0
+Allows cache_blocks seen (Desk (Arrive most)) = node_count cache_blocks ≤ most
+Allows cache_blocks seen (Desk (Ask most)) = node_count cache_blocks ≤ most
+Allows cache_blocks seen (Desk (BeginCommit most)) = (node_count cache_blocks ≤ most) × (length seen ≡ cache_blocks)
+Allows cache_blocks seen next = Unit {0}
 
 -- what stands over these devices, with this commit, and these actors
 abbrev pub stood : Devices (List History) → Option RunningCommit → RunTarget Quiet → List Actor → Now
@@ -365,15 +366,16 @@ pub record FailsAt (choice : Choice) (devices : Devices (List History)) (commit 
   pub devices_are : devices' ≡ devices_then (failed_by choice job buffer (chosen_at step devices')) devices (Device step)
   pub commit_is : commit' ≡ commit_by commit (Device step) Fault (chosen_at step devices')
 
--- One call of the desk for a job: a suspend's commit begins with what it has seen.
-abbrev pub DidAskFor : Job → (held : List Order) (seen : List Bool) → DeskStep → Got → DeskState Quiet → Option RunningCommit → DeskState Quiet → Option RunningCommit → Type 0
-DidAskFor Suspend held seen (BeginCommit clean most) got desk commit desk' commit' = (hint_of : Quiet → ℕ → ℕ) × DidBeginWith hint_of (Some seen) most got desk commit desk' commit'
-DidAskFor job held seen step got desk commit desk' commit' = (with_entry : Quiet → ℕ → ℕ → Quiet) × (without_entry : Quiet → ℕ → Quiet) × DidAsk with_entry without_entry held step got desk commit desk' commit'
+-- One call of the desk: a suspend's commit begins with what it has seen.
+abbrev pub DidAskFor : (held : List Order) (seen : List Bool) → Share → DeskStep → Got → DeskState Quiet → Option RunningCommit → DeskState Quiet → Option RunningCommit → Type 0
+DidAskFor held seen share (BeginCommit most) got desk commit desk' commit' = (hint_of : Quiet → ℕ → ℕ) × DidBeginWith hint_of seen most got desk commit desk' commit'
+DidAskFor held seen share step got desk commit desk' commit' = (with_entry : Quiet → ℕ → ℕ → Quiet) × (without_entry : Quiet → ℕ → Quiet) × DidAsk with_entry without_entry held step share got desk commit desk' commit'
 
--- What the desk gives that is asked for a job, which may give up one of these orders and has seen this, and what that makes of it and of the commit.
-pub record DeskWasAsked (desk : DeskState Quiet) (commit : Option RunningCommit) (job : Job) (held : List Order) (seen : List Bool) (step : DeskStep) (got : Got) (desk' : DeskState Quiet) (commit' : Option RunningCommit) : Type 0 where
+-- What the desk gives that is asked for a job, which may give up one of these orders, has seen this and has this of the commits that others
+-- lead, and what that makes of it and of the commit.
+pub record DeskWasAsked (desk : DeskState Quiet) (commit : Option RunningCommit) (job : Job) (held : List Order) (seen : List Bool) (share : Share) (step : DeskStep) (got : Got) (desk' : DeskState Quiet) (commit' : Option RunningCommit) : Type 0 where
   pub chosen : Chosen Quiet Global
-  pub gives : (shape : Shape) (devices : Devices (List History)) (words : Words) (actors : List Actor) (x : Actor) → HasAtHand job x held seen → Gives shape (stood devices commit (record { words = words; desk = desk }) actors) x job (Desk step) got [] chosen
+  pub gives : (shape : Shape) (devices : Devices (List History)) (words : Words) (actors : List Actor) (x : Actor) → HasAtHand job x held seen share → Gives shape (stood devices commit (record { words = words; desk = desk }) actors) x job (Desk step) got [] chosen
   pub desk_is : desk' ≡ desk_then desk (Desk step) chosen
   pub commit_is : commit' ≡ commit_by commit (Desk step) got chosen
 
@@ -387,23 +389,30 @@ pub record Leads (change : DeviceStep → List History → List History) (device
   pub commit_is : new.commit ≡ commit_by old.commit next got chosen
   pub failed_is : new.failed ≡ flag new.crew.words.fail
 
--- One step of the actor a on a job, which may give up one of these orders and has seen this, from the devices and the target before to those after.
-pub record Performs (devices : Devices (List History)) (old : Target) (a : ℕ) (job : Job) (held : List Order) (seen : List Bool) (buffer : List Bytes) (next : Want) (got : Got) (read : List Bytes) (devices' : Devices (List History)) (new : Target) : Type 0 where
+-- One step of the actor a on a job, which may give up one of these orders, has seen this and has this of the commits that others lead, from the
+-- devices and the target before to those after.
+pub record Performs (devices : Devices (List History)) (old : Target) (a : ℕ) (job : Job) (held : List Order) (seen : List Bool) (share : Share) (buffer : List Bytes) (next : Want) (got : Got) (read : List Bytes) (devices' : Devices (List History)) (new : Target) : Type 0 where
   pub chosen : Chosen Quiet Global
-  pub gives : (shape : Shape) (actors : List Actor) (x : Actor) → HasAtHand job x held seen → Gives shape (over devices old actors) x job next got (noted_read job next read) chosen
+  pub gives : (shape : Shape) (actors : List Actor) (x : Actor) → HasAtHand job x held seen share → Gives shape (over devices old actors) x job next got (noted_read job next read) chosen
   pub copies : IsCopy devices job next read
   pub leads : Leads (done_by job buffer chosen) devices old a next got chosen devices' new
 
 -- ---- a member's step
 
--- what a member is after a step on its job with this result
-abbrev pub member_then : Devices (List History) → Member → Want → Got → Member
-member_then devices m next got = record {
+-- what a flush has of the commits that others lead, once it has arrived or asked
+abbrev pub share_after : DeskState Quiet → Share → Want → Got → Share
+share_after desk share (Desk step) got = share_then desk share step got
+share_after desk share next got = share
+
+-- what a member is after a step on its job with this result, which leaves it this of the commits that others lead
+abbrev pub member_then : Devices (List History) → Share → Member → Want → Got → Member
+member_then devices share m next got = record {
   task = task_then m.task next got;
   orders = orders_then m.orders m.awaiting (job_of m.task) next got;
   awaiting = awaiting_then m.orders m.awaiting (job_of m.task) next got;
   buffer = buffer_then devices m.buffer next got (job_of m.task);
   seen = seen_then m.seen next got (job_of m.task);
+  share = share;
 }
 
 -- this may be the result of the next step of a task, if there is one
@@ -425,12 +434,14 @@ pub record StepsOn (devices : Devices (List History)) (old : Target) (a : ℕ) (
   pub given : List Bytes
   pub what_is : what ≡ Stepped (want plan) got
   pub read_is : read ≡ noted_read job (want plan) given
-  pub performs : Performs devices old a job (may_give_up job m.orders m.awaiting) m.seen m.buffer (want plan) got given devices' new
-  pub member_is : m' ≡ member_then devices m (want plan) got
+  pub performs : Performs devices old a job (may_give_up job m.orders m.awaiting) m.seen m.share m.buffer (want plan) got given devices' new
+  pub member_is : m' ≡ member_then devices (share_after old.desk m.share (want plan) got) m (want plan) got
 
+-- or none, where it has no task, or has to wait for a commit that another leads
 abbrev pub MemberSteps : Devices (List History) → Target → ℕ → Member → Option (Job × Plan) → What → List Bytes → Devices (List History) → Target → Member → Type 0
 MemberSteps devices old a m None what read devices' new m' = Rests devices old m what read devices' new m'
-MemberSteps devices old a m (Some doing) what read devices' new m' = StepsOn devices old a m doing.0 doing.1 what read devices' new m'
+MemberSteps devices old a m (Some doing) what read devices' new m' = (Awaits old.desk m.share (want doing.1) × Rests devices old m what read devices' new m')
+    ⊎ StepsOn devices old a m doing.0 doing.1 what read devices' new m'
 
 abbrev pub Steps : Devices (List History) → Target → ℕ → Member → What → List Bytes → Devices (List History) → Target → Member → Type 0
 Steps devices old a m what read devices' new m' = MemberSteps devices old a m m.task what read devices' new m'
@@ -442,7 +453,7 @@ pub record StepFails (choice : Choice) (devices : Devices (List History)) (commi
   pub what_is : what ≡ Stepped (Device step) Fault
   pub may : MayFailAt devices choice (Device step)
   pub fails : FailsAt choice devices commit job m.buffer step devices' commit'
-  pub member_is : m' ≡ member_then devices m (want plan) Fault
+  pub member_is : m' ≡ member_then devices m.share m (want plan) Fault
 
 -- or none does
 pub record NothingFails (choice : Choice) (devices : Devices (List History)) (commit : Option RunningCommit) (m : Member) (what : What) (devices' : Devices (List History)) (commit' : Option RunningCommit) (m' : Member) : Type 0 where

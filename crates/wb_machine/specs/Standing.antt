@@ -18,7 +18,7 @@ use Rattle.wb_devices.specs.declared.devices.Devices.{Devices}
 use Rattle.wb_devices.specs.declared.running.RunningCommit.{RunningCommit}
 use Rattle.wb_words.specs.SharedWords.{flag}
 use Rattle.wb_promise.specs.declared.job.Job.{Job}
-use Rattle.wb_machine.specs.Members.{Member, HasBitsSeen}
+use Rattle.wb_machine.specs.Members.{Member}
 use Rattle.wb_machine.specs.declared.asked.Asked.{Asked}
 use Rattle.wb_machine.specs.declared.making.Made.{Made}
 use Rattle.wb_machine.specs.declared.opener.Opener.{Opener}
@@ -73,16 +73,15 @@ pub record StandsAt (g : Geometry) (actors : ℕ) (o : Opener) : Type 0 where
   pub come : HasComeTo g point (reading_of o) o.opening.commit
   pub made : HasMadeThere g actors point o.asked o.made
 
--- a flush or a suspend allows as many nodes as an image may have
-abbrev pub AllowsImages : ℕ → TaskJob → Type 0
-AllowsImages nodes (Flushing serves most) = nodes ≤ most
-AllowsImages nodes (Suspending looks most) = nodes ≤ most
-AllowsImages nodes job = Unit {0}
+-- Of so many cache blocks a flush or a suspend allows as many nodes as an image may have, and a suspend has a bit for each.
+abbrev pub AllowsImages : ℕ → List Bool → TaskJob → Type 0
+AllowsImages cache_blocks seen (Flushing serves most) = node_count cache_blocks ≤ most
+AllowsImages cache_blocks seen (Suspending looks most) = (node_count cache_blocks ≤ most) × (length seen ≡ cache_blocks)
+AllowsImages cache_blocks seen job = Unit {0}
 
--- and a suspend has a bit for each of so many cache blocks
 abbrev pub IsTaskRoomy : ℕ → List Bool → Option (Job × Plan) → Type 0
 IsTaskRoomy cache_blocks seen None = Unit {0}
-IsTaskRoomy cache_blocks seen (Some doing) = AllowsImages (node_count cache_blocks) doing.1.job × HasBitsSeen cache_blocks seen doing.0
+IsTaskRoomy cache_blocks seen (Some doing) = AllowsImages cache_blocks seen doing.1.job
 
 abbrev pub IsRoomy : ℕ → Member → Type 0
 IsRoomy cache_blocks m = IsTaskRoomy cache_blocks m.seen m.task

@@ -2,43 +2,42 @@
 
 ghost use Rattle.std.specs.Prelude.{◌≡◌, length, All, IfSome};
 ghost use Rattle.wb_types.specs.declared.number.Place.{Place as PlaceValue};
-ghost use Rattle.wb_promise.specs.declared.job.Job.TheVariants.{Suspend};
 ghost use Rattle.wb_format.specs.declared.node.Node.{Node as NodeValue};
-ghost use Rattle.wb_types.specs.Limits.{node_count};
 ghost use Rattle.wb_tasks.specs.Plan.{Fits};
 ghost use Rattle.wb_tasks.specs.declared.step.Want.TheVariants.{Desk as OnDesk};
-ghost use Rattle.wb_promise.specs.Happenings.{AreWhole};
+ghost use Rattle.std.specs.Bool.{OnTrue, OnFalse};
+ghost use Rattle.wb_stage.specs.Sharing.{MayGoOn, share_then};
+ghost use Rattle.wb_promise.specs.declared.job.Job.{Job};
+ghost use Rattle.wb_promise.specs.Happenings.{AreWhole, Awaits};
 ghost use Rattle.wb_machine.specs.Serving.{Allows, DidAskFor, IsAskable, DeskWasAsked};
-ghost use Rattle.wb_machine.specs.Members.{HasBitsSeen};
 
 use std::alloc::Global;
 use wb_desk::Desk;
 use wb_devices::RunningCommit;
 use wb_format::Node;
 use wb_policy::{Order, Quiet};
-use wb_promise::Job;
-use wb_stage::asking;
-use wb_tasks::{DeskStep, Got};
+use wb_stage::{Share, asking};
+use wb_tasks::{DeskStep, Got, Want};
 use wb_types::Place;
 
-/// A commit begins or ends, a block gets its entry or loses it, or one of these orders of a job is given up; and what that gave. A suspend's
-/// commit begins with these dirty bits, which it has seen.
+/// A commit begins, ends or is broken, a flush arrives or asks with a ticket, a block gets its entry or loses it, or one of these orders of a
+/// job is given up; and what that gave. A suspend's commit begins with these dirty bits, which it has seen.
 pub(crate) fn ask(
     alloc: Global,
     desk: &mut Desk<Quiet>,
     commit: &mut Option<RunningCommit>,
-    job: &Job,
     held: &[Order],
     seen: &[bool],
+    share: &mut Share,
     step: DeskStep,
 ) -> Got
-    requires askable { IsAskable commit.old job.now step }
-    requires enough { Allows (node_count desk.old.geometry.cache_blocks) (OnDesk step) }
-    requires bits { HasBitsSeen desk.old.geometry.cache_blocks seen.now job.now }
-    ensures asked { DeskWasAsked desk.old commit.old job.now held.now seen.now step result desk.new commit.new }
+    requires enough { Allows desk.old.geometry.cache_blocks seen.now (OnDesk step) }
+    requires goes_on { MayGoOn desk.old share.old step }
+    ensures asked { (job : Job) → IsAskable commit.old job step → DeskWasAsked desk.old commit.old job held.now seen.now share.old step result desk.new commit.new }
     ensures kind { Fits (OnDesk step) result }
+    ensures share { share.new ≡ share_then desk.old share.old step result }
 {
-    let got = ask_for(alloc, desk, commit, job, held, seen, step);
+    let got = ask_for(alloc, desk, commit, held, seen, share, step);
     match got {
         Got::Began(_) => see_commit(&*commit),
         _ => {}
@@ -46,47 +45,36 @@ pub(crate) fn ask(
     got
 }
 
-/// One call of the desk for a job.
+/// One call of the desk, for who has this at hand.
 fn ask_for(
     alloc: Global,
     desk: &mut Desk<Quiet>,
     commit: &mut Option<RunningCommit>,
-    job: &Job,
     held: &[Order],
     seen: &[bool],
+    share: &mut Share,
     step: DeskStep,
 ) -> Got
-    requires askable { IsAskable commit.old job.now step }
-    requires bits { HasBitsSeen desk.old.geometry.cache_blocks seen.now job.now }
-    ensures did { DidAskFor job.now held.now seen.now step result desk.old commit.old desk.new commit.new }
+    requires enough { Allows desk.old.geometry.cache_blocks seen.now (OnDesk step) }
+    requires goes_on { MayGoOn desk.old share.old step }
+    ensures did { DidAskFor held.now seen.now share.old step result desk.old commit.old desk.new commit.new }
     ensures kind { Fits (OnDesk step) result }
+    ensures share { share.new ≡ share_then desk.old share.old step result }
 {
-    match job {
-        Job::Suspend => ask_for_suspend(alloc, desk, commit, held, seen, step),
-        _ => asking::ask(alloc, desk, commit, held, step),
+    match step {
+        DeskStep::BeginCommit(most) => asking::begin_commit(alloc, desk, commit, seen, most),
+        _ => asking::ask(alloc, desk, commit, share, held, step),
     }
 }
 
-/// One call of the desk for a suspend, whose commit begins with the dirty bits that it has seen.
-fn ask_for_suspend(
-    alloc: Global,
-    desk: &mut Desk<Quiet>,
-    commit: &mut Option<RunningCommit>,
-    orders: &[Order],
-    seen: &[bool],
-    step: DeskStep,
-) -> Got
-    requires askable { IsAskable commit.old Suspend step }
-    requires bits { length seen.now ≡ desk.old.geometry.cache_blocks }
-    ensures did { DidAskFor Suspend orders.now seen.now step result desk.old commit.old desk.new commit.new }
-    ensures kind { Fits (OnDesk step) result }
+/// Whether who takes this step next has to wait for a commit that another leads.
+pub(crate) fn awaits(desk: &Desk<Quiet>, share: &Share, want: Want) -> bool
+    ensures waits { OnTrue result (Awaits desk.now share.now want) }
+    ensures other { OnFalse result (¬ Awaits desk.now share.now want) }
 {
-    match step {
-        DeskStep::BeginCommit(_, most) => {
-            asking::begin_commit(alloc, desk, commit, Some(seen), most)
-        }
-        DeskStep::EndCommit => asking::ask(alloc, desk, commit, orders, step),
-        _ => unreachable!(),
+    match want {
+        Want::Desk(DeskStep::Ask(_)) => asking::must_wait(desk, share),
+        _ => false,
     }
 }
 

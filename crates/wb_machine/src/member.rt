@@ -17,6 +17,7 @@ ghost use Rattle.wb_machine.specs.Keeping.{IsLeftBy};
 ghost use Rattle.wb_machine.specs.Serving.{CanStep, ResultComes, FailsOrRests, GetsOrder, Starts, Steps, TakesOrder, may_give_up, is_copied, is_ordered, member_given};
 ghost use Rattle.wb_machine.specs.Standing.{IsRoomy};
 
+use crate::asking::awaits;
 use crate::keeping::{
     awaiting_after, keep, keeps_migration, keeps_replacement, orders_after, see_desk,
 };
@@ -34,20 +35,22 @@ use wb_disk::{CrashChoice, MemDisk};
 use wb_flow::CommitTask;
 use wb_policy::{Order, Quiet};
 use wb_promise::{Job, What};
-use wb_stage::seen;
+use wb_stage::{Share, seen};
 use wb_tasks::{CellStep, DeviceStep, Got, Task, Want};
 use wb_types::{Content, Geometry, Refusal};
 use wb_words::Word;
 
 /// What an actor is at: its job and what is left of its task, if it has one; the orders that it has, the newest first, and those of
 /// replacements whose block has left, which wait for a flush of it; what its migration has read last, which it writes next; and for each
-/// cache block whether its suspend has seen its copy dirty. What it knows of the shared words is on its card in the crew.
+/// cache block whether its suspend has seen its copy dirty; and what its flush has of the commits that others lead. What it knows of the
+/// shared words is on its card in the crew.
 pub struct Member {
     task: Option<(Job, Work)>,
     orders: Vec<Order>,
     awaiting: Vec<Order>,
     buffer: Vec<Content>,
     seen: Vec<bool>,
+    share: Share,
 }
 
 impl Drop for Member {
@@ -58,12 +61,14 @@ impl Drop for Member {
             awaiting,
             buffer,
             seen,
+            share,
         } = self;
         drop(task);
         drop(orders);
         drop(awaiting);
         drop(buffer);
         drop(seen);
+        drop(share);
     }
 }
 
@@ -72,7 +77,7 @@ impl Model for Member {
 
     ghost Value = { MemberValue };
 
-    ghost view = { λ m. record { task = m.task; orders = m.orders.items; awaiting = m.awaiting.items; buffer = m.buffer.items; seen = m.seen.items } };
+    ghost view = { λ m. record { task = m.task; orders = m.orders.items; awaiting = m.awaiting.items; buffer = m.buffer.items; seen = m.seen.items; share = m.share } };
 }
 
 impl Member {
@@ -86,6 +91,7 @@ impl Member {
             awaiting: Vec::new(alloc),
             buffer: Vec::new(alloc),
             seen: Vec::new(alloc),
+            share: Share::Nothing,
         }
     }
 
@@ -200,8 +206,8 @@ impl Member {
         Ok(true)
     }
 
-    /// The next step of its task, as the actor of this number. `Memory` where what is read, or what a write adds, wants more than
-    /// there is; then no content has changed.
+    /// The next step of its task, as the actor of this number; it is skipped where it has to wait for a commit that another leads.
+    /// `Memory` where what is read, or what a write adds, wants more than there is; then no content has changed.
     pub(crate) fn step(
         &mut self,
         number: usize,
@@ -223,6 +229,9 @@ impl Member {
             return Ok(Outcome::skipped(alloc));
         };
         let want = task.want();
+        if awaits(&target.desk, &self.share, want) {
+            return Ok(Outcome::skipped(alloc));
+        }
         let copies = is_copied(job, want);
         let orders = self.orders.as_slice();
         let awaiting = self.awaiting.as_slice();
@@ -231,7 +240,10 @@ impl Member {
         let held = held_for(job, orders, awaiting);
         let seen = self.seen.as_slice();
         let buffer = self.buffer.as_slice();
-        let (got, read) = target.perform(number, alloc, devices, job, held, seen, buffer, want)?;
+        let share = &mut self.share;
+        let (got, read) = target.perform(
+            number, alloc, devices, job, held, seen, share, buffer, want,
+        )?;
         self.see(want, got);
         self.go_on(want, got);
         self.change_orders(got, orders_then, awaiting_then);
@@ -250,6 +262,7 @@ impl Member {
         ensures awaiting { self.new.awaiting ≡ self.old.awaiting }
         ensures buffer { self.new.buffer ≡ self.old.buffer }
         ensures seen { self.new.seen ≡ seen_then self.old.seen want got (job_of self.old.task) }
+        ensures share { self.new.share ≡ self.old.share }
     {
         let Some((Job::Suspend, _)) = &self.task else {
             return;
@@ -265,6 +278,7 @@ impl Member {
         ensures awaiting { self.new.awaiting ≡ self.old.awaiting }
         ensures buffer { self.new.buffer ≡ self.old.buffer }
         ensures seen { self.new.seen ≡ self.old.seen }
+        ensures share { self.new.share ≡ self.old.share }
     {
         let Some((_, task)) = &mut self.task else {
             return;
@@ -283,6 +297,7 @@ impl Member {
         ensures awaiting { IsLeftBy got self.old.awaiting awaiting self.new.awaiting }
         ensures buffer { self.new.buffer ≡ self.old.buffer }
         ensures seen { self.new.seen ≡ self.old.seen }
+        ensures share { self.new.share ≡ self.old.share }
     {
         if got != Got::Done {
             return;
@@ -302,6 +317,7 @@ impl Member {
         ensures awaiting { self.new.awaiting ≡ self.old.awaiting }
         ensures buffer { self.new.buffer ≡ read.items }
         ensures seen { self.new.seen ≡ self.old.seen }
+        ensures share { self.new.share ≡ self.old.share }
     {
         self.buffer = read;
     }

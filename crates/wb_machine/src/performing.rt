@@ -1,7 +1,6 @@
 //! Steps of an actor over a target, on the shared words, on devices and on the desk.
 
 ghost use Rattle.std.specs.Prelude.{◌≡◌, ◌<◌, length, IfOk, IfErr, OnErr};
-ghost use Rattle.wb_types.specs.Limits.{node_count};
 ghost use Rattle.wb_types.specs.declared.refusal.Refusal.TheVariants.{Memory};
 ghost use Rattle.wb_words.specs.SharedWords.{flag};
 ghost use Rattle.wb_words.specs.Effects.{result_of};
@@ -10,9 +9,9 @@ ghost use Rattle.wb_cells.specs.Crews.{card_of, crew_after};
 ghost use Rattle.wb_tasks.specs.Plan.{Fits, IsStep, got_of};
 ghost use Rattle.wb_tasks.specs.Ready.{MayTake};
 ghost use Rattle.wb_tasks.specs.declared.step.Want.TheVariants.{Cell as OnCell};
+ghost use Rattle.wb_promise.specs.Happenings.{Awaits};
 ghost use Rattle.wb_machine.specs.Life.{contents_of};
-ghost use Rattle.wb_machine.specs.Serving.{Allows, IsPossible, Performs, sets_bit};
-ghost use Rattle.wb_machine.specs.Members.{HasBitsSeen};
+ghost use Rattle.wb_machine.specs.Serving.{Allows, IsPossible, Performs, sets_bit, share_after};
 
 use crate::asking::ask;
 use crate::moving::do_step;
@@ -22,13 +21,15 @@ use wb_devices::Devices;
 use wb_disk::MemDisk;
 use wb_policy::Order;
 use wb_promise::Job;
+use wb_stage::Share;
 use wb_tasks::{Got, Want};
 use wb_types::{Content, Refusal};
 use wb_words::CellStep;
 
 impl Target {
-    /// One step of an actor on a job, which may give up one of these orders and has seen these dirty bits, what it gave, and
-    /// what it read. `Memory` where what is read, or what a write adds, wants more than there is; then no content has changed.
+    /// One step of an actor on a job, which may give up one of these orders, has seen these dirty bits, and has this of the commits that
+    /// others lead; what it gave, and what it read. `Memory` where what is read, or what a write adds, wants more than there is; then
+    /// no content has changed.
     pub(crate) fn perform(
         &mut self,
         actor: usize,
@@ -37,6 +38,7 @@ impl Target {
         job: &Job,
         held: &[Order],
         seen: &[bool],
+        share: &mut Share,
         buffer: &[Content],
         want: Want,
     ) -> Result<(Got, Vec<Content>), Refusal>
@@ -44,12 +46,13 @@ impl Target {
         requires failed { self.old.failed ≡ flag self.old.crew.words.fail }
         requires ready { MayTake self.old.crew.blocks (card_of self.old.crew actor) want }
         requires possible { IsPossible (contents_of devices.old) self.old.commit job.now want }
-        requires enough { Allows (node_count self.old.desk.geometry.cache_blocks) want }
-        requires bits { HasBitsSeen self.old.desk.geometry.cache_blocks seen.now job.now }
-        ensures ok { IfOk result (λ given. Performs (contents_of devices.old) self.old actor job.now held.now seen.now buffer.now want given.0 given.1.items (contents_of devices.new) self.new) }
+        requires enough { Allows self.old.desk.geometry.cache_blocks seen.now want }
+        requires goes_on { ¬ Awaits self.old.desk share.old want }
+        ensures ok { IfOk result (λ given. Performs (contents_of devices.old) self.old actor job.now held.now seen.now share.old buffer.now want given.0 given.1.items (contents_of devices.new) self.new) }
+        ensures share { IfOk result (λ given. share.new ≡ share_after self.old.desk share.old want given.0) }
         ensures kind { IfOk result (λ given. IsStep want → Fits want given.0) }
         ensures size { length devices.new.metadata.contents ≡ length devices.old.metadata.contents }
-        ensures err { OnErr result ((contents_of devices.new ≡ contents_of devices.old) × (self.new ≡ self.old)) }
+        ensures err { OnErr result ((contents_of devices.new ≡ contents_of devices.old) × (self.new ≡ self.old) × (share.new ≡ share.old)) }
         ensures refusal { IfErr result (λ refusal. refusal ≡ Memory) }
     {
         match want {
@@ -63,9 +66,9 @@ impl Target {
                     alloc,
                     &mut self.desk,
                     &mut self.commit,
-                    job,
                     held,
                     seen,
+                    share,
                     step,
                 );
                 Ok((got, Vec::new(alloc)))

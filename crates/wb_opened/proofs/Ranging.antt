@@ -19,7 +19,7 @@ use Rattle.wb_target.specs.declared.blocking.Stopped.{Stopped}
 use Rattle.wb_opened.specs.Inside.{IsInside}
 use Rattle.wb_opened.proofs.Inside.{not_outside}
 use Rattle.wb_target.specs.Workers.{FlushRefused}
-use Rattle.wb_target.specs.Works.{DeskTold, WorkState}
+use Rattle.wb_target.specs.Works.{ShareTold, WorkState}
 use Rattle.std.specs.Prelude.{Option, None}
 
 -- no step gives cause for it
@@ -27,16 +27,16 @@ no_range : (job : TaskJob) (steps : List (Want × Got)) → GaveCause job Range 
 no_range job [] h = h
 no_range job (step ∷ steps) h = elim h [ inl now ↦ now | inr later ↦ no_range job steps later ]
 
-pub flush_never_range : {D : Type 0} (tells : Type 0) (size : D → ℕ) (contents : D → List History) (faults : D → ℕ) (asked : List Order → DeskTold) (blocks : ℕ) (geometry : Geometry) (refusal : Refusal) (old new : WorkState D)
+pub flush_never_range : {D : Type 0} (tells : Type 0) (size : D → ℕ) (contents : D → List History) (faults : D → ℕ) (asked : List Order → ShareTold) (blocks : ℕ) (geometry : Geometry) (refusal : Refusal) (old new : WorkState D)
     → FlushRefused (Runs tells size contents faults asked blocks) geometry refusal old new → refusal ≡ Range → ⊥
 flush_never_range tells size contents faults asked blocks geometry refusal old new f e = elim f [
   | inl refused ↦
-      let ended = refused.1.2.ended in
+      let ended = refused.1.ended in
       no_range (flush_of geometry None) ended.steps (subst (λ (x : Refusal). GaveCause (flush_of geometry None) x ended.steps) e (refuses_for_cause (flush_of geometry None) ended.steps refusal ended.run))
   | inr unbegun ↦ let memory = unbegun.0 in cc
 ]
 
-pub durably_never_outside : {D : Type 0} (came : Option Refusal → Extent → Hand D × List Content → Hand D × List Content → Type 0) (tells : Type 0) (size : D → ℕ) (contents : D → List History) (faults : D → ℕ) (asked : List Order → DeskTold)
+pub durably_never_outside : {D : Type 0} (came : Option Refusal → Extent → Hand D × List Content → Hand D × List Content → Type 0) (tells : Type 0) (size : D → ℕ) (contents : D → List History) (faults : D → ℕ) (asked : List Order → ShareTold)
     (geometry : Geometry) (first : ℕ) (stopped : Stopped) (old : Hand D) (from : List Content) (new : WorkState D)
     → StoppedDurably came (FlushRefused (Runs tells size contents faults asked geometry.origin_blocks) geometry) geometry first stopped old from new → stopped.refusal ≡ Range → IsInside first (length from) (geometry.block * geometry.origin_blocks) → ⊥
 durably_never_outside came tells size contents faults asked geometry first stopped old from new s e inside = elim s [

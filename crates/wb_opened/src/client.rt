@@ -3,7 +3,7 @@
 ghost use Rattle.std.specs.Prelude.{◌≡◌, ◌*◌, [], IfErr, length};
 ghost use Rattle.wb_opened.specs.Deeds.{ClientDid, ClientWorked};
 ghost use Rattle.wb_target.specs.Messages.{MessageDid};
-ghost use Rattle.wb_target.specs.Works.{WasAsked};
+ghost use Rattle.wb_target.specs.Works.{AskedSharing, WasAsked};
 ghost use Rattle.wb_target.specs.Told.{WereSettled, HadTick, WasNext};
 ghost use Rattle.wb_opened.specs.Inside.{IsInside};
 
@@ -17,9 +17,9 @@ use wb_types::{Content, Geometry, Message, Refusal, Sector};
 impl<'t, D: Disk + Drop, P: Policy> Served for Client<'t, D, P> {
     ghost sizes = { λ client. client.port.geometry };
 
-    ghost did = { ClientDid D.tells D.size D.contents D.faults (WasAsked P.with_entry P.without_entry) (WereSettled P.ordered P.settled) (HadTick P.cleaned P.ticked) (WasNext P) (MessageDid P.with_setting (WasAsked P.with_entry P.without_entry [])) };
+    ghost did = { ClientDid D.tells D.size D.contents D.faults (AskedSharing P.with_entry P.without_entry) (WereSettled P.ordered P.settled) (HadTick P.cleaned P.ticked) (WasNext P) (MessageDid P.with_setting (WasAsked P.with_entry P.without_entry [])) };
 
-    ghost worked = { λ {G} answers gate. ClientWorked D.tells D.size D.contents D.faults (WasAsked P.with_entry P.without_entry) (WasNext P) answers gate };
+    ghost worked = { λ {G} answers gate. ClientWorked D.tells D.size D.contents D.faults (AskedSharing P.with_entry P.without_entry) (WasNext P) answers gate };
 
     fn geometry(&self) -> Geometry {
         self.port.geometry

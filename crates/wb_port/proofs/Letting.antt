@@ -5,6 +5,7 @@ use Rattle.wb_words.specs.declared.step.CellStep.TheVariants.{Release, SetFailed
 use Rattle.wb_tasks.specs.Tables.{BlockJob, Reading, Writing, Displacing, Invalidating, Migrating, OnBlock}
 use Rattle.wb_tasks.specs.Plan.{Plan, after, refused, after_fault_of, Fits}
 use Rattle.wb_tasks.specs.Run.{IsRunOf}
+use Rattle.wb_tasks.specs.declared.step.DeskStep.TheVariants.{BreakCommit}
 use Rattle.wb_tasks.specs.declared.step.DeviceStep.{DeviceStep}
 use Rattle.wb_tasks.specs.declared.step.DeviceStep.TheVariants.{Read, Write, Sync, ReadMetadata, WriteNode, WriteRoot}
 use Rattle.wb_tasks.specs.declared.step.Answer.TheVariants.{Done as Finished, Refused as Refuses}
@@ -15,11 +16,12 @@ use Rattle.wb_tasks.specs.declared.step.Got.TheVariants.{Done}
 use Rattle.wb_tasks.proofs.Driving.{no_result}
 use Rattle.wb_port.specs.Requests.{IsReadOrWrite}
 
--- what a request does after a fault: it gives its block back, or sets the failed bit
+-- what is done after a fault: a block is given back, or the failed bit is set, and the commits are broken
 abbrev pub AreLettingGo : List Want → Type 0
 AreLettingGo [] = Unit {0}
 AreLettingGo (Cell (Release access block) ∷ ws) = AreLettingGo ws
 AreLettingGo (Cell SetFailed ∷ ws) = AreLettingGo ws
+AreLettingGo (Desk BreakCommit ∷ ws) = AreLettingGo ws
 AreLettingGo (w ∷ ws) = ⊥
 
 pub lets_go_after : (job : BlockJob) (step : DeviceStep) → IsReadOrWrite job → AreLettingGo (after_fault_of (OnBlock job) step)
@@ -37,8 +39,10 @@ lets_go_after job WriteRoot q = tt
 only_done : (w : Want) (ws : List Want) (g : Got) → AreLettingGo (w ∷ ws) → Fits w g → (g ≡ Done) × AreLettingGo ws
 only_done (Cell (Release access block)) ws Done l f = (refl, l)
 only_done (Cell SetFailed) ws Done l f = (refl, l)
+only_done (Desk BreakCommit) ws Done l f = (refl, l)
 only_done (Cell (Release access block)) ws g l f = absurd f
 only_done (Cell SetFailed) ws g l f = absurd f
+only_done (Desk BreakCommit) ws g l f = absurd f
 only_done w ws g l f = absurd l
 
 no_answer : (w : Want) (ws : List Want) → AreLettingGo (w ∷ ws) → w ≡ End Finished → ⊥

@@ -25,14 +25,14 @@ use Rattle.wb_policy.specs.declared.order.Order.{Order}
 use Rattle.wb_policy.specs.declared.order.Order.TheVariants.{Replace as ReplaceOrder}
 use Rattle.wb_desk.specs.Desks.{DeskState}
 use Rattle.wb_desk.specs.Calls.{reserved}
-use Rattle.wb_desk.specs.Commits.{commit_begun}
+use Rattle.wb_desk.specs.Commits.{commit_begun, commit_broken}
 use Rattle.wb_desk.specs.Entries.{is_replacement}
 use Rattle.wb_desk.specs.Opening.{opened}
 use Rattle.wb_tasks.specs.Plan.{Plan, table, after, device_of}
 use Rattle.wb_tasks.specs.declared.step.Answer.TheVariants.{Done as Finished}
 use Rattle.wb_tasks.specs.declared.step.DeviceStep.{DeviceStep}
 use Rattle.wb_tasks.specs.declared.step.DeviceStep.TheVariants.{Read as ReadExtent, Write as WriteExtent, Sync, ReadMetadata, WriteNode, WriteRoot}
-use Rattle.wb_tasks.specs.declared.step.DeskStep.TheVariants.{Map, Unmap, ReleaseOrder, BeginCommit, EndCommit}
+use Rattle.wb_tasks.specs.declared.step.DeskStep.TheVariants.{Map, Unmap, ReleaseOrder, Arrive, Ask, BeginCommit, EndCommit, BreakCommit}
 use Rattle.wb_tasks.specs.declared.step.Want.{Want}
 use Rattle.wb_tasks.specs.declared.step.Want.TheVariants.{Cell, Device, Desk, End}
 use Rattle.wb_tasks.specs.declared.step.Got.{Got}
@@ -42,6 +42,8 @@ use Rattle.wb_devices.specs.declared.devices.Devices.{Devices}
 use Rattle.wb_devices.specs.Moving.{device_in}
 use Rattle.wb_stage.specs.Asking.{ended, is_of}
 use Rattle.wb_stage.specs.Seen.{seen_after}
+use Rattle.wb_stage.specs.Sharing.{share_then}
+use Rattle.wb_stage.specs.declared.share.Share.{Share}
 use Rattle.wb_promise.specs.declared.job.Job.{Job}
 use Rattle.wb_promise.specs.declared.job.Job.TheVariants.{Write, Flush, Suspend, Open, Migrate, Replace}
 use Rattle.wb_promise.specs.declared.event.Event.{Event}
@@ -112,7 +114,9 @@ commit_then phase old (Device (Sync Metadata)) got chosen = led old got
 commit_then phase old (Device (WriteNode number)) got chosen = led old got
 commit_then phase old (Device WriteRoot) got chosen = led old got
 commit_then phase old (Device (ReadMetadata left)) got chosen = reached_commit chosen old
-commit_then phase old (Desk (BeginCommit clean most)) got chosen = begun_commit chosen old
+commit_then phase old (Desk (Arrive most)) got chosen = begun_commit chosen old
+commit_then phase old (Desk (Ask most)) got chosen = begun_commit chosen old
+commit_then phase old (Desk (BeginCommit most)) got chosen = begun_commit chosen old
 commit_then phase old (Desk EndCommit) got chosen = None
 commit_then phase old (End answer) got chosen = answered_commit phase old
 commit_then phase old next got chosen = old
@@ -131,8 +135,11 @@ abbrev pub desk_then : {P A : Type 0} → DeskState P → Want → Chosen P A �
 desk_then desk (Desk (Map b c)) chosen = asked_desk chosen desk
 desk_then desk (Desk (Unmap b)) chosen = asked_desk chosen desk
 desk_then desk (Desk (ReleaseOrder b)) chosen = asked_desk chosen desk
-desk_then desk (Desk (BeginCommit clean most)) chosen = begun_desk chosen desk
+desk_then desk (Desk (Arrive most)) chosen = begun_desk chosen desk
+desk_then desk (Desk (Ask most)) chosen = begun_desk chosen desk
+desk_then desk (Desk (BeginCommit most)) chosen = begun_desk chosen desk
 desk_then desk (Desk EndCommit) chosen = ended desk
+desk_then desk (Desk BreakCommit) chosen = commit_broken desk
 desk_then desk next chosen = desk
 
 abbrev pub words_then : Words → Want → Words
@@ -274,6 +281,11 @@ abbrev pub seen_then : List Bool → Want → Got → Job → List Bool
 seen_then seen next got Suspend = seen_after next got seen
 seen_then seen next got job = seen
 
+-- what a flush has of the commits that others lead, once it has arrived or asked
+abbrev pub share_by : {P A : Type 0} → Phase P A → Share → Want → Got → Share
+share_by (Stands t) share (Desk step) got = share_then t.desk share step got
+share_by phase share next got = share
+
 abbrev pub actor_then : {P A : Type 0} → Shape → Phase P A → Devices (List History) → Actor → Want → Got → Actor
 actor_then shape phase devices x next got = record {
   task = task_then x.task next got;
@@ -282,6 +294,7 @@ actor_then shape phase devices x next got = record {
   awaiting = awaiting_then x.orders x.awaiting (job_of x.task) next got;
   buffer = buffer_then devices x.buffer next got (job_of x.task);
   seen = seen_then x.seen next got (job_of x.task);
+  share = share_by phase x.share next got;
 }
 
 -- nobody has a task
@@ -338,6 +351,7 @@ given shape mode x job chosen = record x {
   task = Some (begun_as job, table (task_job shape mode x.awaiting job (cut_of chosen) (looks_of chosen)));
   orders = orders_given x.orders job chosen;
   seen = unseen shape job x.seen;
+  share = x.share;
 }
 
 -- An opening drops the target that has failed, and whatever anybody was at.

@@ -35,6 +35,7 @@ use Rattle.wb_tree.specs.Edits.{IsChangedAt}
 use Rattle.wb_desk.specs.Desks.{DeskState, MayReserve, holdings}
 use Rattle.wb_desk.specs.Entries.{MayMap, entry_of, mapped}
 use Rattle.wb_desk.specs.Commits.{HasBegun, IsBeginRefused, commit_begun}
+use Rattle.wb_desk.specs.Sharing.{IsLeadRefused}
 use Rattle.wb_tasks.specs.Tables.{BlockJob, TaskJob, Reading, Writing, Displacing, Invalidating, Migrating, OnBlock, Flushing, Suspending, Opening, BlockRange, whole_block}
 use Rattle.wb_tasks.specs.declared.step.Migration.{Migration}
 use Rattle.wb_tasks.specs.declared.step.Migration.TheVariants.{Promote, Demote, Clean}
@@ -44,17 +45,19 @@ use Rattle.wb_words.specs.Effects.{result_of}
 use Rattle.wb_tasks.specs.declared.step.Answer.TheVariants.{Done as Finished}
 use Rattle.wb_tasks.specs.declared.step.DeviceStep.{DeviceStep}
 use Rattle.wb_tasks.specs.declared.step.DeviceStep.TheVariants.{Read as ReadExtent, Write as WriteExtent, Sync, ReadMetadata, WriteNode, WriteRoot}
-use Rattle.wb_tasks.specs.declared.step.DeskStep.TheVariants.{Map, Unmap, ReleaseOrder, BeginCommit, EndCommit}
+use Rattle.wb_tasks.specs.declared.step.DeskStep.TheVariants.{Map, Unmap, ReleaseOrder, Arrive, Ask, BeginCommit, EndCommit, BreakCommit}
 use Rattle.wb_tasks.specs.declared.step.Want.{Want}
 use Rattle.wb_tasks.specs.declared.step.Want.TheVariants.{Cell, Device, Desk, End}
 use Rattle.wb_tasks.specs.declared.step.Got.{Got}
-use Rattle.wb_tasks.specs.declared.step.Got.TheVariants.{Done, Fault, Refused as GotRefused, Began}
+use Rattle.wb_tasks.specs.declared.step.Got.TheVariants.{Done, Fault, Refused as GotRefused, Began, Ticket, Served}
 use Rattle.wb_devices.specs.declared.running.RunningCommit.{RunningCommit}
 use Rattle.wb_devices.specs.declared.devices.Devices.{Devices}
 use Rattle.wb_devices.specs.Moving.{device_in}
 use Rattle.wb_stage.specs.Asking.{DidRelease, DidUnmap}
 use Rattle.wb_devices.specs.Committing.{goes_on}
 use Rattle.wb_stage.specs.Stages.{is_all_done}
+use Rattle.wb_stage.specs.Sharing.{IsCovered, MustWait}
+use Rattle.wb_stage.specs.declared.share.Share.{Share}
 use Rattle.wb_devices.specs.Opened.{got_of_refusal}
 use Rattle.wb_devices.specs.Clean.{HasComeIn}
 use Rattle.wb_promise.specs.declared.job.Job.{Job}
@@ -213,10 +216,19 @@ pub record MayStop (choice : Choice) (devices : Devices (List History)) : Type 0
   pub cache : Applies Cache choice devices.cache
   pub origin : Applies Origin choice devices.origin
 
+-- this is next, and has to wait
+abbrev pub Awaits : {P : Type 0} → DeskState P → Share → Want → Type 0
+Awaits desk share (Desk (Ask most)) = MustWait desk share
+Awaits desk share next = ⊥
+
+-- the actor is at a flush that has to wait for a commit which another one leads
+abbrev pub IsWaiting : {P A : Type 0} → State P A → ℕ → Type 0
+IsWaiting w a = OnTask w a (λ x job s. OfTarget w.phase (λ t. Awaits t.desk x.share (want s)))
+
 -- An event that doesn't apply. It is skipped, and no other is. Before a suspend has answered nothing starts.
 abbrev pub DoesNotApply : {P A : Type 0} → State P A → Event → Type 0
 DoesNotApply w (Start a job) = (slice_get w.actors a ≡ None) ⊎ HasTask w a ⊎ IsSuspending w ⊎ IsOutOfPlace w.phase job
-DoesNotApply w (Step a) = ¬ HasTask w a
+DoesNotApply w (Step a) = (¬ HasTask w a) ⊎ IsWaiting w a
 DoesNotApply w (FaultStep a choice) = ¬ AtWork w a (λ job s. MayFailAt w.devices choice (want s))
 DoesNotApply w (Stop choice) = ¬ MayStop choice w.devices
 
@@ -275,6 +287,22 @@ DoesBegin {P} seen most desk (Began nodes) (Commits commit tree) = (nodes ≤ mo
 DoesBegin seen most desk (GotRefused refusal) Plain = IsBeginRefused desk refusal
 DoesBegin seen most desk got chosen = ⊥
 
+-- A commit begins that a flush leads, unless one was broken; or the desk refuses it.
+abbrev pub DoesLead : {P A : Type 0} → ℕ → DeskState P → Got → Chosen P A → Type 0
+DoesLead {P} {A} most desk (Began nodes) (Commits commit tree) = (desk.broken ≡ false) × DoesBegin {P = P} {A = A} None most desk (Began nodes) (Commits commit tree)
+DoesLead most desk (GotRefused refusal) Plain = IsLeadRefused desk refusal
+DoesLead most desk got chosen = ⊥
+
+-- A flush that arrives gets a ticket where a commit runs, and else leads one.
+abbrev pub DoesArrive : {P A : Type 0} → ℕ → DeskState P → Got → Chosen P A → Type 0
+DoesArrive most desk Ticket Plain = (desk.broken ≡ false) × (desk.space.committing ≡ true)
+DoesArrive most desk got chosen = DoesLead most desk got chosen
+
+-- One that asks with a ticket is served where a commit has ended that covers it, and else leads one.
+abbrev pub DoesAsk : {P A : Type 0} → Share → ℕ → DeskState P → Got → Chosen P A → Type 0
+DoesAsk share most desk Served Plain = IsCovered desk share
+DoesAsk share most desk got chosen = (¬ IsCovered desk share) × DoesLead most desk got chosen
+
 -- A block that an order brings gets its entry; or the desk has no memory for that, and stays.
 abbrev pub DoesMap : {P A : Type 0} → OBlock → CBlock → DeskState P → Got → Chosen P A → Type 0
 DoesMap b c desk Done (Asks new) = MayMap desk b c × IsChangedAt desk.tree new.tree c.0 (Some (entry_of b)) × (new ≡ mapped desk c new.tree new.policy)
@@ -316,9 +344,11 @@ Gives shape w x job (Device (Sync device)) got read chosen = IsPlain read chosen
 Gives shape w x job (Device (WriteNode number)) got read chosen = (read ≡ []) × (got ≡ Done) × DoesPut w.commit (WriteNode number) w.devices.metadata chosen
 Gives shape w x job (Device WriteRoot) got read chosen = (read ≡ []) × (got ≡ Done) × DoesPut w.commit WriteRoot w.devices.metadata chosen
 Gives shape w x job (Device (ReadMetadata left)) got read chosen = (read ≡ []) × (w.commit ≡ None) × OfReading w.phase (λ mode was. DoesRead mode shape.geometry left was w.devices.metadata w.commit got chosen)
-Gives shape w x Suspend (Desk (BeginCommit clean most)) got read chosen = (read ≡ []) × (clean ≡ true) × OfTarget w.phase (λ t. DoesBegin (Some x.seen) most t.desk got chosen)
-Gives shape w x job (Desk (BeginCommit clean most)) got read chosen = (read ≡ []) × (clean ≡ false) × OfTarget w.phase (λ t. DoesBegin None most t.desk got chosen)
+Gives shape w x job (Desk (Arrive most)) got read chosen = (read ≡ []) × OfTarget w.phase (λ t. DoesArrive most t.desk got chosen)
+Gives shape w x job (Desk (Ask most)) got read chosen = (read ≡ []) × OfTarget w.phase (λ t. DoesAsk x.share most t.desk got chosen)
+Gives shape w x job (Desk (BeginCommit most)) got read chosen = (read ≡ []) × OfTarget w.phase (λ t. DoesBegin (Some x.seen) most t.desk got chosen)
 Gives shape w x job (Desk EndCommit) got read chosen = IsPlain read chosen × (got ≡ Done) × OfTarget w.phase (λ t. is_all_done w.commit ≡ true)
+Gives shape w x job (Desk BreakCommit) got read chosen = IsPlain read chosen × (got ≡ Done) × OfTarget w.phase (λ t. Unit {0})
 Gives shape w x (Open mode) (End Finished) got read chosen = (read ≡ []) × (got ≡ Done) × DoesOpen w.phase w.commit chosen
 Gives shape w x job (End answer) got read chosen = IsPlain read chosen × (got ≡ Done)
 Gives shape w x job next got read chosen = ⊥

@@ -16,6 +16,8 @@ use Rattle.wb_desk.specs.Desks.{DeskState}
 use Rattle.wb_tasks.specs.Plan.{Plan}
 use Rattle.wb_devices.specs.declared.devices.Devices.{Devices}
 use Rattle.wb_devices.specs.declared.running.RunningCommit.{RunningCommit}
+use Rattle.wb_stage.specs.declared.share.Share.{Share}
+use Rattle.wb_stage.specs.declared.share.Share.TheVariants.{Nothing}
 use Rattle.wb_promise.specs.declared.job.Job.{Job}
 
 -- the sizes of the devices, how many sectors orders may ask for at once, and how many actors there are
@@ -26,8 +28,8 @@ pub record Shape : Type 0 where
 
 -- What an actor is at, and what is left of it, if it is at anything; what it knows of the shared words; the orders that it has:
 -- that of the migration that it is at, and those of migrations that it may start or start again; those of replacements whose block has left,
--- and which wait for a flush of this actor; the contents that a migration has read last, which it writes next; and for each cache block
--- whether a suspend has seen its copy dirty.
+-- and which wait for a flush of this actor; the contents that a migration has read last, which it writes next; for each cache block
+-- whether a suspend has seen its copy dirty; and what a flush has of the commits that others lead.
 pub record Actor : Type 0 where
   pub task : Option (Job × Plan)
   pub card : Card
@@ -35,6 +37,7 @@ pub record Actor : Type 0 where
   pub awaiting : List Order
   pub buffer : List Bytes
   pub seen : List Bool
+  pub share : Share
 
 -- what stands from an opening's answer to a crash or the next opening's start
 pub record Target (P : Type 0) : Type 0 where
@@ -57,7 +60,7 @@ pub record State (P A : Type 0) : Type 0 where
 
 -- an actor with nothing to do, and with no order
 abbrev pub resting : Actor
-resting = record { task = None; card = blank_card; orders = []; awaiting = []; buffer = []; seen = [] }
+resting = record { task = None; card = blank_card; orders = []; awaiting = []; buffer = []; seen = []; share = Nothing }
 
 abbrev pub block_size : Shape → ℕ
 block_size shape = shape.geometry.block

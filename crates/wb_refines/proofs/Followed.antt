@@ -32,7 +32,7 @@ use Rattle.wb_tasks.specs.declared.step.DeskStep.TheVariants.{ReleaseOrder}
 use Rattle.wb_tasks.specs.declared.step.Migration.TheVariants.{Promote, Demote, Clean}
 use Rattle.wb_tasks.specs.declared.step.Want.{Want}
 use Rattle.wb_tasks.specs.declared.step.Want.TheVariants.{Cell, Desk}
-use Rattle.wb_link.specs.Tables.{Done, Lost, Flag, Seen, Look_fail, Look_seal, abstract_acquire, abstract_work as work_there, Want as AbstractWant, Answer as AbstractAnswer, Busy as AnsweredBusy, Failed as AnsweredFailed}
+use Rattle.wb_link.specs.Tables.{Done, Lost, Flag, Seen, Look_fail, Look_seal, Set_failed, abstract_acquire, abstract_work as work_there, Want as AbstractWant, Answer as AbstractAnswer, Busy as AnsweredBusy, Failed as AnsweredFailed}
 use Rattle.wb_link.specs.World.{Shared, Held, Nothing, AbstractActor}
 use Rattle.wb_refines.specs.Translation.{number_of, cell_wants}
 use Rattle.wb_refines.specs.Going.{WinsBeside}
@@ -195,7 +195,7 @@ module _ (role : Role) (job : BlockJob) (plays : Plays role job) (actors : List 
 
   -- the failed bit is set, and what is owned is kept
   fails : (refusal : Refusal) (failures suspensions : ℕ) → answer ≡ Refuses refusal → words.fail ≡ fail_word failures suspensions → Goal SetFailed []
-  fails refusal f z is e = by (plays.steps SetFailed [] ∙ plays.breaks) (record {
+  fails refusal f z is e = by (plays.steps SetFailed [] ∙ ap (λ (later : List AbstractWant). Set_failed ∷ later) plays.ends) (record {
     results = Done ∷ [];
     may = (tt, tt, tt);
     quiet = (tt, tt);

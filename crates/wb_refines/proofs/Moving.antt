@@ -1,6 +1,6 @@
 -- Each step of a task on an extent is followed.
 use Rattle.std.proofs.Common.{◌≡◌, ◌≤◌, ◌+◌, ◌*◌, ◌%◌, ◌∙◌, ℕ, Bool, true, false, List, ◌∷◌, Some, None, refl, sym, ap, subst, arith, length, map, Option}
-use Rattle.wb_tasks.specs.declared.step.DeskStep.TheVariants.{Map, Unmap, ReleaseOrder, BeginCommit, EndCommit}
+use Rattle.wb_tasks.specs.declared.step.DeskStep.TheVariants.{Map, Unmap, ReleaseOrder, Arrive, Ask, BeginCommit, EndCommit, BreakCommit}
 use Rattle.wb_types.specs.declared.number.CBlock.{CBlock}
 use Rattle.wb_types.specs.declared.extent.Extent.{Extent}
 use Rattle.wb_types.specs.declared.mode.Dev.{Dev}
@@ -26,8 +26,11 @@ unmaps_later (Some c) next later m = tt
 unmaps_later None (Desk (Unmap block)) later m = absurd m
 unmaps_later None (Desk (Map block place)) later m = m
 unmaps_later None (Desk (ReleaseOrder block)) later m = m
-unmaps_later None (Desk (BeginCommit clean most)) later m = m
+unmaps_later None (Desk (Arrive most)) later m = m
+unmaps_later None (Desk (Ask most)) later m = m
+unmaps_later None (Desk (BeginCommit most)) later m = m
 unmaps_later None (Desk EndCommit) later m = m
+unmaps_later None (Desk BreakCommit) later m = m
 unmaps_later None (Cell step) later m = m
 unmaps_later None (Device step) later m = m
 unmaps_later None (End answer) later m = m

@@ -22,10 +22,10 @@ use Rattle.wb_tasks.specs.declared.step.Answer.TheVariants.{Done as Finished, Re
 use Rattle.wb_tasks.specs.declared.step.DeviceStep.{DeviceStep}
 use Rattle.wb_tasks.specs.declared.step.DeviceStep.TheVariants.{Read, Write, Sync, WriteRoot}
 use Rattle.wb_tasks.specs.declared.step.DeskStep.{DeskStep}
-use Rattle.wb_tasks.specs.declared.step.DeskStep.TheVariants.{BeginCommit, EndCommit, Unmap}
+use Rattle.wb_tasks.specs.declared.step.DeskStep.TheVariants.{Arrive, Ask, BeginCommit, EndCommit, BreakCommit, Unmap}
 use Rattle.wb_tasks.specs.declared.step.Want.{Want}
 use Rattle.wb_tasks.specs.declared.step.Want.TheVariants.{Cell, Device, Desk, End}
-use Rattle.wb_link.specs.Tables.{Script, Read_all, Write_all, abstract_acquire, breaking, Job as AbstractJob, Reading as ReadingAt, Writing as WritingAt, Writing_through as WritingThroughAt, Invalidating as InvalidatingAt, Flushing as FlushingFor, Suspending as SuspendingThere, Want as AbstractWant, Look_fail, Unmap_plain, Set_seal, Set_suspended, Leave, Disown, Sync_cache_device, Sync_origin_device, Put_root, Sync_metadata, End_running, Answer as AbstractAnswer, Finished as AnsweredDone, Busy as AnsweredBusy, Failed as AnsweredFailed, Io as AnsweredIo}
+use Rattle.wb_link.specs.Tables.{Script, Read_all, Write_all, abstract_acquire, abstract_later_steps, Begin, Break_commits, Set_failed, Job as AbstractJob, Reading as ReadingAt, Writing as WritingAt, Writing_through as WritingThroughAt, Invalidating as InvalidatingAt, Flushing as FlushingFor, Suspending as SuspendingThere, Want as AbstractWant, Look_fail, Unmap_plain, Set_seal, Set_suspended, Leave, Disown, Sync_cache_device, Sync_origin_device, Put_root, Sync_metadata, End_running, Answer as AbstractAnswer, Finished as AnsweredDone, Busy as AnsweredBusy, Failed as AnsweredFailed, Io as AnsweredIo}
 
 -- the number of the cache block in which a block stands
 abbrev pub number_of : Option CBlock → Option ℕ
@@ -86,7 +86,7 @@ cell_wants job (Release Owned block) rest = Disown block.0 ∷ rest
 cell_wants job (Seal block place dirty) rest = Set_seal block.0 (record { location = number_of place; dirty = dirty }) ∷ rest
 cell_wants job (Finish block) rest = rest
 cell_wants job (Count kind) rest = rest
-cell_wants job SetFailed rest = breaking job
+cell_wants job SetFailed rest = Set_failed ∷ rest
 cell_wants job SetSuspended rest = Set_suspended ∷ rest
 
 -- An extent is one step there too. Of a commit's steps on metadata the root and the last sync are there; the latter stands
@@ -105,8 +105,11 @@ unmapping_at block None rest = rest
 unmapping_at block (Some c) rest = Unmap_plain block c.0 ∷ rest
 
 abbrev pub desk_wants : Option CBlock → AbstractJob → DeskStep → List AbstractWant → List AbstractWant
-desk_wants place job (BeginCommit clean most) rest = abstract_acquire job
+desk_wants place job (Arrive most) rest = abstract_acquire job
+desk_wants place job (Ask most) rest = abstract_acquire job
+desk_wants place job (BeginCommit most) rest = abstract_acquire job
 desk_wants place job EndCommit rest = Sync_metadata ∷ End_running ∷ rest
+desk_wants place job BreakCommit rest = Break_commits ∷ rest
 desk_wants place job (Unmap block) rest = unmapping_at block.0 place rest
 desk_wants place job step rest = rest
 
@@ -140,3 +143,8 @@ script_for size content place plan = record {
   steps = wants_of size place (job_for size content plan.job) plan.steps;
   answer = answer_for (job_for size content plan.job) plan.answer;
 }
+
+-- the same with the ticket of a flush that asks with one
+abbrev pub with_ticket : Option ℕ → Script → Script
+with_ticket None script = script
+with_ticket (Some number) script = record script { steps = Begin (Some number) ∷ abstract_later_steps script.steps }

@@ -116,7 +116,7 @@ impl Player {
         }
     }
 
-    /// So many steps of an actor, fewer where it answers or has none.
+    /// So many steps of an actor, fewer where it answers, has none, or has to wait for a commit that another leads.
     fn steps(&mut self, actor: u64, steps: u64, text: &mut String) -> Result<(), Refusal> {
         for _ in 0..steps {
             if !self.step(actor, text)? {

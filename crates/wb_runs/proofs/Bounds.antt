@@ -9,7 +9,7 @@ use Rattle.wb_types.specs.declared.extent.Extent.{Extent}
 use Rattle.wb_types.specs.declared.number.OBlock.{OBlock}
 use Rattle.wb_types.specs.declared.number.CBlock.{CBlock}
 use Rattle.wb_types.specs.declared.refusal.Refusal.{Refusal}
-use Rattle.wb_types.specs.declared.refusal.Refusal.TheVariants.{Busy}
+use Rattle.wb_types.specs.declared.refusal.Refusal.TheVariants.{Failed, Busy}
 use Rattle.wb_words.specs.declared.word.Word.TheVariants.{Cell as LockWord, Seal as SealWord, Number, Count as CountWord, Fail}
 use Rattle.wb_words.specs.declared.word.Kind.TheVariants.{ReadHit, ReadMiss, WriteHit, WriteMiss}
 use Rattle.wb_words.specs.declared.word.Access.TheVariants.{Shared, Owned}
@@ -21,15 +21,15 @@ use Rattle.wb_tasks.specs.declared.step.Migration.{Migration}
 use Rattle.wb_tasks.specs.declared.step.Migration.TheVariants.{Promote, Demote, Clean}
 use Rattle.wb_tasks.specs.Tables.{BlockRange, BlockJob, Reading, Writing, Displacing, Invalidating, Migrating, TaskJob, OnBlock, Flushing, Suspending, Opening, cache_extent, place_read, read_step, write_step, read_count, write_count, copies, ending, work}
 use Rattle.wb_tasks.proofs.Working.{work_has}
-use Rattle.wb_tasks.specs.Plan.{Plan, want, after, after_look, after_fault, after_refusal, after_more, node_writes, root_steps, begun_steps, steps_seeing, release_orders, lets_go, gives_up, may_take, exchange, is_worn, gives_back, work_of, seal_looks}
+use Rattle.wb_tasks.specs.Plan.{Plan, want, after, after_look, after_fault, after_refusal, after_more, after_ticket, node_writes, root_steps, begun_steps, steps_seeing, release_orders, lets_go, gives_up, may_take, exchange, is_worn, gives_back, work_of, seal_looks}
 use Rattle.wb_tasks.specs.declared.step.Answer.{Answer}
 use Rattle.wb_tasks.specs.declared.step.DeviceStep.{DeviceStep}
 use Rattle.wb_tasks.specs.declared.step.DeviceStep.TheVariants.{Read as ReadExtent, Write as WriteExtent, Sync, ReadMetadata, WriteNode, WriteRoot}
-use Rattle.wb_tasks.specs.declared.step.DeskStep.TheVariants.{Map, Unmap, ReleaseOrder, BeginCommit, EndCommit}
+use Rattle.wb_tasks.specs.declared.step.DeskStep.TheVariants.{Map, Unmap, ReleaseOrder, Arrive, Ask, BeginCommit, EndCommit, BreakCommit}
 use Rattle.wb_tasks.specs.declared.step.Want.{Want}
 use Rattle.wb_tasks.specs.declared.step.Want.TheVariants.{Cell, Device, Desk, End}
 use Rattle.wb_tasks.specs.declared.step.Got.{Got}
-use Rattle.wb_tasks.specs.declared.step.Got.TheVariants.{Begin, Done, Word, Lost, Fault, Refused as GotRefused, Began, More}
+use Rattle.wb_tasks.specs.declared.step.Got.TheVariants.{Begin, Done, Word, Lost, Fault, Refused as GotRefused, Began, Ticket, Served, More}
 use Rattle.wb_promise.specs.States.{Shape, block_size, sector_count, cache_sector_count}
 use Rattle.wb_promise.specs.Effects.{sealing_steps, words_by}
 use Rattle.wb_runs.specs.Inside.{StepInside}
@@ -230,7 +230,7 @@ module _ (shape : Shape) where
   work_inside (Opening left) seal j s = tt
 
   -- what a suspend has to look at
-  pub looks_inside : (blocks : List OBlock) (most : ℕ) → AllInside shape (seal_looks blocks ++ Desk (BeginCommit true most) ∷ [])
+  pub looks_inside : (blocks : List OBlock) (most : ℕ) → AllInside shape (seal_looks blocks ++ Desk (BeginCommit most) ∷ [])
   looks_inside [] most = (tt, tt)
   looks_inside (b ∷ bs) most = (tt, looks_inside bs most)
 
@@ -291,12 +291,12 @@ module _ (shape : Shape) where
   fault_inside (OnBlock job) (ReadMetadata k) = (tt, tt)
   fault_inside (OnBlock job) (WriteNode k) = (tt, tt)
   fault_inside (OnBlock job) WriteRoot = (tt, tt)
-  fault_inside (Flushing serves most) step = (tt, tt)
-  fault_inside (Suspending blocks most) step = (tt, tt)
+  fault_inside (Flushing serves most) step = (tt, (tt, tt))
+  fault_inside (Suspending blocks most) step = (tt, (tt, tt))
   fault_inside (Opening left) step = tt
 
-  begin_refused : (job : TaskJob) (refusal : Refusal) → AllInside shape (Rattle.wb_tasks.specs.Plan.lets_go_unless_busy job refusal)
-  begin_refused job Busy = tt
+  begin_refused : (job : TaskJob) (refusal : Refusal) → AllInside shape (Rattle.wb_tasks.specs.Plan.lets_go_unless_failed job refusal)
+  begin_refused job Failed = tt
   begin_refused job refusal = lets_go_inside job
 
   -- after a look at a word
@@ -336,8 +336,11 @@ module _ (shape : Shape) where
   fault_of job (End end) ws answer a = a
 
   refusal_of : (job : TaskJob) (w : Want) (ws : List Want) (answer : Answer) (refusal : Refusal) → AllInside shape (w ∷ ws) → AllInside shape (after_refusal (plan_of job (w ∷ ws) answer) w refusal).steps
-  refusal_of job (Desk (BeginCommit clean most)) ws answer refusal a = begin_refused job refusal
+  refusal_of job (Desk (Arrive most)) ws answer refusal a = begin_refused job refusal
+  refusal_of job (Desk (Ask most)) ws answer refusal a = begin_refused job refusal
+  refusal_of job (Desk (BeginCommit most)) ws answer refusal a = lets_go_inside job
   refusal_of job (Desk EndCommit) ws answer refusal a = lets_go_inside job
+  refusal_of job (Desk BreakCommit) ws answer refusal a = lets_go_inside job
   refusal_of job (Desk (Map b c)) ws answer refusal a = lets_go_inside job
   refusal_of job (Desk (Unmap b)) ws answer refusal a = lets_go_inside job
   refusal_of job (Desk (ReleaseOrder b)) ws answer refusal a = lets_go_inside job
@@ -356,6 +359,19 @@ module _ (shape : Shape) where
   more_of job (Desk step) ws answer a = a.1
   more_of job (End end) ws answer a = a.1
 
+  ticket_of : (job : TaskJob) (w : Want) (ws : List Want) (answer : Answer) → AllInside shape (w ∷ ws) → AllInside shape (after_ticket (plan_of job (w ∷ ws) answer) w).steps
+  ticket_of job (Desk (Arrive most)) ws answer a = (tt, tt)
+  ticket_of job (Desk (Ask most)) ws answer a = a.1
+  ticket_of job (Desk (BeginCommit most)) ws answer a = a.1
+  ticket_of job (Desk EndCommit) ws answer a = a.1
+  ticket_of job (Desk BreakCommit) ws answer a = a.1
+  ticket_of job (Desk (Map b c)) ws answer a = a.1
+  ticket_of job (Desk (Unmap b)) ws answer a = a.1
+  ticket_of job (Desk (ReleaseOrder b)) ws answer a = a.1
+  ticket_of job (Device step) ws answer a = a.1
+  ticket_of job (Cell step) ws answer a = a.1
+  ticket_of job (End end) ws answer a = a.1
+
   -- whatever a step gives, what is left is inside
   by_got : (job : TaskJob) (w : Want) (ws : List Want) (answer : Answer) (got : Got) → JobInside shape job → AllInside shape (w ∷ ws) → ((b : OBlock) (v : ℕ) → w ≡ Cell (Look (SealWord b)) → got ≡ Word v → SealInside shape.geometry.cache_blocks v) → AllInside shape (after (plan_of job (w ∷ ws) answer) got).steps
   by_got job w ws answer Begin j a s = a
@@ -365,6 +381,8 @@ module _ (shape : Shape) where
   by_got job w ws answer Fault j a s = fault_of job w ws answer a
   by_got job w ws answer (GotRefused refusal) j a s = refusal_of job w ws answer refusal a
   by_got job w ws answer (Began nodes) j a s = begun_inside job nodes
+  by_got job w ws answer Ticket j a s = ticket_of job w ws answer a
+  by_got job w ws answer Served j a s = tt
   by_got job w ws answer More j a s = more_of job w ws answer a
 
   pub inside_after : (plan : Plan) (got : Got) → JobInside shape plan.job → AllInside shape plan.steps → ((b : OBlock) (v : ℕ) → want plan ≡ Cell (Look (SealWord b)) → got ≡ Word v → SealInside shape.geometry.cache_blocks v) → ((answer : Answer) → Rattle.std.proofs.Common.◌≢◌ (want plan) (End answer)) →

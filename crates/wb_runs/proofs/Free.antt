@@ -1,4 +1,9 @@
 -- After every run every event has a happening, and whoever has a task may do its next step.
+use Rattle.std.proofs.lemmas.Bool.{cases_Bool}
+use Rattle.wb_tasks.specs.declared.step.DeskStep.TheVariants.{Map, Unmap, ReleaseOrder, Arrive, Ask, BeginCommit, EndCommit, BreakCommit}
+use Rattle.wb_tasks.specs.declared.step.Want.TheVariants.{Cell, Device, Desk, End}
+use Rattle.wb_tasks.specs.declared.step.Want.{Want}
+use Rattle.wb_stage.specs.declared.share.Share.{Share}
 use Rattle.std.proofs.Common.{Global, ◌≡◌, ◌∙◌, ◌⊎◌, inl, inr, ℕ, List, [], Option, Some, None, refl, sym, subst, arith, length, slice_get, ◌∷◌, zero, suc, ap, Contains}
 use Rattle.wb_types.specs.declared.mode.Mode.{Mode}
 use Rattle.wb_types.specs.declared.mode.Dev.{Dev}
@@ -30,7 +35,7 @@ use Rattle.wb_promise.specs.declared.event.Event.TheVariants.{Start, Step, Fault
 use Rattle.wb_promise.specs.declared.event.What.{What}
 use Rattle.wb_promise.specs.declared.event.What.TheVariants.{Skipped, Refused, Started, Stepped, Stopped}
 use Rattle.wb_promise.specs.States.{Shape, State, Actor, Target, Phase, Stands, Gone, Opens, OfTarget, mode_of, block_size, start}
-use Rattle.wb_promise.specs.Happenings.{Chosen, Plain, Cut, Orders, Happening, OfSome, OnTask, MayFailAt, DoesNotApply, Gives, Falters, KeepsMigration, KeepsReplacement, MayOrder, MigrationStarts, job_refusal, extent_refusal, block_range, write_job, orders_in, order_for, StartsAs, Looks, AreMapped, NoTaskRuns}
+use Rattle.wb_promise.specs.Happenings.{Chosen, Plain, Cut, Orders, Happening, OfSome, OnTask, MayFailAt, DoesNotApply, Gives, Falters, KeepsMigration, KeepsReplacement, MayOrder, MigrationStarts, job_refusal, extent_refusal, block_range, write_job, orders_in, order_for, StartsAs, Looks, AreMapped, NoTaskRuns, Awaits, IsWaiting}
 use Rattle.wb_promise.specs.Effects.{after_all, IsRun}
 use Rattle.wb_runs.specs.Progress.{GivesSomething}
 use Rattle.wb_runs.specs.Holding.{TaskSuits}
@@ -45,7 +50,7 @@ use Rattle.wb_runs.proofs.Making.{desk_begins}
 use Rattle.wb_runs.proofs.Applying.{may_stop, may_fail_at, out_of_place, may_order, may_replace, keeps_migration, keeps_replacement}
 use Rattle.wb_runs.proofs.Spelling.{Decided}
 use Rattle.wb_runs.proofs.Points.{FlushJob, FlushTask, OpenJob, OpenTask, Going, Flushes, Suspends}
-use Rattle.wb_runs.proofs.Giving.{CanGive, CanFalter, read_gives, write_gives, invalidation_gives, migration_gives, block_falters, flush_gives, flush_falters, open_gives, open_falters}
+use Rattle.wb_runs.proofs.Giving.{CanGive, CanFalter, read_gives, write_gives, invalidation_gives, migration_gives, block_falters, flush_gives, flush_falters, open_gives, open_falters, is_covered}
 use Rattle.wb_runs.proofs.Progressing.{Kept, run_kept, own_step}
 use Rattle.wb_types.specs.declared.entry.Entry.{Entry}
 use Rattle.wb_types.specs.declared.number.OBlock.{OBlock}
@@ -145,6 +150,29 @@ mapped_all (None ∷ es) b (suc c) m = mapped_all es b c m
 mapped_all (Some e ∷ es) b zero m = let s : e.origin.0 ≡ b.0 = cc in subst (λ (x : OBlock). Contains (e.origin ∷ mapped_in es) x) (ap (λ (n : ℕ). record { 0 = n }) s) (Contains-first e.origin (mapped_in es))
 mapped_all (Some e ∷ es) b (suc c) m = Contains-behind e.origin (mapped_in es) b (mapped_all es b c m)
 
+-- whether a step has to wait
+awaits : {P : Type 0} (desk : DeskState P) (share : Share) (next : Want) → Decided (Awaits desk share next)
+awaits desk share (Desk (Ask most)) = elim (is_covered desk share) [
+  | inl covered ↦ inr (λ m. m.uncovered covered)
+  | inr uncovered ↦ elim (cases_Bool desk.broken) [
+    | inl broken ↦ inr (λ m. absurd (let whole = m.whole in cc))
+    | inr whole ↦ elim (cases_Bool desk.space.committing) [
+      | inl runs ↦ inl (record { whole = whole; runs = runs; uncovered = uncovered })
+      | inr idle ↦ inr (λ m. absurd (let runs = m.runs in cc))
+    ]
+  ]
+]
+awaits desk share (Desk (Arrive most)) = inr (λ m. m)
+awaits desk share (Desk (BeginCommit most)) = inr (λ m. m)
+awaits desk share (Desk EndCommit) = inr (λ m. m)
+awaits desk share (Desk BreakCommit) = inr (λ m. m)
+awaits desk share (Desk (Map b c)) = inr (λ m. m)
+awaits desk share (Desk (Unmap b)) = inr (λ m. m)
+awaits desk share (Desk (ReleaseOrder b)) = inr (λ m. m)
+awaits desk share (Cell step) = inr (λ m. m)
+awaits desk share (Device step) = inr (λ m. m)
+awaits desk share (End answer) = inr (λ m. m)
+
 module _ (P A : Type 0) (shape : Shape) (policy : P) (first : ReadSteps A) (begins : sectors_read first ≡ 0) where
   -- ---- what is left of a task can go on
 
@@ -182,20 +210,24 @@ module _ (P A : Type 0) (shape : Shape) (policy : P) (first : ReadSteps A) (begi
         cases Gone known goes h = absurd h
         cases (Opens mode reading) known goes h = opens mode reading known h (subst (λ (q : Option (Job × Plan)). OpenTask reading w.commit q) k.task (goes a k.actor k.there))
 
-    steps_on : CanGive shape w k.actor k.job (want k.plan)
-    steps_on = by_phase (λ phase job plan. CanGive {P = P} {A = A} shape (At phase) k.actor job (want plan)) (λ t known leader s f. stands t known leader k.job s f claim.claim) (λ mode reading known o f. opens mode reading known k.job o f)
+    -- where its actor has not to wait
+    abbrev GoesOn : Phase P A → Plan → Type 0
+    GoesOn phase plan = ¬ OfTarget phase (λ t. Awaits t.desk k.actor.share (want plan))
+
+    steps_on : GoesOn w.phase k.plan → CanGive shape w k.actor k.job (want k.plan)
+    steps_on = by_phase (λ phase job plan. GoesOn phase plan → CanGive {P = P} {A = A} shape (At phase) k.actor job (want plan)) (λ t known leader s f goes_on. stands t known leader k.job s f claim.claim goes_on) (λ mode reading known o f goes_on. opens mode reading known k.job o f)
       where
-        stands : (t : Target P) → AtDesk shape.geometry kept.base.known.images t.desk w.commit w.devices.metadata → (leader : ℕ) → (job : Job) → IsServed job → FlushJob w.commit (a ≡ leader) job k.plan → JobClaim shape (mode_of w.phase) job k.plan claim.doing → CanGive {P = P} {A = A} shape (At (Stands t)) k.actor job (want k.plan)
-        stands t known leader (Read extent) s f c = read_gives P A shape w.devices w.commit w.actors k.actor t known.is.kept sizes extent (block_range shape (mode_of w.phase) extent c.cut) (want k.plan) (own (Reading (block_range shape (mode_of w.phase) extent c.cut)) c.is_job) inside
-        stands t known leader (Write extent content) s f c = write_gives P A shape w.devices w.commit w.actors k.actor t known.is.kept sizes known.is.sound (mode_of w.phase) extent content (block_range shape (mode_of w.phase) extent c.cut) (want k.plan) (own (write_job (mode_of w.phase) (block_range shape (mode_of w.phase) extent c.cut)) c.is_job) inside
-        stands t known leader (Invalidate block) s f c = invalidation_gives P A shape w.devices w.commit w.actors k.actor t known.is.kept sizes known.is.sound block f.0 (want k.plan) (own (Invalidating f.0) f.1)
-        stands t known leader (Migrate migration block) s f c = migration_gives P A shape w.devices w.commit w.actors k.actor t known.is.kept sizes known.is.sound migration block f.0 (want k.plan) (own (Migrating migration f.0) f.1) inside
-        stands t known leader Flush s f c = subst (λ (p : Plan). CanGive {P = P} {A = A} shape (At (Stands t)) k.actor Flush (want p)) (sym f.is)
-            (flush_gives P A shape w.devices w.commit w.actors k.actor t kept.base.known.images known f.answer (Flushes f.blocks f.most) f.point f.of f.at)
-        stands t known leader Suspend s f c = subst (λ (p : Plan). CanGive {P = P} {A = A} shape (At (Stands t)) k.actor Suspend (want p)) (sym f.is)
-            (flush_gives P A shape w.devices w.commit w.actors k.actor t kept.base.known.images known f.answer (Suspends f.blocks f.most) f.point f.of f.at)
-        stands t known leader (Open mode) s f c = absurd s
-        stands t known leader (Replace old new) s f c = absurd f
+        stands : (t : Target P) → AtDesk shape.geometry kept.base.known.images t.desk w.commit w.devices.metadata → (leader : ℕ) → (job : Job) → IsServed job → FlushJob w.commit (a ≡ leader) job k.plan → JobClaim shape (mode_of w.phase) job k.plan claim.doing → GoesOn (Stands t) k.plan → CanGive {P = P} {A = A} shape (At (Stands t)) k.actor job (want k.plan)
+        stands t known leader (Read extent) s f c goes_on = read_gives P A shape w.devices w.commit w.actors k.actor t known.is.kept sizes extent (block_range shape (mode_of w.phase) extent c.cut) (want k.plan) (own (Reading (block_range shape (mode_of w.phase) extent c.cut)) c.is_job) inside
+        stands t known leader (Write extent content) s f c goes_on = write_gives P A shape w.devices w.commit w.actors k.actor t known.is.kept sizes known.is.sound (mode_of w.phase) extent content (block_range shape (mode_of w.phase) extent c.cut) (want k.plan) (own (write_job (mode_of w.phase) (block_range shape (mode_of w.phase) extent c.cut)) c.is_job) inside
+        stands t known leader (Invalidate block) s f c goes_on = invalidation_gives P A shape w.devices w.commit w.actors k.actor t known.is.kept sizes known.is.sound block f.0 (want k.plan) (own (Invalidating f.0) f.1)
+        stands t known leader (Migrate migration block) s f c goes_on = migration_gives P A shape w.devices w.commit w.actors k.actor t known.is.kept sizes known.is.sound migration block f.0 (want k.plan) (own (Migrating migration f.0) f.1) inside
+        stands t known leader Flush s f c goes_on = subst (λ (p : Plan). CanGive {P = P} {A = A} shape (At (Stands t)) k.actor Flush (want p)) (sym f.is)
+            (flush_gives P A shape w.devices w.commit w.actors k.actor t kept.base.known.images known f.answer (Flushes f.blocks f.most) f.point f.of f.at (subst (λ (p : Plan). ¬ Awaits t.desk k.actor.share (want p)) f.is goes_on))
+        stands t known leader Suspend s f c goes_on = subst (λ (p : Plan). CanGive {P = P} {A = A} shape (At (Stands t)) k.actor Suspend (want p)) (sym f.is)
+            (flush_gives P A shape w.devices w.commit w.actors k.actor t kept.base.known.images known f.answer (Suspends f.blocks f.most) f.point f.of f.at (subst (λ (p : Plan). ¬ Awaits t.desk k.actor.share (want p)) f.is goes_on))
+        stands t known leader (Open mode) s f c goes_on = absurd s
+        stands t known leader (Replace old new) s f c goes_on = absurd f
 
         opens : (mode : Mode) (reading : Option (ReadSteps A)) → AtOpening shape.geometry kept.base.known.images reading w.commit w.devices.metadata → (job : Job) → IsOpeningJob mode job → OpenJob reading w.commit job k.plan → CanGive {P = P} {A = A} shape (At (Opens mode reading)) k.actor job (want k.plan)
         opens mode reading known (Open m') o f = subst (λ (p : Plan). CanGive {P = P} {A = A} shape (At (Opens mode reading)) k.actor (Open m') (want p)) (sym f.is)
@@ -243,8 +275,20 @@ module _ (P A : Type 0) (shape : Shape) (policy : P) (first : ReadSteps A) (begi
   heap_of (RootFound global root loader) e = global
   heap_of (AllRead state) e = absurd (omega (arith, e))
 
-  steps : (w : State P A) → Kept P A shape w → StaysInside shape w → (a : ℕ) → Tasked w a → GivesSomething shape w a
-  steps w kept stays a k = let g = steps_on w kept stays a k in record {
+  -- whether it has to wait
+  waits : (w : State P A) (a : ℕ) (k : Tasked w a) → IsWaiting w a ⊎ ((¬ IsWaiting w a) × (¬ OfTarget w.phase (λ t. Awaits t.desk k.actor.share (want k.plan))))
+  waits w a k = elim (by_phase w.phase) [
+    | inl h ↦ inl (is_at P A w a k (λ x job s. OfTarget w.phase (λ t. Awaits t.desk x.share (want s))) h)
+    | inr n ↦ inr ((λ h. n (was_at P A w a k (λ x job s. OfTarget w.phase (λ t. Awaits t.desk x.share (want s))) h)), n)
+  ]
+    where
+      by_phase : (phase : Phase P A) → Decided (OfTarget phase (λ t. Awaits t.desk k.actor.share (want k.plan)))
+      by_phase (Stands t) = awaits t.desk k.actor.share (want k.plan)
+      by_phase Gone = inr (λ h. h)
+      by_phase (Opens mode reading) = inr (λ h. h)
+
+  steps : (w : State P A) → Kept P A shape w → StaysInside shape w → (a : ℕ) → (k : Tasked w a) → (¬ OfTarget w.phase (λ t. Awaits t.desk k.actor.share (want k.plan))) → GivesSomething shape w a
+  steps w kept stays a k goes_on = let g = steps_on w kept stays a k goes_on in record {
     next = want k.plan;
     got = g.got;
     read = g.read;
@@ -336,8 +380,11 @@ module _ (P A : Type 0) (shape : Shape) (policy : P) (first : ReadSteps A) (begi
 
   step_happens : (w : State P A) → Kept P A shape w → StaysInside shape w → (a : ℕ) → HasHappening shape w (Step a)
   step_happens w kept stays a = elim (tasked P A w a) [
-    | inl k ↦ let g = steps w kept stays a k in record { what = Stepped g.next g.got; read = g.read; chosen = g.chosen; may = g.may }
-    | inr none ↦ skipped w (Step a) (none (λ x job s. Unit {0}))
+    | inl k ↦ elim (waits w a k) [
+      | inl waiting ↦ skipped w (Step a) (inr waiting)
+      | inr goes_on ↦ let g = steps w kept stays a k goes_on.1 in record { what = Stepped g.next g.got; read = g.read; chosen = g.chosen; may = g.may }
+    ]
+    | inr none ↦ skipped w (Step a) (inl (none (λ x job s. Unit {0})))
   ]
 
   fault_happens : (w : State P A) → Kept P A shape w → StaysInside shape w → (a : ℕ) (choice : Choice) → HasHappening shape w (FaultStep a choice)
@@ -370,8 +417,8 @@ module _ (P A : Type 0) (shape : Shape) (policy : P) (first : ReadSteps A) (begi
       let stays = run_inside P A shape metadata hs f size run in
       record {
         events = happens w kept stays;
-        steps = λ a h. elim (tasked P A w a) [
-          | inl k ↦ steps w kept stays a k
+        steps = λ a h goes_on. elim (tasked P A w a) [
+          | inl k ↦ elim (waits w a k) [ inl waiting ↦ absurd (goes_on waiting) | inr on ↦ steps w kept stays a k on.1 ]
           | inr none ↦ absurd (none (λ x job s. Unit {0}) h)
         ];
         commits = λ t most is once enough may. desk_begins (heap_of first begins) P A shape.geometry kept.base.known.images t.desk w.commit w.devices.metadata

@@ -1,4 +1,9 @@
 -- Whoever has a task can do its next step, and every event has a happening.
+use Rattle.wb_types.specs.declared.refusal.Refusal.{Refusal}
+use Rattle.wb_stage.specs.declared.share.Share.TheVariants.{Nothing, Waiting, Covered}
+use Rattle.wb_stage.specs.declared.share.Share.{Share}
+use Rattle.wb_stage.specs.Sharing.{IsCovered, MustWait}
+use Rattle.wb_desk.specs.Sharing.{IsLeadRefused}
 use Rattle.std.proofs.Common.{◌≡◌, ◌∙◌, ◌⊎◌, ◌≤◌, ◌<◌, ◌+◌, ◌^◌, ◌&&◌, ◌==◌, inl, inr, ℕ, zero, suc, Bool, true, false, List, [], ◌∷◌, Option, Some, None, refl, sym, ap, subst, arith, length, slice_get, is_none, is_some}
 use Rattle.wb_tree.specs.Mapping.{IsSound}
 use Rattle.std.proofs.lemmas.Bool.{cases_lt, cases_Bool}
@@ -11,7 +16,7 @@ use Rattle.wb_types.specs.declared.mode.Dev.{Dev}
 use Rattle.wb_types.specs.declared.mode.Dev.TheVariants.{Metadata, Cache, Origin}
 use Rattle.wb_types.specs.declared.number.OBlock.{OBlock}
 use Rattle.wb_types.specs.declared.number.Place.{Place}
-use Rattle.wb_types.specs.declared.refusal.Refusal.TheVariants.{Busy, Memory, GenerationEnd}
+use Rattle.wb_types.specs.declared.refusal.Refusal.TheVariants.{Busy, Memory, GenerationEnd, Failed}
 use Rattle.wb_disk.specs.Device.{Content as Bytes, History, newest, written}
 use Rattle.wb_disk.specs.Memory.{blank}
 use Rattle.wb_disk.specs.Extents.{GivesEach}
@@ -36,7 +41,7 @@ use Rattle.wb_tasks.specs.Ready.{HoldsBlocks, IsOwnStep, source_of, target_of}
 use Rattle.wb_tasks.specs.Tables.{BlockRange, BlockJob, Reading, Writing, Displacing, Invalidating, Migrating, OnBlock, Opening}
 use Rattle.wb_tasks.specs.Plan.{Plan, want, got_of}
 use Rattle.wb_tasks.specs.declared.step.Answer.{Answer}
-use Rattle.wb_tasks.specs.declared.step.DeskStep.TheVariants.{Map, Unmap, ReleaseOrder, BeginCommit, EndCommit}
+use Rattle.wb_tasks.specs.declared.step.DeskStep.TheVariants.{Map, Unmap, ReleaseOrder, Arrive, Ask, BeginCommit, EndCommit, BreakCommit}
 use Rattle.wb_tasks.specs.declared.step.DeviceStep.{DeviceStep}
 use Rattle.wb_tasks.specs.declared.step.DeviceStep.TheVariants.{Read as ReadExtent, Write as WriteExtent, Sync, ReadMetadata, WriteNode, WriteRoot}
 use Rattle.wb_tasks.specs.declared.step.Migration.{Migration}
@@ -44,7 +49,7 @@ use Rattle.wb_tasks.specs.declared.step.Migration.TheVariants.{Promote, Demote, 
 use Rattle.wb_tasks.specs.declared.step.Want.{Want}
 use Rattle.wb_tasks.specs.declared.step.Want.TheVariants.{Cell, Device, Desk, End}
 use Rattle.wb_tasks.specs.declared.step.Got.{Got}
-use Rattle.wb_tasks.specs.declared.step.Got.TheVariants.{Done, Refused as GotRefused}
+use Rattle.wb_tasks.specs.declared.step.Got.TheVariants.{Done, Refused as GotRefused, Ticket, Served}
 use Rattle.wb_devices.specs.declared.devices.Devices.{Devices}
 use Rattle.wb_devices.specs.declared.running.RunningCommit.{RunningCommit}
 use Rattle.wb_devices.specs.Committing.{goes_on, is_coming}
@@ -52,7 +57,7 @@ use Rattle.wb_devices.specs.Moving.{device_in}
 use Rattle.wb_promise.specs.declared.job.Job.{Job}
 use Rattle.wb_promise.specs.declared.job.Job.TheVariants.{Read, Write, Open, Migrate, Invalidate}
 use Rattle.wb_promise.specs.States.{Shape, State, Actor, Target, Stands, Opens, OfReading}
-use Rattle.wb_promise.specs.Happenings.{Chosen, Plain, Begins, Puts, Asks, Opened, OfSome, LandedOr, sector_put, DoesBegin, DoesPut, FailsPut, Gives, Falters, write_job}
+use Rattle.wb_promise.specs.Happenings.{Chosen, Plain, Begins, Puts, Asks, Opened, OfSome, LandedOr, sector_put, DoesBegin, DoesPut, FailsPut, Gives, Falters, write_job, DoesArrive, DoesAsk, Awaits}
 use Rattle.wb_runs.specs.Inside.{StepInside, size_on}
 use Rattle.wb_runs.proofs.Images.{Images}
 use Rattle.wb_runs.proofs.Spelled.{IsSmall, node_spelling, spelled_node}
@@ -64,7 +69,7 @@ use Rattle.wb_runs.proofs.Desks.{is_live, can_unmap}
 use Rattle.wb_runs.proofs.Plans.{plan_of}
 use Rattle.wb_runs.proofs.Readings.{generation_fits, can_read}
 use Rattle.wb_tasks.specs.Points.{OpenPoint, AtFirst, AtCache, AtOrigin, AtRead, AtRoot, AtRootSync, AtEnd, AtRefusal, open_left, open_answer}
-use Rattle.wb_runs.proofs.Points.{Runs, FlushPoint, ToLook, ToBegin, ToSyncCache, ToSyncOrigin, ToWriteNodes, ToWriteRoot, ToSyncRoot, ToEnd, ToSetFailed, ToRelease, AtFlush, AtOpen, CommitJob, Flushes, Suspends, task_of, doing_of, begin_of, commit_left, IsOf, ToSetSuspended}
+use Rattle.wb_runs.proofs.Points.{Runs, FlushPoint, ToLook, ToBegin, ToSyncCache, ToSyncOrigin, ToWriteNodes, ToWriteRoot, ToSyncRoot, ToEnd, ToSetFailed, ToRelease, AtFlush, AtOpen, CommitJob, Flushes, Suspends, task_of, doing_of, begin_of, commit_left, IsOf, ToSetSuspended, ToAsk, ToBreak}
 
 -- ---- reads
 
@@ -118,6 +123,15 @@ noded node device = written device node.0.0 (node_spelling node.1)
 
 node_does : (image : Image) (k : ℕ) (device : List History) (n : NodeAt image k) → IsSmall image → DoesStep image (NodesWritten k) device (noded n.node device)
 node_does image k device n small = subst (λ (o : Option (Place × Node)). NodeOrSync o device (noded n.node device)) (sym n.there) (record { content = node_spelling n.node.1; spelled = spelled_node n.node.1 (small.nodes k n.node n.there); wrote = refl })
+
+-- whether a commit has ended that covers a flush
+pub is_covered : {P : Type 0} (desk : DeskState P) (share : Share) → IsCovered desk share ⊎ (¬ IsCovered desk share)
+is_covered desk (Waiting number) = elim (cases_lt desk.ended number) [
+  | inl before ↦ inr (λ covered. absurd (omega (arith, before, covered)))
+  | inr ended ↦ inl ended
+]
+is_covered desk Nothing = inr (λ covered. covered)
+is_covered desk (Covered number) = inr (λ covered. covered)
 
 module _ (P A : Type 0) where
   -- a step of the commit puts this, done or failed
@@ -176,23 +190,54 @@ module _ (P A : Type 0) where
   opening_fits g images None (Some d) device k = absurd k
   opening_fits g images (Some reading) (Some d) device k = same_size g images d k.of device k.under
 
+  -- a generation is a number that a sector spells
+  bound : (g : Geometry) (images : Images) (desk : DeskState P) (commit : Option RunningCommit) (device : List History) → AtDesk g images desk commit device → desk.space.committing ≡ false → desk.generation < 2 ^ 64
+  bound g images desk (Some c) device k idle = absurd (let busy = k.stands.busy in cc)
+  bound g images desk None device k idle = elim k.stands [
+    | inl q ↦ let n = (q.stores.represents (Rattle.std.specs.Prelude.map newest device) (read-left device)).newest in
+        let b = generation_fits n.sector q.stored.root n.valid.spelled in omega (arith, b, q.generation)
+    | inr broken ↦ absurd (let busy = broken.busy in cc)
+  ]
+
   -- the desk begins a commit or refuses it
   begins_or : (seen : Option (List Bool)) (g : Geometry) (images : Images) (desk : DeskState P) (commit : Option RunningCommit) (device : List History) (most : ℕ) → AtDesk g images desk commit device → (got : Got) × ((chosen : Chosen P A) × DoesBegin seen most desk got chosen)
   begins_or seen g images desk commit device most k = elim (cases_Bool desk.space.committing) [
     | inl busy ↦ (GotRefused Busy, (Plain, busy))
     | inr idle ↦ elim (cases_lt (desk.generation + 1) (2 ^ 64)) [
       | inl more ↦ (GotRefused Memory, (Plain, record { idle = idle; next = more }))
-      | inr last ↦ (GotRefused GenerationEnd, (Plain, (idle, (let b = bound commit k idle in omega (arith, b, last)))))
+      | inr last ↦ (GotRefused GenerationEnd, (Plain, (idle, (let b = bound g images desk commit device k idle in omega (arith, b, last)))))
     ]
   ]
-    where
-      bound : (commit : Option RunningCommit) → AtDesk g images desk commit device → desk.space.committing ≡ false → desk.generation < 2 ^ 64
-      bound (Some c) k idle = absurd (let busy = k.stands.busy in cc)
-      bound None k idle = elim k.stands [
-        | inl q ↦ let n = (q.stores.represents (Rattle.std.specs.Prelude.map newest device) (read-left device)).newest in
-            let b = generation_fits n.sector q.stored.root n.valid.spelled in omega (arith, b, q.generation)
-        | inr broken ↦ absurd (let busy = broken.busy in cc)
+
+  -- where none runs and none was broken, a flush may be refused the lead
+  lead_refused : (g : Geometry) (images : Images) (desk : DeskState P) (commit : Option RunningCommit) (device : List History) → AtDesk g images desk commit device → desk.broken ≡ false → desk.space.committing ≡ false → (refusal : Refusal) × IsLeadRefused desk refusal
+  lead_refused g images desk commit device k whole idle = elim (cases_lt (desk.generation + 1) (2 ^ 64)) [
+    | inl more ↦ (Memory, inr (whole, idle, record { idle = idle; next = more }))
+    | inr last ↦ (GenerationEnd, inr (whole, idle, (idle, (let b = bound g images desk commit device k idle in omega (arith, b, last)))))
+  ]
+
+  -- one that arrives is told something
+  arrives_or : (g : Geometry) (images : Images) (desk : DeskState P) (commit : Option RunningCommit) (device : List History) (most : ℕ) → AtDesk g images desk commit device → (got : Got) × ((chosen : Chosen P A) × DoesArrive most desk got chosen)
+  arrives_or g images desk commit device most k = elim (cases_Bool desk.broken) [
+    | inl broken ↦ (GotRefused Failed, (Plain, inl (refl, broken)))
+    | inr whole ↦ elim (cases_Bool desk.space.committing) [
+      | inl busy ↦ (Ticket, (Plain, (whole, busy)))
+      | inr idle ↦ let r = lead_refused g images desk commit device k whole idle in (GotRefused r.0, (Plain, r.1))
+    ]
+  ]
+
+  -- so is one that asks, where it has not to wait
+  asks_or : (share : Share) (g : Geometry) (images : Images) (desk : DeskState P) (commit : Option RunningCommit) (device : List History) (most : ℕ) → AtDesk g images desk commit device → (¬ MustWait desk share) → (got : Got) × ((chosen : Chosen P A) × DoesAsk share most desk got chosen)
+  asks_or share g images desk commit device most k goes_on = elim (is_covered desk share) [
+    | inl covered ↦ (Served, (Plain, covered))
+    | inr uncovered ↦ elim (cases_Bool desk.broken) [
+      | inl broken ↦ (GotRefused Failed, (Plain, (uncovered, inl (refl, broken))))
+      | inr whole ↦ elim (cases_Bool desk.space.committing) [
+        | inl busy ↦ absurd (goes_on (record { whole = whole; runs = busy; uncovered = uncovered }))
+        | inr idle ↦ let r = lead_refused g images desk commit device k whole idle in (GotRefused r.0, (Plain, (uncovered, r.1)))
       ]
+    ]
+  ]
 
 -- blocks stand where a migration copies from, and where it copies to
 source_holds : (migration : Migration) → HoldsBlocks (source_of migration)
@@ -275,8 +320,11 @@ module _ (P A : Type 0) (shape : Shape) (devices : Devices (List History)) (comm
           by_next (Device WriteRoot) i s = absurd i
           by_next (Desk (Map block place)) i s = absurd i
           by_next (Desk (ReleaseOrder block)) i s = absurd i
-          by_next (Desk (BeginCommit clean most)) i s = absurd i
+          by_next (Desk (Arrive most)) i s = absurd i
+          by_next (Desk (Ask most)) i s = absurd i
+          by_next (Desk (BeginCommit most)) i s = absurd i
           by_next (Desk EndCommit) i s = absurd i
+          by_next (Desk BreakCommit) i s = absurd i
 
       pub invalidation_gives : IsSound t.desk.tree → (block : OBlock) (part : BlockRange) (next : Want) → IsOwnStep (OnBlock (Invalidating part)) next → CanGive shape w x (Invalidate block) next
       invalidation_gives sound block part (Cell step) i = cell_gives (Invalidate block) step
@@ -284,8 +332,11 @@ module _ (P A : Type 0) (shape : Shape) (devices : Devices (List History)) (comm
       invalidation_gives sound block part (End answer) i = record { got = Done; read = []; chosen = Plain; gives = ((refl, refl), refl) }
       invalidation_gives sound block part (Desk (Map b place)) i = absurd i
       invalidation_gives sound block part (Desk (ReleaseOrder b)) i = absurd i
-      invalidation_gives sound block part (Desk (BeginCommit clean most)) i = absurd i
+      invalidation_gives sound block part (Desk (Arrive most)) i = absurd i
+      invalidation_gives sound block part (Desk (Ask most)) i = absurd i
+      invalidation_gives sound block part (Desk (BeginCommit most)) i = absurd i
       invalidation_gives sound block part (Desk EndCommit) i = absurd i
+      invalidation_gives sound block part (Desk BreakCommit) i = absurd i
       invalidation_gives sound block part (Device step) i = absurd i
 
       -- a migration's step; where a promotion asks for its entry there may be no memory for that
@@ -297,8 +348,11 @@ module _ (P A : Type 0) (shape : Shape) (devices : Devices (List History)) (comm
       migration_gives sound migration block part (Desk (Unmap b)) i s = unmaps (Migrate migration block) b sound (λ new did. (refl, refl, did))
       migration_gives sound migration block part (Desk (ReleaseOrder b)) i s = let r = releases t.desk x.orders b kept in record { got = Done; read = []; chosen = Asks r.0; gives = (refl, refl, r.1) }
       migration_gives sound migration block part (End answer) i s = record { got = Done; read = []; chosen = Plain; gives = ((refl, refl), refl) }
-      migration_gives sound migration block part (Desk (BeginCommit clean most)) i s = absurd i
+      migration_gives sound migration block part (Desk (Arrive most)) i s = absurd i
+      migration_gives sound migration block part (Desk (Ask most)) i s = absurd i
+      migration_gives sound migration block part (Desk (BeginCommit most)) i s = absurd i
       migration_gives sound migration block part (Desk EndCommit) i s = absurd i
+      migration_gives sound migration block part (Desk BreakCommit) i s = absurd i
       migration_gives sound migration block part (Device (Sync d)) i s = absurd i
       migration_gives sound migration block part (Device (ReadMetadata k)) i s = absurd i
       migration_gives sound migration block part (Device (WriteNode k)) i s = absurd i
@@ -360,8 +414,16 @@ module _ (P A : Type 0) (shape : Shape) (devices : Devices (List History)) (comm
       root_can (Suspends looks most) chosen d = record { got = Done; read = []; chosen = chosen; gives = (refl, refl, d) }
 
       begin_can : (job : CommitJob) → CanGive shape w x (doing_of job) (begin_of job)
-      begin_can (Flushes serves most) = let b = begins_or P A None shape.geometry images t.desk commit devices.metadata most known in record { got = b.0; read = []; chosen = b.1.0; gives = (refl, refl, b.1.1) }
-      begin_can (Suspends looks most) = let b = begins_or P A (Some x.seen) shape.geometry images t.desk commit devices.metadata most known in record { got = b.0; read = []; chosen = b.1.0; gives = (refl, refl, b.1.1) }
+      begin_can (Flushes serves most) = let b = arrives_or P A shape.geometry images t.desk commit devices.metadata most known in record { got = b.0; read = []; chosen = b.1.0; gives = (refl, b.1.1) }
+      begin_can (Suspends looks most) = let b = begins_or P A (Some x.seen) shape.geometry images t.desk commit devices.metadata most known in record { got = b.0; read = []; chosen = b.1.0; gives = (refl, b.1.1) }
+
+      ask_can : (job : CommitJob) → IsOf ToAsk job → (¬ Awaits t.desk x.share (want (F job ToAsk))) → CanGive shape w x (doing_of job) (want (F job ToAsk))
+      ask_can (Flushes serves most) of goes_on = let b = asks_or P A x.share shape.geometry images t.desk commit devices.metadata most known goes_on in record { got = b.0; read = []; chosen = b.1.0; gives = (refl, b.1.1) }
+      ask_can (Suspends looks most) of goes_on = absurd of
+
+      break_can : (job : CommitJob) → CanGive shape w x (doing_of job) (Desk BreakCommit)
+      break_can (Flushes serves most) = record { got = Done; read = []; chosen = Plain; gives = ((refl, refl), refl, tt) }
+      break_can (Suspends looks most) = record { got = Done; read = []; chosen = Plain; gives = ((refl, refl), refl, tt) }
 
       end_can : (job : CommitJob) → Rattle.wb_stage.specs.Stages.is_all_done commit ≡ true → CanGive shape w x (doing_of job) (Desk EndCommit)
       end_can (Flushes serves most) d = record { got = Done; read = []; chosen = Plain; gives = ((refl, refl), refl, d) }
@@ -379,26 +441,28 @@ module _ (P A : Type 0) (shape : Shape) (devices : Devices (List History)) (comm
       sync_falters choice nodes steps r coming = let s = syncs_next P A nodes commit devices.metadata steps r fits coming in
           record { chosen = Plain; falters = (refl, subst (λ (c : Option RunningCommit). Rattle.wb_promise.specs.Happenings.FailsSync {P = P} {A = A} (Stands t) c devices.metadata) (sym s.1) (s.2, tt)) }
 
-      pub flush_gives : (job : CommitJob) (point : FlushPoint) → IsOf point job → AtFlush point commit → CanGive shape w x (doing_of job) (want (F job point))
-      flush_gives job ToLook of at = cell_gives (doing_of job) _
-      flush_gives job (ToBegin []) of at = begin_can job
-      flush_gives job (ToBegin (block ∷ rest)) of at = cell_gives (doing_of job) _
-      flush_gives job (ToSyncCache nodes) of at = (data_can job).0
-      flush_gives job (ToSyncOrigin nodes) of at = (data_can job).1
-      flush_gives job (ToWriteNodes zero from) of at = sync_gives job (from + 0) (NodesWritten from) at (λ i e. none_coming from i (let all : from + 0 ≡ from = omega arith in e ∙ all))
-      flush_gives job (ToWriteNodes (suc left) from) of at = let p = puts_node P A left from commit devices.metadata at fits in node_can job from p.0 p.1
-      flush_gives job (ToWriteRoot nodes) of at = let p = puts_root P A nodes commit devices.metadata at fits in root_can job p.0 p.1
-      flush_gives job (ToSyncRoot nodes) of at = sync_gives job nodes RootWritten at (λ i e. refl)
-      flush_gives job (ToEnd nodes) of at = end_can job (done commit at)
+      pub flush_gives : (job : CommitJob) (point : FlushPoint) → IsOf point job → AtFlush point commit → (¬ Awaits t.desk x.share (want (F job point))) → CanGive shape w x (doing_of job) (want (F job point))
+      flush_gives job ToLook of at goes_on = cell_gives (doing_of job) _
+      flush_gives job (ToBegin []) of at goes_on = begin_can job
+      flush_gives job (ToBegin (block ∷ rest)) of at goes_on = cell_gives (doing_of job) _
+      flush_gives job (ToSyncCache nodes) of at goes_on = (data_can job).0
+      flush_gives job (ToSyncOrigin nodes) of at goes_on = (data_can job).1
+      flush_gives job (ToWriteNodes zero from) of at goes_on = sync_gives job (from + 0) (NodesWritten from) at (λ i e. none_coming from i (let all : from + 0 ≡ from = omega arith in e ∙ all))
+      flush_gives job (ToWriteNodes (suc left) from) of at goes_on = let p = puts_node P A left from commit devices.metadata at fits in node_can job from p.0 p.1
+      flush_gives job (ToWriteRoot nodes) of at goes_on = let p = puts_root P A nodes commit devices.metadata at fits in root_can job p.0 p.1
+      flush_gives job (ToSyncRoot nodes) of at goes_on = sync_gives job nodes RootWritten at (λ i e. refl)
+      flush_gives job (ToEnd nodes) of at goes_on = end_can job (done commit at)
         where
           done : (commit : Option RunningCommit) → Runs nodes Committed commit → Rattle.wb_stage.specs.Stages.is_all_done commit ≡ true
           done None r = absurd r
           done (Some c) r = ap (λ (s : CommitSteps). Rattle.wb_devices.specs.Committing.is_committed s) r.2
-      flush_gives job ToSetSuspended of at = cell_gives (doing_of job) _
-      flush_gives job ToSetFailed of at = cell_gives (doing_of job) _
-      flush_gives job (ToRelease []) of at = answer_can job
-      flush_gives (Flushes serves most) (ToRelease (block ∷ blocks)) of at = let r = releases t.desk x.awaiting block known.is.kept in record { got = Done; read = []; chosen = Asks r.0; gives = (refl, refl, r.1) }
-      flush_gives (Suspends looks most) (ToRelease (block ∷ blocks)) of at = absurd of
+      flush_gives job ToSetSuspended of at goes_on = cell_gives (doing_of job) _
+      flush_gives job ToSetFailed of at goes_on = cell_gives (doing_of job) _
+      flush_gives job ToAsk of at goes_on = ask_can job of goes_on
+      flush_gives job ToBreak of at goes_on = break_can job
+      flush_gives job (ToRelease []) of at goes_on = answer_can job
+      flush_gives (Flushes serves most) (ToRelease (block ∷ blocks)) of at goes_on = let r = releases t.desk x.awaiting block known.is.kept in record { got = Done; read = []; chosen = Asks r.0; gives = (refl, refl, r.1) }
+      flush_gives (Suspends looks most) (ToRelease (block ∷ blocks)) of at goes_on = absurd of
 
       pub flush_falters : (job : CommitJob) (choice : Choice) (point : FlushPoint) → AtFlush point commit → Rattle.wb_promise.specs.Happenings.MayFailAt devices choice (want (F job point)) → CanFalter w choice (want (F job point))
       flush_falters job choice ToLook at m = absurd m
@@ -414,6 +478,9 @@ module _ (P A : Type 0) (shape : Shape) (devices : Devices (List History)) (comm
       flush_falters job choice (ToEnd nodes) at m = absurd m
       flush_falters job choice ToSetSuspended at m = absurd m
       flush_falters job choice ToSetFailed at m = absurd m
+      flush_falters job choice ToBreak at m = absurd m
+      flush_falters (Flushes serves most) choice ToAsk at m = absurd m
+      flush_falters (Suspends looks most) choice ToAsk at m = absurd m
       flush_falters job choice (ToRelease []) at m = absurd m
       flush_falters job choice (ToRelease (block ∷ blocks)) at m = absurd m
 

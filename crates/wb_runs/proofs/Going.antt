@@ -16,33 +16,34 @@ use Rattle.wb_meta.specs.Reads.{sectors_read}
 use Rattle.wb_meta.specs.declared.read_steps.ReadSteps.{ReadSteps}
 use Rattle.wb_meta.specs.declared.commit_steps.CommitSteps.{CommitSteps}
 use Rattle.wb_meta.specs.declared.commit_steps.CommitSteps.TheVariants.{NodesWritten, NodesSynced, RootWritten, Done as Committed}
-use Rattle.wb_tasks.specs.Tables.{Opening}
-use Rattle.wb_tasks.specs.Plan.{Plan, want, after, release_orders, begun_steps, root_steps, node_writes, after_fault_of}
+use Rattle.wb_tasks.specs.Tables.{Opening, Flushing}
+use Rattle.wb_tasks.specs.Plan.{Plan, want, after, release_orders, begun_steps, root_steps, node_writes, after_fault_of, failed_commit, first_step}
 use Rattle.wb_tasks.specs.declared.step.Answer.{Answer}
-use Rattle.wb_tasks.specs.declared.step.Answer.TheVariants.{Refused as Refuses}
+use Rattle.wb_tasks.specs.declared.step.Answer.TheVariants.{Refused as Refuses, Done as Finished}
 use Rattle.wb_tasks.specs.declared.step.Want.{Want}
-use Rattle.wb_tasks.specs.declared.step.Want.TheVariants.{Cell, Device}
+use Rattle.wb_tasks.specs.declared.step.Want.TheVariants.{Cell, Device, Desk}
 use Rattle.wb_tasks.specs.declared.step.Got.{Got}
-use Rattle.wb_tasks.specs.declared.step.Got.TheVariants.{Done, Word, Fault, Refused as GotRefused, Began, More}
+use Rattle.wb_tasks.specs.declared.step.Got.TheVariants.{Done, Word, Fault, Refused as GotRefused, Began, More, Ticket, Served}
 use Rattle.wb_devices.specs.declared.running.RunningCommit.{RunningCommit}
 use Rattle.wb_devices.specs.Opened.{HasCome, got_of_refusal}
 use Rattle.wb_promise.specs.declared.job.Job.{Job}
 use Rattle.wb_promise.specs.declared.job.Job.TheVariants.{Open}
 use Rattle.wb_promise.specs.States.{Shape, State, Actor, Target, Stands, Opens}
-use Rattle.wb_promise.specs.Happenings.{Chosen, Plain, Begins, Reaches, Commits, OfSome, HasGeneration, DoesSync, DoesRead, DoesBegin, Gives, Falters}
+use Rattle.wb_promise.specs.Happenings.{Chosen, Plain, Begins, Reaches, Commits, OfSome, HasGeneration, DoesSync, DoesRead, DoesBegin, Gives, Falters, DoesLead, DoesArrive, DoesAsk}
 use Rattle.wb_promise.specs.Effects.{commit_then, reading_then, task_then}
 use Rattle.wb_runs.proofs.Plans.{plan_of}
 use Rattle.wb_runs.proofs.Metadata.{AtDesk}
 use Rattle.wb_runs.proofs.Images.{Images}
 use Rattle.wb_runs.proofs.Making.{image_small, small_opening}
 use Rattle.wb_tasks.specs.Points.{OpenPoint, AtFirst, AtCache, AtOrigin, AtRead, AtRoot, AtRootSync, AtEnd, AtRefusal, open_left, open_answer}
-use Rattle.wb_runs.proofs.Points.{Runs, CommitJob, Flushes, Suspends, task_of, doing_of, begin_of, first_looks, following, FlushPoint, ToLook, ToBegin, ToSyncCache, ToSyncOrigin, ToWriteNodes, ToWriteRoot, ToSyncRoot, ToEnd, ToSetSuspended, ToSetFailed, ToRelease, commit_left, IsOf, AtFlush, IsLeading, FlushAt, FlushTask, AtOpen, OpenAt}
+use Rattle.wb_runs.proofs.Points.{Runs, CommitJob, Flushes, Suspends, task_of, doing_of, begin_of, first_looks, following, FlushPoint, ToLook, ToBegin, ToSyncCache, ToSyncOrigin, ToWriteNodes, ToWriteRoot, ToSyncRoot, ToEnd, ToSetSuspended, ToSetFailed, ToRelease, commit_left, IsOf, AtFlush, IsLeading, FlushAt, FlushTask, AtOpen, OpenAt, ask_of, ToAsk, ToBreak}
 use Rattle.std.proofs.lemmas.List.{append_assoc}
 use Rattle.wb_words.specs.declared.step.CellStep.TheVariants.{SetFailed, SetSuspended, Look}
+use Rattle.wb_tasks.specs.declared.step.DeskStep.TheVariants.{Arrive, Ask, BeginCommit, BreakCommit}
 use Rattle.wb_tasks.specs.declared.step.DeviceStep.{DeviceStep}
 use Rattle.wb_tasks.specs.declared.step.DeviceStep.TheVariants.{Sync, WriteNode, WriteRoot}
 use Rattle.wb_runs.proofs.Stepping.{node_fact, root_fact}
-use Rattle.wb_runs.proofs.Suiting.{word_given, data_sync, end_given, released_done}
+use Rattle.wb_runs.proofs.Suiting.{word_given, data_sync, end_given, released_done, break_given}
 use Rattle.wb_words.specs.declared.word.Word.TheVariants.{Fail, Seal as SealWord}
 use Rattle.wb_words.specs.SharedWords.{word_at}
 
@@ -81,6 +82,8 @@ stays Makes commit commit' L L' plan k none = record { blocks = k.blocks; most =
     by_point (ToEnd nodes) n = absurd (n tt)
     by_point ToSetSuspended n = tt
     by_point ToSetFailed n = tt
+    by_point ToAsk n = tt
+    by_point ToBreak n = tt
     by_point (ToRelease blocks) n = tt
 
 -- where it stands after a step, and what became of the others
@@ -94,7 +97,7 @@ begun_left : (job : CommitJob) (nodes : ℕ) → begun_steps (task_of job) nodes
 begun_left (Flushes serves most) nodes = refl
 begun_left (Suspends looks most) nodes = ap (λ ws. Device (Sync Cache) ∷ Device (Sync Origin) ∷ ws) (append_assoc (node_writes nodes 0) root_steps (Cell SetSuspended ∷ []))
 
-fault_left : (job : CommitJob) (step : DeviceStep) → after_fault_of (task_of job) step ≡ Cell SetFailed ∷ []
+fault_left : (job : CommitJob) (step : DeviceStep) → after_fault_of (task_of job) step ≡ failed_commit
 fault_left (Flushes serves most) step = refl
 fault_left (Suspends looks most) step = refl
 
@@ -137,14 +140,28 @@ module _ (P A : Type 0) (shape : Shape) (t : Target P) (commit : Option RunningC
       same (Suspends looks most) = refl
 
   abbrev let_go : CommitJob → Refusal → List OBlock
-  let_go (Flushes serves most) Busy = []
+  let_go (Flushes serves most) Failed = []
   let_go (Flushes serves most) r = serves
   let_go (Suspends looks most) r = []
 
-  begins : (seen : Option (List Bool)) (most : ℕ) (got : Got) (chosen : Chosen P A) → DoesBegin seen most t.desk got chosen → Then (Rattle.wb_promise.specs.Effects.begun_commit chosen commit) (after (F (commit_left job (ToBegin []))) got)
-  begins seen most (Began nodes) (Commits c tree) s = record {
+  of_it : (job : CommitJob) (r : Refusal) → IsOf (ToRelease (let_go job r)) job
+  of_it (Suspends looks most) r = tt
+  of_it (Flushes [] most) Failed = tt
+  of_it (Flushes [] most) r = tt
+  of_it (Flushes (b ∷ bs) most) Failed = tt
+  of_it (Flushes (b ∷ bs) most) r = tt
+
+  -- what is left where it asks for its commit, whichever way
+  abbrev begun_from : List Want → Type 0
+  begun_from ws = (nodes : ℕ) → after (F ws) (Began nodes) ≡ plan_of (task_of job) (begun_steps (task_of job) nodes) answer
+
+  abbrev refused_from : List Want → Type 0
+  refused_from ws = (refusal : Refusal) → after (F ws) (GotRefused refusal) ≡ plan_of (task_of job) (release_orders (let_go job refusal)) (Refuses refusal)
+
+  begins : (seen : Option (List Bool)) (most : ℕ) (ws : List Want) (got : Got) (chosen : Chosen P A) → begun_from ws → refused_from ws → DoesBegin seen most t.desk got chosen → Then (Rattle.wb_promise.specs.Effects.begun_commit chosen commit) (after (F ws) got)
+  begins seen most ws (Began nodes) (Commits c tree) from none s = record {
     leader' = a;
-    here = stands_at job (Some c) (a ≡ a) answer (ToSyncCache nodes) _ tt (ap (λ ws. plan_of (task_of job) ws answer) (begun_left job nodes)) (sym s.1, image_small shape.geometry t.desk tree c known.is.geometry known.is.kept.mapping s.3.0 seen s.3.1 s.4, s.2) (λ i. refl);
+    here = stands_at job (Some c) (a ≡ a) answer (ToSyncCache nodes) _ tt (from nodes ∙ ap (λ vs. plan_of (task_of job) vs answer) (begun_left job nodes)) (sym s.1, image_small shape.geometry t.desk tree c known.is.geometry known.is.kept.mapping s.3.0 seen s.3.1 s.4, s.2) (λ i. refl);
     others = λ Makes b p o k. stays Makes commit (Some c) (b ≡ leader) (b ≡ a) p k (λ i. no_leader commit known k.point i k.at);
   }
     where
@@ -156,26 +173,15 @@ module _ (P A : Type 0) (shape : Shape) (t : Target P) (commit : Option RunningC
       no_leader None k (ToWriteRoot nodes) i at = at
       no_leader None k (ToSyncRoot nodes) i at = at
       no_leader None k (ToEnd nodes) i at = at
-      no_leader None k ToLook i at = i
-      no_leader None k (ToBegin looks) i at = i
-      no_leader None k ToSetSuspended i at = i
-      no_leader None k ToSetFailed i at = i
-      no_leader None k (ToRelease blocks) i at = i
-  begins seen most (GotRefused refusal) Plain s = quietly (Refuses refusal) (ToRelease (let_go job refusal)) _ (of_it job refusal) (same job refusal) tt (λ i. absurd i)
-    where
-      of_it : (job : CommitJob) (r : Refusal) → IsOf (ToRelease (let_go job r)) job
-      of_it (Suspends looks most) r = tt
-      of_it (Flushes [] most) Busy = tt
-      of_it (Flushes [] most) r = tt
-      of_it (Flushes (b ∷ bs) most) Busy = tt
-      of_it (Flushes (b ∷ bs) most) r = tt
+      no_leader None k p i at = absurd i
+  begins seen most ws (GotRefused refusal) Plain from none s = quietly (Refuses refusal) (ToRelease (let_go job refusal)) _ (of_it job refusal) (none refusal) tt (λ i. absurd i)
+  begins seen most ws got chosen from none s = absurd s
 
-      same : (job : CommitJob) (r : Refusal) → after (plan_of (task_of job) (commit_left job (ToBegin [])) answer) (GotRefused r) ≡ plan_of (task_of job) (release_orders (let_go job r)) (Refuses r)
-      same (Flushes serves most) Busy = refl
-      same (Flushes serves most) r = refl
-      same (Suspends looks most) Busy = refl
-      same (Suspends looks most) r = refl
-  begins seen most got chosen s = absurd s
+  -- a flush that asks to lead one
+  leads : (most : ℕ) (ws : List Want) (got : Got) (chosen : Chosen P A) → begun_from ws → refused_from ws → DoesLead most t.desk got chosen → Then (Rattle.wb_promise.specs.Effects.begun_commit chosen commit) (after (F ws) got)
+  leads most ws (Began nodes) (Commits c tree) from none s = begins None most ws (Began nodes) (Commits c tree) from none s.1
+  leads most ws (GotRefused refusal) Plain from none s = quietly (Refuses refusal) (ToRelease (let_go job refusal)) _ (of_it job refusal) (none refusal) tt (λ i. absurd i)
+  leads most ws got chosen from none s = absurd s
 
   module _ (w : State P A) (x : Actor) (stands : w.phase ≡ Stands t) (runs : w.commit ≡ commit) (got : Got) (read : List Bytes) (chosen : Chosen P A) where
     abbrev v : State P A
@@ -190,9 +196,45 @@ module _ (P A : Type 0) (shape : Shape) (t : Target P) (commit : Option RunningC
     led_done : (nodes : ℕ) → got ≡ Done → (steps steps' : CommitSteps) → Runs nodes steps commit → ((image : Image) → length image.nodes.items ≡ nodes → steps_after image steps ≡ steps') → Runs nodes steps' (Rattle.wb_promise.specs.Effects.led commit got)
     led_done nodes e steps steps' r f = subst (λ (g : Got). Runs nodes steps' (Rattle.wb_promise.specs.Effects.led commit g)) (sym e) (leads_on nodes commit steps r steps' f)
 
-    begin_moves : (job' : CommitJob) → job ≡ job' → Gives shape v x (doing_of job') (begin_of job') got read chosen → After (begin_of job') (F (commit_left job (ToBegin [])))
-    begin_moves (Flushes serves most) e g = begins None most got chosen g.2
-    begin_moves (Suspends looks most) e g = begins (Some x.seen) most got chosen g.2
+    begin_moves : (job' : CommitJob) → job ≡ job' → Gives shape v x (doing_of job') (begin_of job') got read chosen → After (begin_of job') (F (begin_of job' ∷ []))
+    begin_moves (Flushes serves most) e g = arrives got chosen g.1
+      where
+        none : refused_from (Desk (Arrive most) ∷ [])
+        none = subst (λ (j : CommitJob). (refusal : Refusal) → after (plan_of (task_of j) (Desk (Arrive most) ∷ []) answer) (GotRefused refusal) ≡ plan_of (task_of j) (release_orders (let_go j refusal)) (Refuses refusal)) (sym e) by_refusal
+          where
+            by_refusal : (refusal : Refusal) → after (plan_of (Flushing serves most) (Desk (Arrive most) ∷ []) answer) (GotRefused refusal) ≡ plan_of (Flushing serves most) (release_orders (let_go (Flushes serves most) refusal)) (Refuses refusal)
+            by_refusal Failed = refl
+            by_refusal refusal = refl
+
+        arrives : (got : Got) (chosen : Chosen P A) → DoesArrive most t.desk got chosen → Then (Rattle.wb_promise.specs.Effects.begun_commit chosen commit) (after (F (Desk (Arrive most) ∷ [])) got)
+        arrives Ticket Plain d = quietly answer ToAsk _ (subst (λ (j : CommitJob). IsOf ToAsk j) (sym e) tt) (ap (λ (ws : List Want). F ws) (subst (λ (j : CommitJob). Desk (Ask most) ∷ [] ≡ ask_of j) (sym e) refl)) tt (λ i. absurd i)
+        arrives Ticket chosen d = absurd d
+        arrives (Began nodes) chosen d = leads most (Desk (Arrive most) ∷ []) (Began nodes) chosen (λ nodes. refl) none d
+        arrives (GotRefused refusal) chosen d = leads most (Desk (Arrive most) ∷ []) (GotRefused refusal) chosen (λ nodes. refl) none d
+        arrives got chosen d = absurd d
+    begin_moves (Suspends looks most) e g = begins (Some x.seen) most (Desk (BeginCommit most) ∷ []) got chosen (λ nodes. refl) none g.1
+      where
+        none : refused_from (Desk (BeginCommit most) ∷ [])
+        none = subst (λ (j : CommitJob). (refusal : Refusal) → after (plan_of (task_of j) (Desk (BeginCommit most) ∷ []) answer) (GotRefused refusal) ≡ plan_of (task_of j) (release_orders (let_go j refusal)) (Refuses refusal)) (sym e) (λ refusal. refl)
+
+    -- with a ticket
+    ask_moves : (job' : CommitJob) → job ≡ job' → IsOf ToAsk job' → Gives shape v x (doing_of job') (first_step (ask_of job') answer) got read chosen → After (first_step (ask_of job') answer) (F (ask_of job'))
+    ask_moves (Flushes serves most) e of g = asks got chosen g.1
+      where
+        none : refused_from (Desk (Ask most) ∷ [])
+        none = subst (λ (j : CommitJob). (refusal : Refusal) → after (plan_of (task_of j) (Desk (Ask most) ∷ []) answer) (GotRefused refusal) ≡ plan_of (task_of j) (release_orders (let_go j refusal)) (Refuses refusal)) (sym e) by_refusal
+          where
+            by_refusal : (refusal : Refusal) → after (plan_of (Flushing serves most) (Desk (Ask most) ∷ []) answer) (GotRefused refusal) ≡ plan_of (Flushing serves most) (release_orders (let_go (Flushes serves most) refusal)) (Refuses refusal)
+            by_refusal Failed = refl
+            by_refusal refusal = refl
+
+        asks : (got : Got) (chosen : Chosen P A) → DoesAsk x.share most t.desk got chosen → Then (Rattle.wb_promise.specs.Effects.begun_commit chosen commit) (after (F (Desk (Ask most) ∷ [])) got)
+        asks Served Plain d = quietly Finished (ToRelease []) _ tt refl tt (λ i. absurd i)
+        asks Served chosen d = absurd d.1
+        asks (Began nodes) chosen d = leads most (Desk (Ask most) ∷ []) (Began nodes) chosen (λ nodes. refl) none d.1
+        asks (GotRefused refusal) chosen d = leads most (Desk (Ask most) ∷ []) (GotRefused refusal) chosen (λ nodes. refl) none d.1
+        asks got chosen d = absurd d.1
+    ask_moves (Suspends looks most) e of g = absurd of
 
     -- behind the end of a commit
     followed : (job' : CommitJob) → job ≡ job' → a ≡ leader → Then None (F (following job))
@@ -202,6 +244,7 @@ module _ (P A : Type 0) (shape : Shape) (t : Target P) (commit : Option RunningC
     pub flush_moves : (point : FlushPoint) → IsOf point job → AtFlush point commit → (IsLeading point → a ≡ leader) → Gives shape v x (doing_of job) (want (F (commit_left job point))) got read chosen → After (want (F (commit_left job point))) (F (commit_left job point))
     flush_moves ToLook of at l g = looks got (word_given P A shape v x got read chosen (doing_of job) (Look Fail) g)
     flush_moves (ToBegin []) of at l g = begin_moves job refl g
+    flush_moves ToAsk of at l g = ask_moves job refl of g
     flush_moves (ToBegin (block ∷ rest)) of at l g = seals block rest got (word_at t.words.seals block) (word_given P A shape v x got read chosen (doing_of job) (Look (SealWord block)) g)
     flush_moves (ToSyncCache nodes) of at l g = done _ _ (data_sync P A shape v x got read chosen (doing_of job) Cache g) commit (leading commit answer (ToSyncOrigin nodes) _ tt refl at (l tt))
     flush_moves (ToSyncOrigin nodes) of at l g = done _ _ (data_sync P A shape v x got read chosen (doing_of job) Origin g) commit (leading commit answer (ToWriteNodes nodes 0) _ tt refl (let none : nodes ≡ 0 + nodes = omega arith in subst (λ (n : ℕ). Runs n (NodesWritten 0) commit) none at) (l tt))
@@ -218,7 +261,8 @@ module _ (P A : Type 0) (shape : Shape) (t : Target P) (commit : Option RunningC
     flush_moves (ToSyncRoot nodes) of at l g = let d = data_sync P A shape v x got read chosen (doing_of job) Metadata g in done _ _ d _ (leading _ answer (ToEnd nodes) _ tt refl (led_done nodes d RootWritten Committed at (λ i e. refl)) (l tt))
     flush_moves (ToEnd nodes) of at l g = done _ _ (end_given P A shape v x got read chosen (doing_of job) g) _ (followed job refl (l tt))
     flush_moves ToSetSuspended of at l g = done _ _ (word_given P A shape v x got read chosen (doing_of job) SetSuspended g) commit (quietly answer (ToRelease []) _ tt refl tt (λ i. absurd i))
-    flush_moves ToSetFailed of at l g = done _ _ (word_given P A shape v x got read chosen (doing_of job) SetFailed g) commit (quietly answer (ToRelease []) _ tt refl tt (λ i. absurd i))
+    flush_moves ToSetFailed of at l g = done _ _ (word_given P A shape v x got read chosen (doing_of job) SetFailed g) commit (quietly answer ToBreak _ tt refl tt (λ i. absurd i))
+    flush_moves ToBreak of at l g = done _ _ (break_given P A shape v x got read chosen (doing_of job) g) commit (quietly answer (ToRelease []) _ tt refl tt (λ i. absurd i))
     flush_moves (ToRelease []) of at l g = record { leader' = leader; here = tt; others = λ Makes b p o k. k }
     flush_moves (ToRelease (block ∷ blocks)) of at l g = done _ _ (released_done P A shape v x got read chosen (doing_of job) block g) commit (quietly answer (ToRelease blocks) _ (fewer job blocks of) refl tt (λ i. absurd i))
       where
@@ -249,6 +293,12 @@ module _ (P A : Type 0) (shape : Shape) (t : Target P) (commit : Option RunningC
   flush_fails w choice chosen (ToEnd nodes) at l g = absurd g
   flush_fails w choice chosen ToSetSuspended at l g = absurd g
   flush_fails w choice chosen ToSetFailed at l g = absurd g
+  flush_fails w choice chosen ToBreak at l g = absurd g
+  flush_fails w choice chosen ToAsk at l g = absurd (no_ask job g)
+    where
+      no_ask : (job : CommitJob) → Falters w choice (first_step (ask_of job) answer) chosen → ⊥
+      no_ask (Flushes serves most) g = g
+      no_ask (Suspends looks most) g = g
   flush_fails w choice chosen (ToRelease []) at l g = absurd g
   flush_fails w choice chosen (ToRelease (block ∷ blocks)) at l g = absurd g
 

@@ -17,7 +17,7 @@ use Rattle.wb_tasks.proofs.Readiness.{is_own_step}
 use Rattle.wb_tasks.specs.declared.step.DeviceStep.{DeviceStep}
 use Rattle.wb_tasks.specs.declared.step.DeviceStep.TheVariants.{Read as ReadExtent, Write as WriteExtent, Sync, ReadMetadata, WriteNode, WriteRoot}
 use Rattle.wb_tasks.specs.declared.step.DeskStep.{DeskStep}
-use Rattle.wb_tasks.specs.declared.step.DeskStep.TheVariants.{Map, Unmap, ReleaseOrder, BeginCommit, EndCommit}
+use Rattle.wb_tasks.specs.declared.step.DeskStep.TheVariants.{Map, Unmap, ReleaseOrder, Arrive, Ask, BeginCommit, EndCommit, BreakCommit}
 use Rattle.wb_tasks.specs.declared.step.Want.{Want}
 use Rattle.wb_tasks.specs.declared.step.Want.TheVariants.{Cell, Device, Desk, End}
 use Rattle.wb_tasks.specs.declared.step.Got.{Got}
@@ -203,8 +203,11 @@ module _ (P A : Type 0) (shape : Shape) where
         subst (λ (v : Got). Then_of (Write extent content) (Desk (Unmap block)) v read) (sym g.1) (plain_desk shape mode shown n a x doing noted (Write extent content) plan j (Unmap block) Done read (write_unmaps shape mode plan x suits extent content block doing some_words h c))
     write_goes extent content (Desk (Map block place)) got read chosen z j c h g = absurd (write_owns extent c.cut (Desk (Map block place)) c.is_job h)
     write_goes extent content (Desk (ReleaseOrder block)) got read chosen z j c h g = absurd (write_owns extent c.cut (Desk (ReleaseOrder block)) c.is_job h)
-    write_goes extent content (Desk (BeginCommit clean most)) got read chosen z j c h g = absurd (write_owns extent c.cut (Desk (BeginCommit clean most)) c.is_job h)
+    write_goes extent content (Desk (Arrive most)) got read chosen z j c h g = absurd (write_owns extent c.cut (Desk (Arrive most)) c.is_job h)
+    write_goes extent content (Desk (Ask most)) got read chosen z j c h g = absurd (write_owns extent c.cut (Desk (Ask most)) c.is_job h)
+    write_goes extent content (Desk (BeginCommit most)) got read chosen z j c h g = absurd (write_owns extent c.cut (Desk (BeginCommit most)) c.is_job h)
     write_goes extent content (Desk EndCommit) got read chosen z j c h g = absurd (write_owns extent c.cut (Desk EndCommit) c.is_job h)
+    write_goes extent content (Desk BreakCommit) got read chosen z j c h g = absurd (write_owns extent c.cut (Desk BreakCommit) c.is_job h)
     write_goes extent content (End answer) got read chosen z j c h g = absurd z
 
     -- of a flush, an invalidation and a migration nothing is claimed

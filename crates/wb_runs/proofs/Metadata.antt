@@ -10,6 +10,7 @@ use Rattle.std.specs.List.{count_by}
 use Rattle.std.specs.Prelude.{is_some}
 use Rattle.wb_tree.specs.Mapping.{Mapping, IsMapping, IsSound, AreInside, used_places}
 use Rattle.wb_tree.specs.Edits.{IsEdited}
+use Rattle.wb_tree.specs.declared.image.Image.{Image}
 use Rattle.wb_tree.proofs.Stored.Edited.{edited-none}
 use Rattle.wb_space.specs.Places.{noted, unused, place_count}
 use Rattle.wb_format.specs.declared.root.Root.{Root}
@@ -30,7 +31,7 @@ use Rattle.wb_policy.specs.Law.{Holdings, origins}
 use Rattle.wb_desk.specs.Desks.{DeskState, DeskInvariant}
 use Rattle.wb_desk.proofs.Committing.{begun_kept, ended_kept}
 use Rattle.wb_desk.proofs.Opened.{opened_kept}
-use Rattle.wb_desk.specs.Commits.{HasBegun, MayBegin, commit_begun, next_plan}
+use Rattle.wb_desk.specs.Commits.{HasBegun, MayBegin, commit_begun, commit_broken, next_plan}
 use Rattle.wb_desk.proofs.Marking.{origins-marked}
 use Rattle.wb_desk.specs.Opening.{opened}
 use Rattle.wb_devices.specs.declared.running.RunningCommit.{RunningCommit}
@@ -149,6 +150,16 @@ module _ (g : Geometry) (images : Images) (device : List History) where
   kept_readable P A Gone None k = k
   kept_readable P A Gone (Some commit) k = absurd k
   kept_readable P A (Opens mode reading) commit k = opening_readable A reading commit k
+
+-- commits are broken: nothing that is stored changes
+module _ (P : Type 0) (g : Geometry) (images : Images) (desk : DeskState P) where
+  pub broken_over : (commit : Option RunningCommit) (device : List History) → AtDesk g images desk commit device → AtDesk g images (commit_broken desk) commit device
+  broken_over commit device k = record { is = record { geometry = k.is.geometry; kept = let d = k.is.kept in record { mapping = d.mapping; blocks = d.blocks; slots = d.slots; busy = d.busy; places = d.places; next = d.next; each = d.each; counted = d.counted; numbered = d.numbered; known = d.known }; orders = k.is.orders; sound = k.is.sound }; stands = by_commit commit k.stands }
+    where
+      by_commit : (commit : Option RunningCommit) → Standing g images desk commit device → Standing g images (commit_broken desk) commit device
+      by_commit None (inl q) = inl (record { stored = q.stored; are = q.are; used = q.used; stores = q.stores; places = q.places; generation = q.generation; same = q.same; idle = q.idle })
+      by_commit None (inr b) = inr (record { readable = b.readable; busy = b.busy })
+      by_commit (Some c) l = record { of = l.of; under = l.under; edited = l.edited; entries = l.entries; places = l.places; generation = l.generation; busy = l.busy }
 
 -- ---- a commit begins and ends
 

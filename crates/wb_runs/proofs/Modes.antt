@@ -8,7 +8,7 @@ use Rattle.wb_desk.specs.Desks.{DeskState}
 use Rattle.wb_desk.specs.Commits.{commit_ended}
 use Rattle.wb_stage.specs.Asking.{IsGivenUp, DidUnmap, ended}
 use Rattle.wb_tasks.specs.declared.step.DeskStep.{DeskStep}
-use Rattle.wb_tasks.specs.declared.step.DeskStep.TheVariants.{Map, Unmap, ReleaseOrder, BeginCommit, EndCommit}
+use Rattle.wb_tasks.specs.declared.step.DeskStep.TheVariants.{Map, Unmap, ReleaseOrder, Arrive, Ask, BeginCommit, EndCommit, BreakCommit}
 use Rattle.wb_tasks.specs.declared.step.Want.{Want}
 use Rattle.wb_tasks.specs.declared.step.Want.TheVariants.{Cell, Device, Desk, End}
 use Rattle.wb_tasks.specs.declared.step.Got.{Got}
@@ -74,10 +74,25 @@ module _ (P A : Type 0) where
   by_release Gone orders b chosen d = tt
   by_release (Opens mode reading) orders b chosen d = tt
 
-  by_begin : (phase : Phase P A) (clean : Bool) (most : _) (chosen : Chosen P A) → Keeps phase (Desk (BeginCommit clean most)) chosen
-  by_begin (Stands t) clean most chosen = begun_mode t.desk chosen
-  by_begin Gone clean most chosen = tt
-  by_begin (Opens mode reading) clean most chosen = tt
+  by_begin : (phase : Phase P A) (most : _) (chosen : Chosen P A) → Keeps phase (Desk (BeginCommit most)) chosen
+  by_begin (Stands t) most chosen = begun_mode t.desk chosen
+  by_begin Gone most chosen = tt
+  by_begin (Opens mode reading) most chosen = tt
+
+  by_arrival : (phase : Phase P A) (most : _) (chosen : Chosen P A) → Keeps phase (Desk (Arrive most)) chosen
+  by_arrival (Stands t) most chosen = begun_mode t.desk chosen
+  by_arrival Gone most chosen = tt
+  by_arrival (Opens mode reading) most chosen = tt
+
+  by_asking : (phase : Phase P A) (most : _) (chosen : Chosen P A) → Keeps phase (Desk (Ask most)) chosen
+  by_asking (Stands t) most chosen = begun_mode t.desk chosen
+  by_asking Gone most chosen = tt
+  by_asking (Opens mode reading) most chosen = tt
+
+  by_break : (phase : Phase P A) (chosen : Chosen P A) → Keeps phase (Desk BreakCommit) chosen
+  by_break (Stands t) chosen = refl
+  by_break Gone chosen = tt
+  by_break (Opens mode reading) chosen = tt
 
   by_end : (phase : Phase P A) (chosen : Chosen P A) → Keeps phase (Desk EndCommit) chosen
   by_end (Stands t) chosen = ended_mode t.desk
@@ -85,8 +100,11 @@ module _ (P A : Type 0) where
   by_end (Opens mode reading) chosen = tt
 
   by_desk : (shape : Shape) (w : State P A) (x : Actor) (job : Job) (step : DeskStep) (got : Got) (read : List Bytes) (chosen : Chosen P A) → Gives shape w x job (Desk step) got read chosen → Keeps w.phase (Desk step) chosen
-  by_desk shape w x job (BeginCommit clean most) got read chosen g = by_begin w.phase clean most chosen
+  by_desk shape w x job (Arrive most) got read chosen g = by_arrival w.phase most chosen
+  by_desk shape w x job (Ask most) got read chosen g = by_asking w.phase most chosen
+  by_desk shape w x job (BeginCommit most) got read chosen g = by_begin w.phase most chosen
   by_desk shape w x job EndCommit got read chosen g = by_end w.phase chosen
+  by_desk shape w x job BreakCommit got read chosen g = by_break w.phase chosen
   by_desk shape w x (Migrate migration block) (Map b c) got read chosen g = by_map w.phase b c got chosen g.1
   by_desk shape w x (Migrate migration block) (Unmap b) got read chosen g = by_unmap w.phase b chosen g.2
   by_desk shape w x (Write extent content) (Unmap b) got read chosen g = by_unmap w.phase b chosen g.2

@@ -5,7 +5,7 @@ use Rattle.wb_types.specs.declared.mode.Mode.TheVariants.{Writeback, Writethroug
 use Rattle.wb_tasks.specs.Tables.{BlockRange, Writing, Displacing, OnBlock}
 use Rattle.wb_tasks.specs.Ready.{HoldsBlocks, IsOwnStep}
 use Rattle.wb_tasks.specs.declared.step.DeviceStep.TheVariants.{Read as ReadExtent, Write as WriteExtent, Sync, ReadMetadata, WriteNode, WriteRoot}
-use Rattle.wb_tasks.specs.declared.step.DeskStep.TheVariants.{Map, Unmap, ReleaseOrder, BeginCommit, EndCommit}
+use Rattle.wb_tasks.specs.declared.step.DeskStep.TheVariants.{Map, Unmap, ReleaseOrder, Arrive, Ask, BeginCommit, EndCommit, BreakCommit}
 use Rattle.wb_tasks.specs.declared.step.Want.{Want}
 use Rattle.wb_tasks.specs.declared.step.Want.TheVariants.{Cell, Device, Desk, End}
 use Rattle.wb_promise.specs.States.{Phase, Stands, Gone, Opens, OfTarget}
@@ -40,8 +40,11 @@ displacing_own part (Device WriteRoot) o = absurd o
 displacing_own part (Desk (Unmap block)) o = tt
 displacing_own part (Desk (Map block place)) o = absurd o
 displacing_own part (Desk (ReleaseOrder block)) o = absurd o
-displacing_own part (Desk (BeginCommit clean most)) o = absurd o
+displacing_own part (Desk (Arrive most)) o = absurd o
+displacing_own part (Desk (Ask most)) o = absurd o
+displacing_own part (Desk (BeginCommit most)) o = absurd o
 displacing_own part (Desk EndCommit) o = absurd o
+displacing_own part (Desk BreakCommit) o = absurd o
 displacing_own part (Cell step) o = tt
 displacing_own part (End answer) o = tt
 

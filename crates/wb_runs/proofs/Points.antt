@@ -9,12 +9,12 @@ use Rattle.wb_meta.specs.declared.read_steps.ReadSteps.{ReadSteps}
 use Rattle.wb_meta.specs.declared.commit_steps.CommitSteps.{CommitSteps}
 use Rattle.wb_meta.specs.declared.commit_steps.CommitSteps.TheVariants.{NodesWritten, NodesSynced, RootWritten, Done as Committed}
 use Rattle.wb_tasks.specs.Tables.{BlockRange, Invalidating, Migrating, OnBlock, TaskJob, Flushing, Suspending, Opening}
-use Rattle.wb_tasks.specs.Plan.{Plan, node_writes, release_orders, seal_looks}
+use Rattle.wb_tasks.specs.Plan.{Plan, failed_commit, node_writes, release_orders, seal_looks}
 use Rattle.wb_tasks.specs.Points.{OpenPoint, AtFirst, AtCache, AtOrigin, AtRead, AtRoot, AtRootSync, AtEnd, AtRefusal, open_left, open_answer}
 use Rattle.wb_tasks.specs.declared.step.Migration.{Migration}
 use Rattle.wb_tasks.specs.declared.step.Answer.{Answer}
 use Rattle.wb_tasks.specs.declared.step.DeviceStep.TheVariants.{Sync, WriteRoot}
-use Rattle.wb_tasks.specs.declared.step.DeskStep.TheVariants.{BeginCommit, EndCommit}
+use Rattle.wb_tasks.specs.declared.step.DeskStep.TheVariants.{Arrive, Ask, BeginCommit, EndCommit, BreakCommit}
 use Rattle.wb_tasks.specs.declared.step.Want.{Want}
 use Rattle.wb_tasks.specs.declared.step.Want.TheVariants.{Cell, Device, Desk}
 use Rattle.wb_devices.specs.declared.running.RunningCommit.{RunningCommit}
@@ -47,8 +47,13 @@ doing_of (Flushes serves most) = Flush
 doing_of (Suspends looks most) = Suspend
 
 abbrev pub begin_of : CommitJob → Want
-begin_of (Flushes serves most) = Desk (BeginCommit false most)
-begin_of (Suspends looks most) = Desk (BeginCommit true most)
+begin_of (Flushes serves most) = Desk (Arrive most)
+begin_of (Suspends looks most) = Desk (BeginCommit most)
+
+-- a flush alone asks with a ticket
+abbrev pub ask_of : CommitJob → List Want
+ask_of (Flushes serves most) = Desk (Ask most) ∷ []
+ask_of (Suspends looks most) = []
 
 abbrev pub first_looks : CommitJob → List OBlock
 first_looks (Flushes serves most) = []
@@ -64,6 +69,7 @@ following (Suspends looks most) = Cell SetSuspended ∷ []
 pub data FlushPoint : Type 0 where
   ToLook : FlushPoint
   ToBegin : (looks : List OBlock) → FlushPoint
+  ToAsk : FlushPoint
   ToSyncCache : (nodes : ℕ) → FlushPoint
   ToSyncOrigin : (nodes : ℕ) → FlushPoint
   ToWriteNodes : (left from : ℕ) → FlushPoint
@@ -72,6 +78,7 @@ pub data FlushPoint : Type 0 where
   ToEnd : (nodes : ℕ) → FlushPoint
   ToSetSuspended : FlushPoint
   ToSetFailed : FlushPoint
+  ToBreak : FlushPoint
   ToRelease : (blocks : List OBlock) → FlushPoint
 
 abbrev pub root_left : CommitJob → List Want
@@ -80,6 +87,7 @@ root_left job = Device (Sync Metadata) ∷ Device WriteRoot ∷ Device (Sync Met
 abbrev pub commit_left : CommitJob → FlushPoint → List Want
 commit_left job ToLook = Cell (Look Fail) ∷ (seal_looks (first_looks job) ++ begin_of job ∷ [])
 commit_left job (ToBegin looks) = seal_looks looks ++ begin_of job ∷ []
+commit_left job ToAsk = ask_of job
 commit_left job (ToSyncCache nodes) = Device (Sync Cache) ∷ Device (Sync Origin) ∷ (node_writes nodes 0 ++ root_left job)
 commit_left job (ToSyncOrigin nodes) = Device (Sync Origin) ∷ (node_writes nodes 0 ++ root_left job)
 commit_left job (ToWriteNodes left from) = node_writes left from ++ root_left job
@@ -87,7 +95,8 @@ commit_left job (ToWriteRoot nodes) = Device WriteRoot ∷ Device (Sync Metadata
 commit_left job (ToSyncRoot nodes) = Device (Sync Metadata) ∷ Desk EndCommit ∷ following job
 commit_left job (ToEnd nodes) = Desk EndCommit ∷ following job
 commit_left job ToSetSuspended = Cell SetSuspended ∷ []
-commit_left job ToSetFailed = Cell SetFailed ∷ []
+commit_left job ToSetFailed = failed_commit
+commit_left job ToBreak = Desk BreakCommit ∷ []
 commit_left job (ToRelease blocks) = release_orders blocks
 
 abbrev pub AtFlush : FlushPoint → Option RunningCommit → Type 0
@@ -109,8 +118,9 @@ IsLeading (ToSyncRoot nodes) = Unit {0}
 IsLeading (ToEnd nodes) = Unit {0}
 IsLeading point = ⊥
 
--- a flush alone gives up orders
+-- a flush alone asks with a ticket, or gives up orders
 abbrev pub IsOf : FlushPoint → CommitJob → Type 0
+IsOf ToAsk (Suspends looks most) = ⊥
 IsOf (ToRelease (block ∷ blocks)) (Suspends looks most) = ⊥
 IsOf point job = Unit {0}
 

@@ -14,7 +14,7 @@ use Rattle.wb_tasks.specs.Ready.{Suits, IsOwnStep}
 use Rattle.wb_tasks.specs.Tables.{BlockJob, Reading, Writing, Displacing, Invalidating, Migrating, TaskJob, OnBlock}
 use Rattle.wb_tasks.proofs.Readiness.{is_own_step, job_stays}
 use Rattle.wb_tasks.specs.declared.step.Answer.TheVariants.{Done as Finished}
-use Rattle.wb_tasks.specs.declared.step.DeskStep.TheVariants.{Map, Unmap, ReleaseOrder, BeginCommit, EndCommit}
+use Rattle.wb_tasks.specs.declared.step.DeskStep.TheVariants.{Map, Unmap, ReleaseOrder, Arrive, Ask, BeginCommit, EndCommit, BreakCommit}
 use Rattle.wb_tasks.specs.declared.step.DeviceStep.TheVariants.{Read as ReadExtent, Write as WriteExtent, Sync, ReadMetadata, WriteNode, WriteRoot}
 use Rattle.wb_tasks.specs.declared.step.Want.{Want}
 use Rattle.wb_tasks.specs.declared.step.Want.TheVariants.{Cell, Device, Desk, End}
@@ -138,16 +138,31 @@ module _ (P A : Type 0) (shape : Shape) where
   same_commit t commit (Displacing part) (Device WriteRoot) got chosen i = absurd i
   same_commit t commit (Invalidating part) (Device WriteRoot) got chosen i = absurd i
   same_commit t commit (Migrating m part) (Device WriteRoot) got chosen i = absurd i
-  same_commit t commit (Reading part) (Desk (BeginCommit clean most)) got chosen i = absurd i
-  same_commit t commit (Writing part) (Desk (BeginCommit clean most)) got chosen i = absurd i
-  same_commit t commit (Displacing part) (Desk (BeginCommit clean most)) got chosen i = absurd i
-  same_commit t commit (Invalidating part) (Desk (BeginCommit clean most)) got chosen i = absurd i
-  same_commit t commit (Migrating m part) (Desk (BeginCommit clean most)) got chosen i = absurd i
+  same_commit t commit (Reading part) (Desk (Arrive most)) got chosen i = absurd i
+  same_commit t commit (Reading part) (Desk (Ask most)) got chosen i = absurd i
+  same_commit t commit (Reading part) (Desk (BeginCommit most)) got chosen i = absurd i
+  same_commit t commit (Writing part) (Desk (Arrive most)) got chosen i = absurd i
+  same_commit t commit (Writing part) (Desk (Ask most)) got chosen i = absurd i
+  same_commit t commit (Writing part) (Desk (BeginCommit most)) got chosen i = absurd i
+  same_commit t commit (Displacing part) (Desk (Arrive most)) got chosen i = absurd i
+  same_commit t commit (Displacing part) (Desk (Ask most)) got chosen i = absurd i
+  same_commit t commit (Displacing part) (Desk (BeginCommit most)) got chosen i = absurd i
+  same_commit t commit (Invalidating part) (Desk (Arrive most)) got chosen i = absurd i
+  same_commit t commit (Invalidating part) (Desk (Ask most)) got chosen i = absurd i
+  same_commit t commit (Invalidating part) (Desk (BeginCommit most)) got chosen i = absurd i
+  same_commit t commit (Migrating m part) (Desk (Arrive most)) got chosen i = absurd i
+  same_commit t commit (Migrating m part) (Desk (Ask most)) got chosen i = absurd i
+  same_commit t commit (Migrating m part) (Desk (BeginCommit most)) got chosen i = absurd i
   same_commit t commit (Reading part) (Desk EndCommit) got chosen i = absurd i
+  same_commit t commit (Reading part) (Desk BreakCommit) got chosen i = absurd i
   same_commit t commit (Writing part) (Desk EndCommit) got chosen i = absurd i
+  same_commit t commit (Writing part) (Desk BreakCommit) got chosen i = absurd i
   same_commit t commit (Displacing part) (Desk EndCommit) got chosen i = absurd i
+  same_commit t commit (Displacing part) (Desk BreakCommit) got chosen i = absurd i
   same_commit t commit (Invalidating part) (Desk EndCommit) got chosen i = absurd i
+  same_commit t commit (Invalidating part) (Desk BreakCommit) got chosen i = absurd i
   same_commit t commit (Migrating m part) (Desk EndCommit) got chosen i = absurd i
+  same_commit t commit (Migrating m part) (Desk BreakCommit) got chosen i = absurd i
 
   -- a task of a block is at its own step
   pub own_step : (card : Card) (plan : Plan) (job : BlockJob) → plan.job ≡ OnBlock job → Suits shape.geometry.origin_blocks plan card → IsOwnStep (OnBlock job) (want plan)

@@ -10,6 +10,8 @@ use Rattle.wb_types.specs.declared.number.CBlock.{CBlock}
 use Rattle.wb_types.specs.declared.refusal.Refusal.TheVariants.{Failed, Busy, Worn}
 use Rattle.wb_disk.specs.Device.{Content as Bytes, History}
 use Rattle.wb_words.specs.declared.word.Word.TheVariants.{Cell as LockWord, Seal as SealWord, Number, Count as CountWord, Fail}
+use Rattle.wb_words.specs.declared.step.CellResult.{CellResult}
+use Rattle.wb_words.specs.declared.step.CellResult.TheVariants.{Done as CellDone, Word as Found, Lost as CellLost}
 use Rattle.wb_words.specs.declared.step.CellStep.{CellStep}
 use Rattle.wb_words.specs.declared.step.CellStep.TheVariants.{Look, Take, Release, Seal, Finish, Count, SetFailed, SetSuspended}
 use Rattle.wb_words.specs.declared.card.Card.{Card}
@@ -22,11 +24,11 @@ use Rattle.wb_tasks.specs.declared.step.Answer.{Answer}
 use Rattle.wb_tasks.specs.declared.step.Answer.TheVariants.{Done as Finished}
 use Rattle.wb_tasks.specs.declared.step.DeviceStep.{DeviceStep}
 use Rattle.wb_tasks.specs.declared.step.DeviceStep.TheVariants.{Read as ReadExtent, Write as WriteExtent, Sync, ReadMetadata, WriteNode, WriteRoot}
-use Rattle.wb_tasks.specs.declared.step.DeskStep.TheVariants.{Map, Unmap, ReleaseOrder, BeginCommit, EndCommit}
+use Rattle.wb_tasks.specs.declared.step.DeskStep.TheVariants.{Map, Unmap, ReleaseOrder, Arrive, Ask, BeginCommit, EndCommit, BreakCommit}
 use Rattle.wb_tasks.specs.declared.step.Want.{Want}
 use Rattle.wb_tasks.specs.declared.step.Want.TheVariants.{Cell, Device, Desk, End}
 use Rattle.wb_tasks.specs.declared.step.Got.{Got}
-use Rattle.wb_tasks.specs.declared.step.Got.TheVariants.{Begin, Done, Word, Lost, Fault, Refused as GotRefused, Began, More}
+use Rattle.wb_tasks.specs.declared.step.Got.TheVariants.{Begin, Done, Word, Lost, Fault, Refused as GotRefused, Began, Ticket, Served, More}
 use Rattle.wb_promise.specs.States.{Shape}
 use Rattle.wb_promise.specs.Happenings.{block_range}
 use Rattle.wb_promise.specs.Clerk.{Reading, Position, Entering, enter, enter_each, readings_from}
@@ -81,42 +83,10 @@ look_was s (Device step) x f = f
 look_was s (Desk step) x f = f
 look_was s (End answer) x f = f
 
-fault_was : (s : Plan) (v : Want) → (after_fault s v).answer ≡ Finished → s.answer ≡ Finished
-fault_was s (Device step) f = absurd (cc)
-fault_was s (Cell step) f = f
-fault_was s (Desk step) f = f
-fault_was s (End answer) f = f
-
-refusal_was : (s : Plan) (v : Want) (r : _) → (after_refusal s v r).answer ≡ Finished → s.answer ≡ Finished
-refusal_was s (Desk (BeginCommit clean most)) r f = absurd (cc)
-refusal_was s (Desk EndCommit) r f = absurd (cc)
-refusal_was s (Desk (Map b c)) r f = absurd (cc)
-refusal_was s (Desk (Unmap b)) r f = absurd (cc)
-refusal_was s (Desk (ReleaseOrder b)) r f = absurd (cc)
-refusal_was s (Device step) r f = absurd (cc)
-refusal_was s (Cell step) r f = absurd (cc)
-refusal_was s (End answer) r f = absurd (cc)
-
-more_was : (s : Plan) (v : Want) → (after_more s v).answer ≡ Finished → s.answer ≡ Finished
-more_was s (Device (ReadExtent d e)) f = f
-more_was s (Device (WriteExtent d e)) f = f
-more_was s (Device (Sync d)) f = f
-more_was s (Device (ReadMetadata k)) f = f
-more_was s (Device (WriteNode k)) f = f
-more_was s (Device WriteRoot) f = f
-more_was s (Cell step) f = f
-more_was s (Desk step) f = f
-more_was s (End answer) f = f
-
-pub answer_was : (s : Plan) (got : Got) → (after s got).answer ≡ Finished → s.answer ≡ Finished
-answer_was s Begin f = f
-answer_was s Done f = f
-answer_was s (Word x) f = look_was s (want s) x f
-answer_was s Lost f = absurd (cc)
-answer_was s Fault f = fault_was s (want s) f
-answer_was s (GotRefused r) f = refusal_was s (want s) r f
-answer_was s (Began nodes) f = f
-answer_was s More f = more_was s (want s) f
+pub answer_was : (s : Plan) (result : CellResult) → (after s (got_of result)).answer ≡ Finished → s.answer ≡ Finished
+answer_was s CellDone f = f
+answer_was s (Found x) f = look_was s (want s) x f
+answer_was s CellLost f = absurd (cc)
 
 -- ---- what is noted
 
@@ -153,7 +123,7 @@ module _ (shape : Shape) (mode : Mode) (whole : Extent) (part_of : BlockRange �
     is_job = same ∙ c.is_job;
     cuts = c.cuts;
     inside = c.inside;
-    covers = λ f. by_steps plan.steps plan.job refl refl e (has c.cut c.is_job) c.is_job (c.covers (answer_was plan (got_of (result_of words step)) f)) f;
+    covers = λ f. by_steps plan.steps plan.job refl refl e (has c.cut c.is_job) c.is_job (c.covers (answer_was plan (result_of words step) f)) f;
   }
     where
       own_part : BlockRange

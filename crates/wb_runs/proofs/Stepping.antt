@@ -11,11 +11,11 @@ use Rattle.wb_meta.specs.declared.read_steps.ReadSteps.TheVariants.{Begun, First
 use Rattle.wb_tasks.specs.declared.step.Answer.{Answer}
 use Rattle.wb_tasks.specs.declared.step.Answer.TheVariants.{Done as Finished, Refused as Refuses}
 use Rattle.wb_tasks.specs.declared.step.DeviceStep.TheVariants.{Read as ReadExtent, Write as WriteExtent, Sync, ReadMetadata, WriteNode, WriteRoot}
-use Rattle.wb_tasks.specs.declared.step.DeskStep.TheVariants.{Map, Unmap, ReleaseOrder, BeginCommit, EndCommit}
+use Rattle.wb_tasks.specs.declared.step.DeskStep.TheVariants.{Map, Unmap, ReleaseOrder, BeginCommit, EndCommit, Arrive, Ask, BreakCommit}
 use Rattle.wb_tasks.specs.declared.step.Want.{Want}
 use Rattle.wb_tasks.specs.declared.step.Want.TheVariants.{Cell, Device, Desk, End}
 use Rattle.wb_tasks.specs.declared.step.Got.{Got}
-use Rattle.wb_tasks.specs.declared.step.Got.TheVariants.{Done, Fault, Refused as GotRefused, Began, More}
+use Rattle.wb_tasks.specs.declared.step.Got.TheVariants.{Done, Fault, Refused as GotRefused, Began, More, Ticket, Served}
 use Rattle.wb_tasks.specs.Ready.{HoldsBlocks}
 use Rattle.wb_devices.specs.declared.running.RunningCommit.{RunningCommit}
 use Rattle.wb_devices.specs.declared.devices.Devices.{Devices}
@@ -28,12 +28,14 @@ use Rattle.wb_devices.specs.Opened.{HasCome}
 use Rattle.wb_promise.specs.declared.job.Job.{Job}
 use Rattle.wb_promise.specs.declared.job.Job.TheVariants.{Read, Write, Flush, Suspend, Open, Migrate, Replace, Invalidate}
 use Rattle.wb_promise.specs.States.{Shape, State, Target, Phase, Stands, Gone, Opens, OfTarget, OfReading, with_device, Actor}
-use Rattle.wb_promise.specs.Happenings.{Chosen, Plain, Cut, Orders, Begins, Reaches, Puts, Commits, Asks, Opened, DoesPut, DoesSync, DoesRead, DoesBegin, DoesMap, DoesRelease, DoesOpen, Gives, DoesUnmap, Looks}
-use Rattle.wb_promise.specs.Effects.{device_done, devices_then, commit_then, phase_then}
+use Rattle.wb_promise.specs.Happenings.{Chosen, Plain, Cut, Orders, Begins, Reaches, Puts, Commits, Asks, Opened, DoesPut, DoesSync, DoesRead, DoesBegin, DoesMap, DoesRelease, DoesOpen, Gives, DoesUnmap, Looks, DoesLead, DoesArrive, DoesAsk}
+use Rattle.wb_promise.specs.Effects.{device_done, devices_then, commit_then, phase_then, begun_desk, begun_commit}
 use Rattle.wb_runs.proofs.Images.{Images, Turns, stays}
 use Rattle.wb_runs.proofs.Desks.{mapped_stands, unmapped_stands, released_for}
 use Rattle.wb_runs.proofs.Underway.{Readable, Found, led_on, sync_does, sync_found, found_readable}
-use Rattle.wb_runs.proofs.Metadata.{AtDesk, HasReached, Rooting, AtOpening, MetadataKept, begins_over, ends_over, root_begins, target_stands, kept_readable}
+use Rattle.wb_stage.specs.declared.share.Share.{Share}
+use Rattle.wb_desk.specs.Commits.{commit_broken}
+use Rattle.wb_runs.proofs.Metadata.{AtDesk, HasReached, Rooting, AtOpening, MetadataKept, begins_over, ends_over, root_begins, target_stands, kept_readable, broken_over}
 use Rattle.wb_types.specs.declared.number.OBlock.{OBlock}
 use Rattle.wb_stage.specs.Asking.{order_of}
 
@@ -197,9 +199,10 @@ module _ (P A : Type 0) (shape : Shape) where
       by_got got n h = absurd h
   read_metadata i (Opens mode (Some was)) m left got chosen k s = absurd s
 
-  begin_commit : (seen : Option (List Bool)) (i : Images) (phase : Phase P A) (commit : Option RunningCommit) (m : List History) (clean : Bool) (most : ℕ) (got : Got) (chosen : Chosen P A) → K i phase commit m → OfTarget phase (λ t. DoesBegin seen most t.desk got chosen) →
-      T i (phase_then shape phase (Desk (BeginCommit clean most)) got chosen) (commit_then phase commit (Desk (BeginCommit clean most)) got chosen) m
-  begin_commit seen i (Stands t) commit m clean most (Began nodes) (Commits c tree) k s = by_commit commit k
+  -- a commit begins, where it does
+  begun : (i : Images) (t : Target P) (commit : Option RunningCommit) (m : List History) (seen : Option (List Bool)) (most : ℕ) (got : Got) (chosen : Chosen P A) → K i (Stands t) commit m → DoesBegin seen most t.desk got chosen →
+      T i (Stands (record { words = t.words; desk = begun_desk chosen t.desk })) (begun_commit chosen commit) m
+  begun i t commit m seen most (Began nodes) (Commits c tree) k s = by_commit commit k
     where
       idle : t.desk.space.committing ≡ false
       idle = s.3.1.may.idle
@@ -210,10 +213,47 @@ module _ (P A : Type 0) (shape : Shape) where
         | inl q ↦ let b = begins_over P shape.geometry i t.desk m s.3.0 seen c tree k.is q s.2 s.3.1 in record { now = b.now; turn = b.turn; turned = b.turned; kept = b.kept.0 }
         | inr b ↦ absurd (let a = b.busy in let e = idle in cc)
       ]
-  begin_commit seen i (Stands t) commit m clean most (GotRefused refusal) Plain k s = same i (Stands t) commit m k
-  begin_commit seen i (Stands t) commit m clean most got chosen k s = absurd s
-  begin_commit seen i Gone commit m clean most got chosen k s = absurd s
-  begin_commit seen i (Opens mode reading) commit m clean most got chosen k s = absurd s
+  begun i t commit m seen most (GotRefused refusal) Plain k s = same i (Stands t) commit m k
+  begun i t commit m seen most got chosen k s = absurd s
+
+  begin_commit : (seen : Option (List Bool)) (i : Images) (phase : Phase P A) (commit : Option RunningCommit) (m : List History) (most : ℕ) (got : Got) (chosen : Chosen P A) → K i phase commit m → OfTarget phase (λ t. DoesBegin seen most t.desk got chosen) →
+      T i (phase_then shape phase (Desk (BeginCommit most)) got chosen) (commit_then phase commit (Desk (BeginCommit most)) got chosen) m
+  begin_commit seen i (Stands t) commit m most got chosen k s = begun i t commit m seen most got chosen k s
+  begin_commit seen i Gone commit m most got chosen k s = absurd s
+  begin_commit seen i (Opens mode reading) commit m most got chosen k s = absurd s
+
+  -- a flush leads one, or changes nothing
+  leads : (i : Images) (t : Target P) (commit : Option RunningCommit) (m : List History) (most : ℕ) (got : Got) (chosen : Chosen P A) → K i (Stands t) commit m → DoesLead most t.desk got chosen → T i (Stands (record { words = t.words; desk = begun_desk chosen t.desk })) (begun_commit chosen commit) m
+  leads i t commit m most (Began nodes) (Commits c tree) k s = begun i t commit m None most (Began nodes) (Commits c tree) k s.1
+  leads i t commit m most (GotRefused refusal) Plain k s = same i (Stands t) commit m k
+  leads i t commit m most got chosen k s = absurd s
+
+  arrives : (i : Images) (phase : Phase P A) (commit : Option RunningCommit) (m : List History) (most : ℕ) (got : Got) (chosen : Chosen P A) → K i phase commit m → OfTarget phase (λ t. DoesArrive most t.desk got chosen) →
+      T i (phase_then shape phase (Desk (Arrive most)) got chosen) (commit_then phase commit (Desk (Arrive most)) got chosen) m
+  arrives i (Stands t) commit m most Ticket Plain k s = same i (Stands t) commit m k
+  arrives i (Stands t) commit m most Ticket chosen k s = absurd s
+  arrives i (Stands t) commit m most (Began nodes) chosen k s = leads i t commit m most (Began nodes) chosen k s
+  arrives i (Stands t) commit m most (GotRefused refusal) chosen k s = leads i t commit m most (GotRefused refusal) chosen k s
+  arrives i (Stands t) commit m most got chosen k s = absurd s
+  arrives i Gone commit m most got chosen k s = absurd s
+  arrives i (Opens mode reading) commit m most got chosen k s = absurd s
+
+  asks : (share : Share) (i : Images) (phase : Phase P A) (commit : Option RunningCommit) (m : List History) (most : ℕ) (got : Got) (chosen : Chosen P A) → K i phase commit m → OfTarget phase (λ t. DoesAsk share most t.desk got chosen) →
+      T i (phase_then shape phase (Desk (Ask most)) got chosen) (commit_then phase commit (Desk (Ask most)) got chosen) m
+  asks share i (Stands t) commit m most Served Plain k s = same i (Stands t) commit m k
+  asks share i (Stands t) commit m most Served chosen k s = absurd s.1
+  asks share i (Stands t) commit m most (Began nodes) chosen k s = leads i t commit m most (Began nodes) chosen k s.1
+  asks share i (Stands t) commit m most (GotRefused refusal) chosen k s = leads i t commit m most (GotRefused refusal) chosen k s.1
+  asks share i (Stands t) commit m most got chosen k s = absurd s.1
+  asks share i Gone commit m most got chosen k s = absurd s
+  asks share i (Opens mode reading) commit m most got chosen k s = absurd s
+
+  -- commits are broken: what runs, and what is stored, stays
+  breaks : (i : Images) (phase : Phase P A) (commit : Option RunningCommit) (m : List History) (got : Got) (chosen : Chosen P A) → K i phase commit m → OfTarget phase (λ t. Unit {0}) →
+      T i (phase_then shape phase (Desk BreakCommit) got chosen) (commit_then phase commit (Desk BreakCommit) got chosen) m
+  breaks i (Stands t) commit m got chosen k s = same i (Stands (record { words = t.words; desk = commit_broken t.desk })) commit m (broken_over P shape.geometry i t.desk commit m k)
+  breaks i Gone commit m got chosen k s = absurd s
+  breaks i (Opens mode reading) commit m got chosen k s = absurd s
 
   end_commit : (i : Images) (phase : Phase P A) (commit : Option RunningCommit) (m : List History) (got : Got) (chosen : Chosen P A) → K i phase commit m → OfTarget phase (λ t. is_all_done commit ≡ true) →
       T i (phase_then shape phase (Desk EndCommit) got chosen) (commit_then phase commit (Desk EndCommit) got chosen) m
@@ -343,20 +383,46 @@ module _ (P A : Type 0) (shape : Shape) where
     metadata_fact (Migrate migration block) left g = (g.1, g.2)
     metadata_fact (Replace old new) left g = (g.1, g.2)
 
-    -- of what a commit is: that of a suspend is clean
-    abbrev pub seen_by : Job → Option (List Bool)
-    seen_by Suspend = Some actor.seen
-    seen_by job = None
+    -- asked for a commit
+    pub begin_fact : (job : Job) (most : ℕ) → G job (Desk (BeginCommit most)) → OfTarget w.phase (λ t. DoesBegin (Some actor.seen) most t.desk got chosen)
+    begin_fact (Read x) most g = g.1
+    begin_fact (Write x c) most g = g.1
+    begin_fact Flush most g = g.1
+    begin_fact Suspend most g = g.1
+    begin_fact (Invalidate block) most g = g.1
+    begin_fact (Open mode) most g = g.1
+    begin_fact (Migrate migration block) most g = g.1
+    begin_fact (Replace old new) most g = g.1
 
-    pub begin_fact : (job : Job) (clean : Bool) (most : ℕ) → G job (Desk (BeginCommit clean most)) → OfTarget w.phase (λ t. DoesBegin (seen_by job) most t.desk got chosen)
-    begin_fact (Read x) clean most g = g.2
-    begin_fact (Write x c) clean most g = g.2
-    begin_fact Flush clean most g = g.2
-    begin_fact Suspend clean most g = g.2
-    begin_fact (Invalidate block) clean most g = g.2
-    begin_fact (Open mode) clean most g = g.2
-    begin_fact (Migrate migration block) clean most g = g.2
-    begin_fact (Replace old new) clean most g = g.2
+    pub arrive_fact : (job : Job) (most : ℕ) → G job (Desk (Arrive most)) → OfTarget w.phase (λ t. DoesArrive most t.desk got chosen)
+    arrive_fact (Read x) most g = g.1
+    arrive_fact (Write x c) most g = g.1
+    arrive_fact Flush most g = g.1
+    arrive_fact Suspend most g = g.1
+    arrive_fact (Invalidate block) most g = g.1
+    arrive_fact (Open mode) most g = g.1
+    arrive_fact (Migrate migration block) most g = g.1
+    arrive_fact (Replace old new) most g = g.1
+
+    pub ask_fact : (job : Job) (most : ℕ) → G job (Desk (Ask most)) → OfTarget w.phase (λ t. DoesAsk actor.share most t.desk got chosen)
+    ask_fact (Read x) most g = g.1
+    ask_fact (Write x c) most g = g.1
+    ask_fact Flush most g = g.1
+    ask_fact Suspend most g = g.1
+    ask_fact (Invalidate block) most g = g.1
+    ask_fact (Open mode) most g = g.1
+    ask_fact (Migrate migration block) most g = g.1
+    ask_fact (Replace old new) most g = g.1
+
+    pub break_fact : (job : Job) → G job (Desk BreakCommit) → OfTarget w.phase (λ t. Unit {0})
+    break_fact (Read x) g = g.2
+    break_fact (Write x c) g = g.2
+    break_fact Flush g = g.2
+    break_fact Suspend g = g.2
+    break_fact (Invalidate block) g = g.2
+    break_fact (Open mode) g = g.2
+    break_fact (Migrate migration block) g = g.2
+    break_fact (Replace old new) g = g.2
 
     pub end_fact : (job : Job) → G job (Desk EndCommit) → OfTarget w.phase (λ t. is_all_done w.commit ≡ true)
     end_fact (Read x) g = g.2
@@ -456,7 +522,10 @@ module _ (P A : Type 0) (shape : Shape) where
         by_commit None e k h = subst (λ (n : List History). T i (phase_then shape w.phase (Device (ReadMetadata left)) got chosen) (commit_then w.phase None (Device (ReadMetadata left)) got chosen) n) (sym still)
             (read_metadata i w.phase m left got chosen k h)
         by_commit (Some c) e k h = absurd (cc)
-    done_kept i buffer job (Desk (BeginCommit clean most)) k g = begin_commit (seen_by job) i w.phase w.commit m clean most got chosen k (begin_fact job clean most g)
+    done_kept i buffer job (Desk (Arrive most)) k g = arrives i w.phase w.commit m most got chosen k (arrive_fact job most g)
+    done_kept i buffer job (Desk (Ask most)) k g = asks actor.share i w.phase w.commit m most got chosen k (ask_fact job most g)
+    done_kept i buffer job (Desk (BeginCommit most)) k g = begin_commit (Some actor.seen) i w.phase w.commit m most got chosen k (begin_fact job most g)
+    done_kept i buffer job (Desk BreakCommit) k g = breaks i w.phase w.commit m got chosen k (break_fact job g)
     done_kept i buffer job (Desk EndCommit) k g = end_commit i w.phase w.commit m got chosen k (end_fact job g)
     done_kept i buffer job (Desk (Map b c)) k g = map_keeps i w.phase w.commit m b c got chosen k (map_fact job b c g)
     done_kept i buffer job (Desk (Unmap b)) k g = unmap_keeps i w.phase w.commit m b got chosen k (unmap_fact job b g)

@@ -1,10 +1,12 @@
 -- Each result of a step fits it, so its actor has what is needed for what is left; and the rule of the words is kept.
-use Rattle.std.proofs.Common.{◌≡◌, ◌≢◌, inl, inr, ℕ, Bool, true, false, eqb, List, Option, Some, None, refl, sym, subst, if◌then◌else◌}
+use Rattle.wb_stage.specs.declared.share.Share.{Share}
+use Rattle.wb_desk.specs.Sharing.{IsLeadRefused}
+use Rattle.std.proofs.Common.{◌≡◌, ◌≢◌, inl, inr, ℕ, Bool, true, false, eqb, List, Option, Some, None, refl, sym, subst, if◌then◌else◌, ◌⊎◌}
 use Rattle.wb_types.specs.declared.mode.Dev.{Dev}
 use Rattle.wb_types.specs.declared.mode.Dev.TheVariants.{Metadata, Cache, Origin}
 use Rattle.wb_types.specs.declared.mode.Mode.{Mode}
 use Rattle.wb_types.specs.declared.refusal.Refusal.{Refusal}
-use Rattle.wb_types.specs.declared.refusal.Refusal.TheVariants.{Busy, Memory, GenerationEnd, Mismatch, NotFormatted, Damaged, Io}
+use Rattle.wb_types.specs.declared.refusal.Refusal.TheVariants.{Busy, Memory, GenerationEnd, Mismatch, NotFormatted, Damaged, Io, Failed}
 use Rattle.wb_disk.specs.Device.{Content as Bytes, History}
 use Rattle.wb_words.specs.declared.step.CellStep.{CellStep}
 use Rattle.wb_words.specs.declared.step.CellStep.TheVariants.{Look, Take, Release, Seal, Finish, Count, SetFailed, SetSuspended}
@@ -17,18 +19,18 @@ use Rattle.wb_desk.specs.Desks.{DeskState}
 use Rattle.wb_desk.specs.Commits.{IsBeginRefused}
 use Rattle.wb_tasks.specs.Plan.{Fits, IsStep, MayBeDone, got_of}
 use Rattle.wb_tasks.specs.declared.step.DeviceStep.TheVariants.{Read as ReadExtent, Write as WriteExtent, Sync, ReadMetadata, WriteNode, WriteRoot}
-use Rattle.wb_tasks.specs.declared.step.DeskStep.TheVariants.{Map, Unmap, ReleaseOrder, BeginCommit, EndCommit}
+use Rattle.wb_tasks.specs.declared.step.DeskStep.TheVariants.{Map, Unmap, ReleaseOrder, BeginCommit, EndCommit, Arrive, Ask, BreakCommit}
 use Rattle.wb_tasks.specs.declared.step.Want.{Want}
 use Rattle.wb_tasks.specs.declared.step.Want.TheVariants.{Cell, Device, Desk, End}
 use Rattle.wb_tasks.specs.declared.step.Got.{Got}
-use Rattle.wb_tasks.specs.declared.step.Got.TheVariants.{Done, Fault, Refused as GotRefused, Began, More}
+use Rattle.wb_tasks.specs.declared.step.Got.TheVariants.{Done, Fault, Refused as GotRefused, Began, More, Ticket, Served}
 use Rattle.wb_devices.specs.declared.running.RunningCommit.{RunningCommit}
 use Rattle.wb_devices.specs.Opened.{HasCome, got_of_refusal}
 use Rattle.wb_promise.specs.declared.job.Job.{Job}
 use Rattle.wb_promise.specs.declared.job.Job.TheVariants.{Read, Write, Flush, Suspend, Open, Migrate, Replace, Invalidate}
 use Rattle.wb_promise.specs.States.{Actor, Shape, State, Phase, Stands, Gone, Opens, OfTarget, OfReading}
-use Rattle.wb_promise.specs.Happenings.{Chosen, Plain, Cut, Orders, Begins, Reaches, Puts, Commits, Asks, Opened, DoesRead, DoesBegin, DoesMap, Gives, Looks}
-use Rattle.wb_runs.proofs.Stepping.{metadata_fact, begin_fact, map_fact, sync_fact, node_fact, root_fact, seen_by}
+use Rattle.wb_promise.specs.Happenings.{Chosen, Plain, Cut, Orders, Begins, Reaches, Puts, Commits, Asks, Opened, DoesRead, DoesBegin, DoesMap, Gives, Looks, DoesArrive, DoesAsk}
+use Rattle.wb_runs.proofs.Stepping.{metadata_fact, begin_fact, map_fact, sync_fact, node_fact, root_fact, arrive_fact, ask_fact}
 
 -- ---- results
 
@@ -51,16 +53,50 @@ done_fits : (next : Want) (got : Got) → MayBeDone next → got ≡ Done → Fi
 done_fits next got m e = subst (λ (g : Got). Fits next g) (sym e) m
 
 -- of a desk that is asked for a commit
-begin_fits : {P A : Type 0} (seen : Option (List Bool)) (clean : Bool) (most : ℕ) (desk : DeskState P) (got : Got) (chosen : Chosen P A) → DoesBegin seen most desk got chosen → Fits (Desk (BeginCommit clean most)) got
-begin_fits seen clean most desk (Began nodes) (Commits c tree) d = d.0
-begin_fits {P} {A} seen clean most desk (GotRefused refusal) Plain d = by_cause refusal d
+begin_fits : {P A : Type 0} (seen : Option (List Bool)) (most : ℕ) (desk : DeskState P) (got : Got) (chosen : Chosen P A) → DoesBegin seen most desk got chosen → Fits (Desk (BeginCommit most)) got
+begin_fits seen most desk (Began nodes) (Commits c tree) d = d.0
+begin_fits {P} {A} seen most desk (GotRefused refusal) Plain d = by_cause refusal d
   where
-    by_cause : (r : Refusal) → IsBeginRefused desk r → Fits (Desk (BeginCommit clean most)) (GotRefused r)
+    by_cause : (r : Refusal) → IsBeginRefused desk r → Fits (Desk (BeginCommit most)) (GotRefused r)
     by_cause Busy d = tt
     by_cause Memory d = tt
     by_cause GenerationEnd d = tt
     by_cause r d = absurd d
-begin_fits seen clean most desk got chosen d = absurd d
+begin_fits seen most desk got chosen d = absurd d
+
+-- why a flush leads none
+lead_refusal : {P : Type 0} (desk : DeskState P) (r : Refusal) → IsLeadRefused desk r → (r ≡ Failed) ⊎ (r ≡ Memory) ⊎ (r ≡ GenerationEnd)
+lead_refusal desk r (inl failed) = inl failed.0
+lead_refusal desk r (inr d) = by_cause r d.1 d.2
+  where
+    by_cause : (r : Refusal) → desk.space.committing ≡ false → IsBeginRefused desk r → (r ≡ Failed) ⊎ (r ≡ Memory) ⊎ (r ≡ GenerationEnd)
+    by_cause Busy idle d = absurd (let runs = d in let is = idle in cc)
+    by_cause Memory idle d = inr (inl refl)
+    by_cause GenerationEnd idle d = inr (inr refl)
+    by_cause r idle d = absurd d
+
+-- of one that arrives, or asks with a ticket
+arrival_fits : {P A : Type 0} (most : ℕ) (desk : DeskState P) (got : Got) (chosen : Chosen P A) → DoesArrive most desk got chosen → Fits (Desk (Arrive most)) got
+arrival_fits most desk Ticket Plain d = tt
+arrival_fits most desk Ticket chosen d = absurd d
+arrival_fits most desk (Began nodes) (Commits c tree) d = d.1.0
+arrival_fits most desk (GotRefused refusal) Plain d = elim (lead_refusal desk refusal d) [
+  | inl e ↦ subst (λ (r : Refusal). Fits (Desk (Arrive most)) (GotRefused r)) (sym e) tt
+  | inr (inl e) ↦ subst (λ (r : Refusal). Fits (Desk (Arrive most)) (GotRefused r)) (sym e) tt
+  | inr (inr e) ↦ subst (λ (r : Refusal). Fits (Desk (Arrive most)) (GotRefused r)) (sym e) tt
+]
+arrival_fits most desk got chosen d = absurd d
+
+asking_fits : {P A : Type 0} (share : Share) (most : ℕ) (desk : DeskState P) (got : Got) (chosen : Chosen P A) → DoesAsk share most desk got chosen → Fits (Desk (Ask most)) got
+asking_fits share most desk Served Plain d = tt
+asking_fits share most desk Served chosen d = absurd d.1
+asking_fits share most desk (Began nodes) (Commits c tree) d = d.1.1.0
+asking_fits share most desk (GotRefused refusal) Plain d = elim (lead_refusal desk refusal d.1) [
+  | inl e ↦ subst (λ (r : Refusal). Fits (Desk (Ask most)) (GotRefused r)) (sym e) tt
+  | inr (inl e) ↦ subst (λ (r : Refusal). Fits (Desk (Ask most)) (GotRefused r)) (sym e) tt
+  | inr (inr e) ↦ subst (λ (r : Refusal). Fits (Desk (Ask most)) (GotRefused r)) (sym e) tt
+]
+asking_fits share most desk got chosen d = absurd d.1
 
 -- of a sector that an opening has read
 come_fits : {A : Type 0} (shape : Shape) (left : ℕ) (now : ReadSteps A) (commit commit' : Option RunningCommit) (got : Got) (left' : Option (ReadSteps A)) → got ≢ Fault → HasCome shape.geometry left now commit got left' commit' → Fits (Device (ReadMetadata left)) got
@@ -105,10 +141,11 @@ module _ (P A : Type 0) (shape : Shape) (w : State P A) (actor : Actor) (got : G
   on_words Gone step e = absurd e
   on_words (Opens mode reading) step e = absurd e
 
-  on_desk : (seen : Option (List Bool)) (phase : Phase P A) (clean : Bool) (most : ℕ) → OfTarget phase (λ t. DoesBegin seen most t.desk got chosen) → Fits (Desk (BeginCommit clean most)) got
-  on_desk seen (Stands t) clean most d = begin_fits seen clean most t.desk got chosen d
-  on_desk seen Gone clean most d = absurd d
-  on_desk seen (Opens mode reading) clean most d = absurd d
+  -- what holds of the target that stands, whose desk is asked
+  on_desk : (phase : Phase P A) (next : Want) (so : DeskState P → Type 0) → ((desk : DeskState P) → so desk → Fits next got) → OfTarget phase (λ t. so t.desk) → Fits next got
+  on_desk (Stands t) next so fits d = fits t.desk d
+  on_desk Gone next so fits d = absurd d
+  on_desk (Opens mode reading) next so fits d = absurd d
 
   on_metadata : (phase : Phase P A) (left : ℕ) → OfReading phase (λ mode was. DoesRead mode shape.geometry left was w.devices.metadata w.commit got chosen) → Fits (Device (ReadMetadata left)) got
   on_metadata (Stands t) left d = absurd d
@@ -154,6 +191,16 @@ module _ (P A : Type 0) (shape : Shape) (w : State P A) (actor : Actor) (got : G
   end_given (Open mode) g = g.1
   end_given (Migrate migration block) g = g.1
   end_given (Replace old new) g = g.1
+
+  pub break_given : (job : Job) → Gives shape w actor job (Desk BreakCommit) got read chosen → got ≡ Done
+  break_given (Read x) g = g.1
+  break_given (Write x c) g = g.1
+  break_given Flush g = g.1
+  break_given Suspend g = g.1
+  break_given (Invalidate block) g = g.1
+  break_given (Open mode) g = g.1
+  break_given (Migrate migration block) g = g.1
+  break_given (Replace old new) g = g.1
 
   map_fits : (desk : DeskState P) (b c : _) (got : Got) (ch : Chosen P A) → DoesMap b c desk got ch → Fits (Desk (Map b c)) got
   map_fits desk b c Done (Asks new) d = tt
@@ -208,7 +255,10 @@ module _ (P A : Type 0) (shape : Shape) (w : State P A) (actor : Actor) (got : G
   gives_fits job (Device (WriteNode number)) i g = done_fits (Device (WriteNode number)) got tt (node_fact P A shape w actor got read chosen job number g).0
   gives_fits job (Device WriteRoot) i g = done_fits (Device WriteRoot) got tt (root_fact P A shape w actor got read chosen job g).0
   gives_fits job (Device (ReadMetadata left)) i g = on_metadata w.phase left (metadata_fact P A shape w actor got read chosen job left g).1
-  gives_fits job (Desk (BeginCommit clean most)) i g = on_desk (seen_by P A shape w actor got read chosen job) w.phase clean most (begin_fact P A shape w actor got read chosen job clean most g)
+  gives_fits job (Desk (Arrive most)) i g = on_desk w.phase (Desk (Arrive most)) (λ desk. DoesArrive most desk got chosen) (λ desk d. arrival_fits most desk got chosen d) (arrive_fact P A shape w actor got read chosen job most g)
+  gives_fits job (Desk (Ask most)) i g = on_desk w.phase (Desk (Ask most)) (λ desk. DoesAsk actor.share most desk got chosen) (λ desk d. asking_fits actor.share most desk got chosen d) (ask_fact P A shape w actor got read chosen job most g)
+  gives_fits job (Desk (BeginCommit most)) i g = on_desk w.phase (Desk (BeginCommit most)) (λ desk. DoesBegin (Some actor.seen) most desk got chosen) (λ desk d. begin_fits (Some actor.seen) most desk got chosen d) (begin_fact P A shape w actor got read chosen job most g)
+  gives_fits job (Desk BreakCommit) i g = done_fits (Desk BreakCommit) got tt (break_given job g)
   gives_fits job (Desk EndCommit) i g = done_fits (Desk EndCommit) got tt (end_given job g)
   gives_fits job (Desk (Map b c)) i g = map_given w.phase b c (map_fact P A shape w actor got read chosen job b c g)
   gives_fits job (Desk (Unmap b)) i g = done_fits (Desk (Unmap b)) got tt (unmapped_done job b g)

@@ -26,7 +26,7 @@ use Rattle.wb_runs.specs.Holding.{cards_of}
 use Rattle.wb_simulation.specs.Actors.{StandsFor, AreAmongOthers}
 use Rattle.wb_simulation.specs.Telling.{Telling, Quietly, IsTold}
 use Rattle.wb_simulation.specs.Carried.{held}
-use Rattle.wb_simulation.specs.Worlds.{zeros, Situation, Agrees, OrdersAgree, Turn, Stays, TurnedTo, DeskTurnedTo, WorldFollowsBy, WorldFollows, IsUnfinished}
+use Rattle.wb_simulation.specs.Worlds.{zeros, Situation, Agrees, OrdersAgree, Turn, Stays, TurnedTo, DeskTurnedTo, WorldFollowsBy, WorldFollows, IsUnfinished, Commits, CommitsAgree, KeepsNumbers}
 use Rattle.wb_simulation.proofs.Cells.{Leading, shared_stays, gone_nowhere}
 use Rattle.wb_simulation.proofs.Orders.{who, by_pair, IsDone, IsNoMigration, does_none, orders_on}
 use Rattle.wb_contents.proofs.Lists.{there_is}
@@ -73,14 +73,14 @@ module _ (now : Situation) (s : World) (g : Agrees now s) where
 
 module _ (now : Situation) (words' : Words) (up : flag now.words.fail ≡ true → flag words'.fail ≡ true) (a : ℕ) (x x' : Actor) (s : World) (y : AbstractActor) (g : Agrees now s) (ex : slice_get now.actors a ≡ Some x) (ey : slice_get s.actors a ≡ Some y) where
   -- where the run stands then, with that actor as it is then
-  abbrev pub then_at : Bool → List (Option Order) → Devices (List History) → Situation
-  then_at committing' orders' devices' = record now { words = words'; committing = committing'; orders = orders'; devices = devices'; actors = slice_set now.actors a x' }
+  abbrev pub then_at : Commits → List (Option Order) → Devices (List History) → Situation
+  then_at commits' orders' devices' = record now { words = words'; commits = commits'; orders = orders'; devices = devices'; actors = slice_set now.actors a x' }
 
   -- The whole state agrees where this is shared and this is aside, and the actor is this one there.
-  module _ (committing' : Bool) (orders' : List (Option Order)) (devices' : Devices (List History)) (waiting : ℕ → Option AbstractOrder) (t : Shared) (y' : AbstractActor) (st : StandsFor now.size now.most words' x' y') (w : WordsAgree words' t) (o : t.origin ≡ by_block now.size zeros devices'.origin) (c : t.cache ≡ by_block now.size zeros devices'.cache) (m : t.mode ≡ s.shared.mode)
+  module _ (commits' : Commits) (orders' : List (Option Order)) (devices' : Devices (List History)) (waiting : ℕ → Option AbstractOrder) (t : Shared) (y' : AbstractActor) (st : StandsFor now.size now.most words' x' y') (w : WordsAgree words' t) (o : t.origin ≡ by_block now.size zeros devices'.origin) (c : t.cache ≡ by_block now.size zeros devices'.cache) (m : t.mode ≡ s.shared.mode)
       (ordered : OrdersAgree now.size words' orders' (slice_set now.actors a x') (record { shared = t; actors = slice_set s.actors a y'; waiting = waiting })) where
-    agrees_with : t.committing ≡ committing' → (t.broken ≡ true → t.committing ≡ true) → ((b : ℕ) (v : AbstractActor) → slice_get (slice_set s.actors a y') b ≡ Some v → v.leads ≡ true → t.committing ≡ true) → ((b : ℕ) (v : AbstractActor) → slice_get (slice_set s.actors a y') b ≡ Some v → v.leads ≡ true → IsUnfinished v.task → t.broken ≡ false) →
-        ((b d : ℕ) (v u : AbstractActor) → slice_get (slice_set s.actors a y') b ≡ Some v → slice_get (slice_set s.actors a y') d ≡ Some u → v.leads ≡ true → u.leads ≡ true → b ≡ d) → Agrees (then_at committing' orders' devices') (record { shared = t; actors = slice_set s.actors a y'; waiting = waiting })
+    agrees_with : CommitsAgree commits' t → (t.broken ≡ true → t.committing ≡ true) → ((b : ℕ) (v : AbstractActor) → slice_get (slice_set s.actors a y') b ≡ Some v → v.leads ≡ true → t.committing ≡ true) → ((b : ℕ) (v : AbstractActor) → slice_get (slice_set s.actors a y') b ≡ Some v → v.leads ≡ true → IsUnfinished v.task → t.broken ≡ false) →
+        ((b d : ℕ) (v u : AbstractActor) → slice_get (slice_set s.actors a y') b ≡ Some v → slice_get (slice_set s.actors a y') d ≡ Some u → v.leads ≡ true → u.leads ≡ true → b ≡ d) → Agrees (then_at commits' orders' devices') (record { shared = t; actors = slice_set s.actors a y'; waiting = waiting })
     agrees_with k b led whole one = record {
       words_agree = w;
       origin = o;
@@ -97,57 +97,57 @@ module _ (now : Situation) (words' : Words) (up : flag now.words.fail ≡ true �
     }
 
   -- no commit begins, ends or is broken by it
-  pub agrees_on : (orders' : List (Option Order)) (devices' : Devices (List History)) (waiting : ℕ → Option AbstractOrder) (t : Shared) (y' : AbstractActor) → Leading y y' → StandsFor now.size now.most words' x' y' → WordsAgree words' t → t.origin ≡ by_block now.size zeros devices'.origin → t.cache ≡ by_block now.size zeros devices'.cache → t.mode ≡ s.shared.mode → t.committing ≡ s.shared.committing → t.broken ≡ s.shared.broken →
-      OrdersAgree now.size words' orders' (slice_set now.actors a x') (record { shared = t; actors = slice_set s.actors a y'; waiting = waiting }) → Agrees (then_at now.committing orders' devices') (record { shared = t; actors = slice_set s.actors a y'; waiting = waiting })
-  agrees_on orders' devices' waiting t y' leading st w o c m k b ordered = agrees_with now.committing orders' devices' waiting t y' st w o c m ordered (k ∙ g.commits) (λ e. k ∙ g.broken (sym b ∙ e))
-      (λ d v ev l. let u = was d v ev l in k ∙ g.led d u.0 u.1 u.2.0) (λ d v ev l more. let u = was d v ev l in b ∙ g.whole d u.0 u.1 u.2.0 (u.2.1 more)) (λ d e v u ev eu l n. let p = was d v ev l in let q = was e u eu n in g.one_leads d e p.0 q.0 p.1 q.1 p.2.0 q.2.0)
+  pub agrees_on : (orders' : List (Option Order)) (devices' : Devices (List History)) (waiting : ℕ → Option AbstractOrder) (t : Shared) (y' : AbstractActor) → Leading y y' → StandsFor now.size now.most words' x' y' → WordsAgree words' t → t.origin ≡ by_block now.size zeros devices'.origin → t.cache ≡ by_block now.size zeros devices'.cache → t.mode ≡ s.shared.mode → t.committing ≡ s.shared.committing → KeepsNumbers s.shared t →
+      OrdersAgree now.size words' orders' (slice_set now.actors a x') (record { shared = t; actors = slice_set s.actors a y'; waiting = waiting }) → Agrees (then_at now.commits orders' devices') (record { shared = t; actors = slice_set s.actors a y'; waiting = waiting })
+  agrees_on orders' devices' waiting t y' leading st w o c m k b ordered = agrees_with now.commits orders' devices' waiting t y' st w o c m ordered (record { runs = k ∙ g.commits.runs; broken = b.0 ∙ g.commits.broken; began = b.1 ∙ g.commits.began; ended = b.2 ∙ g.commits.ended }) (λ e. k ∙ g.broken (sym b.0 ∙ e))
+      (λ d v ev l. let u = was d v ev l in k ∙ g.led d u.0 u.1 u.2.0) (λ d v ev l more. let u = was d v ev l in b.0 ∙ g.whole d u.0 u.1 u.2.0 (u.2.1 more)) (λ d e v u ev eu l n. let p = was d v ev l in let q = was e u eu n in g.one_leads d e p.0 q.0 p.1 q.1 p.2.0 q.2.0)
     where
       was : (d : ℕ) (v : AbstractActor) → slice_get (slice_set s.actors a y') d ≡ Some v → v.leads ≡ true → (u : AbstractActor) × (slice_get s.actors d ≡ Some u) × ((u.leads ≡ true) × (IsUnfinished v.task → IsUnfinished u.task))
       was d v ev l = elim (who s.actors a y y' ey d v ev) [ inl one ↦ (y, ap (slice_get s.actors) one.0 ∙ ey, subst (Leading y) one.1 leading l) | inr one ↦ (v, one.1, (l, λ more. more)) ]
 
   -- the world goes on by these records, of which it is told, to where all agrees
-  pub follows_by : (turn : Turn) (telling : Telling) (committing' : Bool) (orders' : List (Option Order)) (devices' : Devices (List History)) (rs : List Record) (w : World) → IsAbstractRun now.size s rs → abstract_after_all s rs ≡ w → IsTold telling a y.task rs → Agrees (then_at committing' orders' devices') w → TurnedTo turn s.shared w.shared → DeskTurnedTo turn s.shared w.shared →
-      WorldFollowsBy turn telling a s (record now { words = words'; committing = committing'; orders = orders'; devices = devices' }) x'
-  follows_by turn telling committing' orders' devices' rs w run is told agrees turned desk = record {
+  pub follows_by : (turn : Turn) (telling : Telling) (commits' : Commits) (orders' : List (Option Order)) (devices' : Devices (List History)) (rs : List Record) (w : World) → IsAbstractRun now.size s rs → abstract_after_all s rs ≡ w → IsTold telling a y.task rs → Agrees (then_at commits' orders' devices') w → TurnedTo turn s.shared w.shared → DeskTurnedTo turn s.shared w.shared →
+      WorldFollowsBy turn telling a s (record now { words = words'; commits = commits'; orders = orders'; devices = devices' }) x'
+  follows_by turn telling commits' orders' devices' rs w run is told agrees turned desk = record {
     records = rs;
     run = run;
-    agrees = subst (λ (v : World). Agrees (then_at committing' orders' devices') v) (sym is) agrees;
+    agrees = subst (λ (v : World). Agrees (then_at commits' orders' devices') v) (sym is) agrees;
     turned = subst (λ (v : World). TurnedTo turn s.shared v.shared) (sym is) turned;
     desk = subst (λ (v : World). DeskTurnedTo turn s.shared v.shared) (sym is) desk;
     told = λ z ez. let both : Some y ≡ Some z = sym ey ∙ ez in let same : y ≡ z = cc in subst (λ (v : AbstractActor). IsTold telling a v.task rs) same told;
   }
 
   -- it goes on by these results, which lead to this
-  goes_to : (turn : Turn) (telling : Telling) (committing' : Bool) (orders' : List (Option Order)) (devices' : Devices (List History)) (results : List Got) (t : Shared) → IsTold telling a y.task (records a y.task results) → MayGo s.actors a s.shared y y.task results → shared_after s.shared y y.task results ≡ t →
-      Agrees (then_at committing' orders' devices') (with_own s a t (gone y y.task results)) → TurnedTo turn s.shared t → DeskTurnedTo turn s.shared t → WorldFollowsBy turn telling a s (record now { words = words'; committing = committing'; orders = orders'; devices = devices' }) x'
-  goes_to turn telling committing' orders' devices' results t told may is agrees turned desk =
+  goes_to : (turn : Turn) (telling : Telling) (commits' : Commits) (orders' : List (Option Order)) (devices' : Devices (List History)) (results : List Got) (t : Shared) → IsTold telling a y.task (records a y.task results) → MayGo s.actors a s.shared y y.task results → shared_after s.shared y y.task results ≡ t →
+      Agrees (then_at commits' orders' devices') (with_own s a t (gone y y.task results)) → TurnedTo turn s.shared t → DeskTurnedTo turn s.shared t → WorldFollowsBy turn telling a s (record now { words = words'; commits = commits'; orders = orders'; devices = devices' }) x'
+  goes_to turn telling commits' orders' devices' results t told may is agrees turned desk =
       let went = goes now.size results s a y y.task ey refl may in
-      follows_by turn telling committing' orders' devices' (records a y.task results) (with_own s a t (gone y y.task results)) went.run (went.is ∙ ap (λ (v : Shared). with_own s a v (gone y y.task results)) is) told agrees turned desk
+      follows_by turn telling commits' orders' devices' (records a y.task results) (with_own s a t (gone y y.task results)) went.run (went.is ∙ ap (λ (v : Shared). with_own s a v (gone y y.task results)) is) told agrees turned desk
 
   pub goes_with : (turn : Turn) (telling : Telling) (orders' : List (Option Order)) (devices' : Devices (List History)) (results : List Got) (t : Shared) → IsTold telling a y.task (records a y.task results) → MayGo s.actors a s.shared y y.task results → shared_after s.shared y y.task results ≡ t → StandsFor now.size now.most words' x' (gone y y.task results) → Leading y (gone y y.task results) → WordsAgree words' t →
-      t.origin ≡ by_block now.size zeros devices'.origin → t.cache ≡ by_block now.size zeros devices'.cache → t.mode ≡ s.shared.mode → t.committing ≡ s.shared.committing → t.broken ≡ s.shared.broken → TurnedTo turn s.shared t → DeskTurnedTo turn s.shared t →
+      t.origin ≡ by_block now.size zeros devices'.origin → t.cache ≡ by_block now.size zeros devices'.cache → t.mode ≡ s.shared.mode → t.committing ≡ s.shared.committing → KeepsNumbers s.shared t → TurnedTo turn s.shared t → DeskTurnedTo turn s.shared t →
       OrdersAgree now.size words' orders' (slice_set now.actors a x') (with_own s a t (gone y y.task results)) → WorldFollowsBy turn telling a s (record now { words = words'; orders = orders'; devices = devices' }) x'
-  goes_with turn telling orders' devices' results t told may is st leading w o c m k b turned desk ordered = goes_to turn telling now.committing orders' devices' results t told may is (agrees_on orders' devices' s.waiting t (gone y y.task results) leading st w o c m k b ordered) turned desk
+  goes_with turn telling orders' devices' results t told may is st leading w o c m k b turned desk ordered = goes_to turn telling now.commits orders' devices' results t told may is (agrees_on orders' devices' s.waiting t (gone y y.task results) leading st w o c m k b ordered) turned desk
 
   -- its orders stay, and so do the desk's entries
   pub goes_by : (turn : Turn) (telling : Telling) (devices' : Devices (List History)) (results : List Got) (t : Shared) → IsTold telling a y.task (records a y.task results) → MayGo s.actors a s.shared y y.task results → shared_after s.shared y y.task results ≡ t → StandsFor now.size now.most words' x' (gone y y.task results) → Leading y (gone y y.task results) → WordsAgree words' t →
-      t.origin ≡ by_block now.size zeros devices'.origin → t.cache ≡ by_block now.size zeros devices'.cache → t.mode ≡ s.shared.mode → t.committing ≡ s.shared.committing → t.broken ≡ s.shared.broken → TurnedTo turn s.shared t → DeskTurnedTo turn s.shared t →
+      t.origin ≡ by_block now.size zeros devices'.origin → t.cache ≡ by_block now.size zeros devices'.cache → t.mode ≡ s.shared.mode → t.committing ≡ s.shared.committing → KeepsNumbers s.shared t → TurnedTo turn s.shared t → DeskTurnedTo turn s.shared t →
       (gone y y.task results).order ≡ y.order → ((o : Order) → Contains (held x) o → Contains (held x') o) → t.mapping ≡ s.shared.mapping → IsDone now.size words' now.orders x' (gone y y.task results) → WorldFollowsBy turn telling a s (record now { words = words'; devices = devices' }) x'
   goes_by turn telling devices' results t told may is st leading w o c m k b turned desk same own same_map its = goes_with turn telling now.orders devices' results t told may is st leading w o c m k b turned desk
       (orders_on now.size now.words words' up now.orders now.actors a x x' s y (gone y y.task results) t ex ey g.orders_agree same own same_map its)
 
   pub goes_on : (telling : Telling) (devices' : Devices (List History)) (results : List Got) (t : Shared) → IsTold telling a y.task (records a y.task results) → MayGo s.actors a s.shared y y.task results → shared_after s.shared y y.task results ≡ t → StandsFor now.size now.most words' x' (gone y y.task results) → Leading y (gone y y.task results) → WordsAgree words' t →
-      t.origin ≡ by_block now.size zeros devices'.origin → t.cache ≡ by_block now.size zeros devices'.cache → t.mode ≡ s.shared.mode → t.committing ≡ s.shared.committing → t.broken ≡ s.shared.broken → TurnedTo Stays s.shared t → DeskTurnedTo Stays s.shared t →
+      t.origin ≡ by_block now.size zeros devices'.origin → t.cache ≡ by_block now.size zeros devices'.cache → t.mode ≡ s.shared.mode → t.committing ≡ s.shared.committing → KeepsNumbers s.shared t → TurnedTo Stays s.shared t → DeskTurnedTo Stays s.shared t →
       (gone y y.task results).order ≡ y.order → ((o : Order) → Contains (held x) o → Contains (held x') o) → IsDone now.size words' now.orders x' (gone y y.task results) → WorldFollows telling a s (record now { words = words'; devices = devices' }) x'
   goes_on telling devices' results t told may is st leading w o c m k b turned desk same own its = goes_by Stays telling devices' results t told may is st leading w o c m k b turned desk same own desk.0 its
 
   -- a commit of which it is told here begins, ends or is broken, and it alone leads one
-  pub goes_leading : (turn : Turn) (committing' : Bool) (results : List Got) (t : Shared) → IsTold Quietly a y.task (records a y.task results) → MayGo s.actors a s.shared y y.task results → shared_after s.shared y y.task results ≡ t → StandsFor now.size now.most words' x' (gone y y.task results) → WordsAgree words' t →
-      t.origin ≡ s.shared.origin → t.cache ≡ s.shared.cache → t.mode ≡ s.shared.mode → t.committing ≡ committing' → (t.broken ≡ true → t.committing ≡ true) → ((b : ℕ) (v : AbstractActor) → b ≢ a → slice_get s.actors b ≡ Some v → v.leads ≢ true) →
+  pub goes_leading : (turn : Turn) (commits' : Commits) (results : List Got) (t : Shared) → IsTold Quietly a y.task (records a y.task results) → MayGo s.actors a s.shared y y.task results → shared_after s.shared y y.task results ≡ t → StandsFor now.size now.most words' x' (gone y y.task results) → WordsAgree words' t →
+      t.origin ≡ s.shared.origin → t.cache ≡ s.shared.cache → t.mode ≡ s.shared.mode → CommitsAgree commits' t → (t.broken ≡ true → t.committing ≡ true) → ((b : ℕ) (v : AbstractActor) → b ≢ a → slice_get s.actors b ≡ Some v → v.leads ≢ true) →
       ((gone y y.task results).leads ≡ true → (t.committing ≡ true) × (IsUnfinished (gone y y.task results).task → t.broken ≡ false)) → TurnedTo turn s.shared t → DeskTurnedTo turn s.shared t → (gone y y.task results).order ≡ y.order → held x ≡ held x' → t.mapping ≡ s.shared.mapping → IsNoMigration x'.task →
-      WorldFollowsBy turn Quietly a s (record now { words = words'; committing = committing' }) x'
-  goes_leading turn committing' results t told may is st w o c m k b others here turned desk same own same_map other = goes_to turn Quietly committing' now.orders now.devices results t told may is
-      (agrees_with committing' now.orders now.devices s.waiting t z st w (o ∙ g.origin) (c ∙ g.cache) m ordered k b (λ d v ev l. (this d v ev l).1.0) (λ d v ev l. (this d v ev l).1.1) (λ d e v u ev eu l n. (this d v ev l).0 ∙ sym (this e u eu n).0)) turned desk
+      WorldFollowsBy turn Quietly a s (record now { words = words'; commits = commits' }) x'
+  goes_leading turn commits' results t told may is st w o c m k b others here turned desk same own same_map other = goes_to turn Quietly commits' now.orders now.devices results t told may is
+      (agrees_with commits' now.orders now.devices s.waiting t z st w (o ∙ g.origin) (c ∙ g.cache) m ordered k b (λ d v ev l. (this d v ev l).1.0) (λ d v ev l. (this d v ev l).1.1) (λ d e v u ev eu l n. (this d v ev l).0 ∙ sym (this e u eu n).0)) turned desk
     where
       z : AbstractActor
       z = gone y y.task results
@@ -162,7 +162,7 @@ module _ (now : Situation) (words' : Words) (up : flag now.words.fail ≡ true �
 module _ (now : Situation) (a : ℕ) (x x' : Actor) (s : World) (y : AbstractActor) (g : Agrees now s) (ex : slice_get now.actors a ≡ Some x) (ey : slice_get s.actors a ≡ Some y) where
   pub stays_there : (telling : Telling) → IsTold telling a y.task (records a y.task []) → StandsFor now.size now.most now.words x' y → ((o : Order) → Contains (held x) o → Contains (held x') o) → IsDone now.size now.words now.orders x' y → WorldFollows telling a s now x'
   stays_there telling told st own its = goes_on now now.words (λ f. f) a x x' s y g ex ey telling now.devices [] s.shared told tt (shared_stays s.shared y y.task)
-      (subst (λ (z : AbstractActor). StandsFor now.size now.most now.words x' z) (sym nowhere) st) (subst (Leading y) (sym nowhere) (λ l. (l, λ more. more))) g.words_agree g.origin g.cache refl refl refl (refl, refl, refl, refl, refl) (refl, refl) (ap (λ (v : AbstractActor). v.order) nowhere) own
+      (subst (λ (z : AbstractActor). StandsFor now.size now.most now.words x' z) (sym nowhere) st) (subst (Leading y) (sym nowhere) (λ l. (l, λ more. more))) g.words_agree g.origin g.cache refl refl (refl, refl, refl) (refl, refl, refl, refl, refl) (refl, refl) (ap (λ (v : AbstractActor). v.order) nowhere) own
       (subst (λ (z : AbstractActor). IsDone now.size now.words now.orders x' z) (sym nowhere) its)
     where
       nowhere : gone y y.task [] ≡ y

@@ -27,7 +27,7 @@ use Rattle.wb_promise.specs.States.{Actor}
 use Rattle.wb_simulation.specs.Actors.{IsLate, IsBusyAt, StandsFor}
 use Rattle.wb_simulation.specs.Carried.{held, is_at, replacement_there, order_there, IsOrderFor, IsCarried, IsAtMigration}
 use Rattle.wb_simulation.specs.Telling.{Carries, IsMigrating, IsNoEnd, AreCarried}
-use Rattle.wb_simulation.specs.Worlds.{zeros, Situation, Agrees, OrdersAgree, Turn, TurnedTo, DeskTurnedTo, WorldFollowsBy, WorldFollows}
+use Rattle.wb_simulation.specs.Worlds.{zeros, Situation, Agrees, OrdersAgree, Turn, TurnedTo, DeskTurnedTo, WorldFollowsBy, WorldFollows, KeepsNumbers}
 use Rattle.wb_simulation.proofs.Orders.{IsDone}
 use Rattle.wb_link.proofs.Actors.{job_on}
 use Rattle.wb_simulation.proofs.Among.{goes_on, goes_with}
@@ -128,7 +128,7 @@ module _ (size : ℕ) (orders : List (Option Order)) (migration : Migration) (bl
   carried_stands most = record {
     failed = false;
     has_failed = λ e. absurd (cc);
-    at = subst (λ (t : Option (Job × Plan)). IsBusyAt size most false t x.card y) (sym task) tt;
+    at = subst (λ (t : Option (Job × Plan)). IsBusyAt size most false t x.card x.share y) (sym task) tt;
     below = carried_below size orders migration block part plan.steps plan.answer x y k;
     among_others = λ among. carried_among size orders migration block part plan.steps plan.answer x y k;
   }
@@ -151,11 +151,11 @@ module _ (now : Situation) (words' : Words) (up : flag now.words.fail ≡ true �
   -- under the order that it had
   pub carry_on : IsCarried now.size now.orders migration block part plan.steps plan.answer x' z → z.order ≡ y.order → ((o : Order) → Contains (held x) o → Contains (held x') o) → SameImages s.shared t → WorldFollows Carries a s (record now { words = words'; devices = devices' }) x'
   carry_on f same own k = goes_on now words' up a x x' s y g ex ey Carries devices' results t (results, going results y y.task (carried_task now.size now.orders migration block part plan.steps plan.answer x' z f) migrates, refl) may is
-      (carried_stands now.size now.orders migration block part plan x' z f words' task now.most) (λ l. let bad : true ≡ false = sym l ∙ carried_leads now.size now.orders migration block part plan.steps plan.answer x' z f in absurd (cc)) words_agree origin cache k.mode k.committing k.broken (k.committed, k.running, k.root_written, k.committed_clean, k.running_clean) (k.mapping, k.blocks)
+      (carried_stands now.size now.orders migration block part plan x' z f words' task now.most) (λ l. let bad : true ≡ false = sym l ∙ carried_leads now.size now.orders migration block part plan.steps plan.answer x' z f in absurd (cc)) words_agree origin cache k.mode k.committing (k.broken, k.began, k.ended) (k.committed, k.running, k.root_written, k.committed_clean, k.running_clean) (k.mapping, k.blocks)
       same own (is_done now.size now.orders migration block part plan x' z f words' task job)
 
   -- its order is over
-  pub carry_over : (turn : Turn) (orders' : List (Option Order)) → IsCarried now.size orders' migration block part plan.steps plan.answer x' z → t.mode ≡ s.shared.mode → t.committing ≡ s.shared.committing → t.broken ≡ s.shared.broken → TurnedTo turn s.shared t → DeskTurnedTo turn s.shared t →
+  pub carry_over : (turn : Turn) (orders' : List (Option Order)) → IsCarried now.size orders' migration block part plan.steps plan.answer x' z → t.mode ≡ s.shared.mode → t.committing ≡ s.shared.committing → KeepsNumbers s.shared t → TurnedTo turn s.shared t → DeskTurnedTo turn s.shared t →
       OrdersAgree now.size words' orders' (slice_set now.actors a x') (with_own s a t z) → WorldFollowsBy turn Carries a s (record now { words = words'; orders = orders'; devices = devices' }) x'
   carry_over turn orders' f mode commits broken turned desk ordered = goes_with now words' up a x x' s y g ex ey turn Carries orders' devices' results t (results, going results y y.task (carried_task now.size orders' migration block part plan.steps plan.answer x' z f) migrates, refl) may is
       (carried_stands now.size orders' migration block part plan x' z f words' task now.most) (λ l. let bad : true ≡ false = sym l ∙ carried_leads now.size orders' migration block part plan.steps plan.answer x' z f in absurd (cc)) words_agree origin cache mode commits broken turned desk ordered

@@ -30,7 +30,7 @@ use Rattle.wb_refines.proofs.Followed.{rest_plain}
 use Rattle.wb_promise.specs.declared.job.Job.TheVariants.{Migrate}
 use Rattle.wb_promise.specs.Effects.{dropped, replacing}
 use Rattle.wb_promise.specs.States.{Actor}
-use Rattle.wb_simulation.specs.Worlds.{Situation, Agrees, Turn, Stays, Maps, Unmaps, GivesUp, TurnedTo, DeskTurnedTo}
+use Rattle.wb_simulation.specs.Worlds.{Situation, Agrees, Turn, Stays, Maps, Unmaps, GivesUp, TurnedTo, DeskTurnedTo, KeepsNumbers}
 use Rattle.std.proofs.lemmas.Bool.{ne_eqb, cases_eq}
 use Rattle.std.proofs.lemmas.List.Elements.{Contains-append_cases, Contains-append_left, Contains-append_right}
 use Rattle.wb_types.proofs.Lists.{Contains-first, Contains-behind}
@@ -125,7 +125,7 @@ module _ (now : Situation) (blocks : ℕ) (a : ℕ) (x : Actor) (s : World) (y :
 
     -- it ends it
     module _ (turn : Turn) (results : List Got) (t : Shared) (z : AbstractActor) (goes : GoesTo s.actors a s.shared y results t z)
-        (words_agree : WordsAgree now.words t) (origin : t.origin ≡ s.shared.origin) (cache : t.cache ≡ s.shared.cache) (mode : t.mode ≡ s.shared.mode) (commits : t.committing ≡ s.shared.committing) (broken : t.broken ≡ s.shared.broken) (turned : TurnedTo turn s.shared t) (desk : DeskTurnedTo turn s.shared t) where
+        (words_agree : WordsAgree now.words t) (origin : t.origin ≡ s.shared.origin) (cache : t.cache ≡ s.shared.cache) (mode : t.mode ≡ s.shared.mode) (commits : t.committing ≡ s.shared.committing) (broken : KeepsNumbers s.shared t) (turned : TurnedTo turn s.shared t) (desk : DeskTurnedTo turn s.shared t) where
       pub ends_order : ((d : ℕ) (o : Option Order) → d ≢ f.c.0 → slice_get now.orders d ≡ Some o → live_there t.mapping d o ≡ live_there s.shared.mapping d o) → IsMigrationAt part f.c f.next migration None left x.card z → IsTail ws → GoesOn now.size part ws x.buffer z.buffer →
           EndsOrder turn f.c.0 a s now x left_over f.order
       ends_order turns at tail on =
@@ -185,7 +185,7 @@ module _ (now : Situation) (blocks : ℕ) (a : ℕ) (x : Actor) (s : World) (y :
         let goes = subst (λ (v : AbstractActor). GoesTo s.actors a s.shared v (DoneThere ∷ DoneThere ∷ []) t z) (sym y_there) to in
         let plain = rest_plain (Migrating migration part) suits_now.1.0 ws rest in
         ends_order (Desk (Map part.block c)) f (λ n. n) (Maps part.block.0 f.c.0) (DoneThere ∷ DoneThere ∷ []) t z goes
-        (record { fail = g.words_agree.fail; seals = g.words_agree.seals }) refl refl refl refl refl (refl, refl, refl, refl, refl) (refl, refl) (λ d o n e. map_elsewhere s.shared.mapping part.block.0 f.c.0 d o n free)
+        (record { fail = g.words_agree.fail; seals = g.words_agree.seals }) refl refl refl refl (refl, refl, refl) (refl, refl, refl, refl, refl) (refl, refl) (λ d o n e. map_elsewhere s.shared.mapping part.block.0 f.c.0 d o n free)
         (at_again now a x s y g ex ey migration block part (Desk (Map part.block c)) ws answer f z ws f.at.answer f.at.buffer None answer
         (λ i. record z { held = sym (held_plain ws x.card plain ∙ ap held_of suits_now.0) i }) f.at.alike (saw_plain left ws x.card plain))
         f.paired.0 (record { of_block = f.of_block; paired = f.paired.2; read = no_write_read now.size ws x.buffer _ f.paired.1 })
@@ -237,7 +237,7 @@ module _ (now : Situation) (blocks : ℕ) (a : ℕ) (x : Actor) (s : World) (y :
     pub unmapped : f.next ≡ None → LeavesFrom now.orders s.shared.mapping block → EndsOrder (Unmaps part.block.0 f.c.0 None) f.c.0 a s now x left_over f.order
     unmapped none leaving = subst (λ (next : Option ℕ). EndsOrder (Unmaps part.block.0 f.c.0 next) f.c.0 a s now x left_over f.order) none
         (ends_order (Desk (Unmap part.block)) f (λ n. n) (Unmaps part.block.0 f.c.0 f.next) (DoneThere ∷ []) t_away z_away goes_away
-        (record { fail = g.words_agree.fail; seals = g.words_agree.seals }) refl refl refl refl refl (refl, refl, refl, refl, refl) (refl, refl) (λ d o n e. unmap_elsewhere s.shared.mapping part.block.0 f.c.0 d o n (stood_away leaving))
+        (record { fail = g.words_agree.fail; seals = g.words_agree.seals }) refl refl refl refl (refl, refl, refl) (refl, refl, refl, refl, refl) (refl, refl) (λ d o n e. unmap_elsewhere s.shared.mapping part.block.0 f.c.0 d o n (stood_away leaving))
         (at_away None (ap (following f.c.0) none)) f.paired.0 on_away)
 
     -- or another block is to follow it under that order
@@ -261,7 +261,7 @@ module _ (now : Situation) (blocks : ℕ) (a : ℕ) (x : Actor) (s : World) (y :
           stood = ap (λ (v : OBlock). s.shared.mapping v.0) (sym f.block_is) ∙ stood_away leaving;
           follows = subst (λ (v : ℕ). Carried (Unmaps v f.c.0 (Some new.0)) a s now left_waiting) (ap (λ (v : OBlock). v.0) f.block_is) (subst (λ (next : Option ℕ). Carried (Unmaps part.block.0 f.c.0 next) a s now left_waiting) some
               (carry_over now now.words (λ e. e) now.devices a x left_waiting s y g ex ey migration block part left refl refl (carried_job now.size now.orders migration block part (Desk (Unmap part.block) ∷ ws) answer x y f) (DoneThere ∷ []) t_away goes_away.may goes_away.shared
-              (record { fail = g.words_agree.fail; seals = g.words_agree.seals }) g.origin g.cache (Unmaps part.block.0 f.c.0 f.next) now.orders on_it refl refl refl (refl, refl, refl, refl, refl) (refl, refl)
+              (record { fail = g.words_agree.fail; seals = g.words_agree.seals }) g.origin g.cache (Unmaps part.block.0 f.c.0 f.next) now.orders on_it refl refl (refl, refl, refl) (refl, refl, refl, refl, refl) (refl, refl)
               (turns_so now.size now.words now.orders now.actors a x left_waiting s y (gone y y.task (DoneThere ∷ [])) ex ey g.orders_agree (is_done now.size now.orders migration block part left left_waiting (gone y y.task (DoneThere ∷ [])) on_it now.words refl refl)
               own_away own' (y_under (Desk (Unmap part.block)) f (λ n. n)) (ap (λ (v : AbstractActor). v.order) goes_away.is ∙ follows_is) refl t_away f.order slot lives_now (subst (λ (o : Order). Contains (held left_waiting) o) (sym is) (still_held part.block x.orders x.awaiting (Replace block new k) (ap (λ (v : OBlock). is_of v (Replace block new k)) f.block_is ∙ ap (λ (v : Bool). v || is_of block (DemoteOrder new)) (eq-eqb block.0 block.0 refl)) refl (Contains-append_left x.orders x.awaiting (Replace block new k) (subst (λ (o : Order). Contains x.orders o) is had))))
               (λ d o n e. unmap_elsewhere s.shared.mapping part.block.0 f.c.0 d o n (stood_away leaving)))));
@@ -280,7 +280,7 @@ module _ (now : Situation) (blocks : ℕ) (a : ℕ) (x : Actor) (s : World) (y :
         let goes = subst (λ (v : AbstractActor). GoesTo s.actors a s.shared v (DoneThere ∷ []) t z) (sym is) (carrying_followed.gives_up now.size s.actors a s.shared own_here os migration part.block ws f.at.answer f.at.buffer) in
         let nothing : ws ≡ [] = suits.1.2 in
         ends_order (Desk (ReleaseOrder part.block)) f (λ n. n) (GivesUp f.c.0) (DoneThere ∷ []) t z goes
-        (record { fail = g.words_agree.fail; seals = g.words_agree.seals }) refl refl refl refl refl (refl, refl, refl, refl, refl) (refl, refl) (λ d o n e. refl)
+        (record { fail = g.words_agree.fail; seals = g.words_agree.seals }) refl refl refl refl (refl, refl, refl) (refl, refl, refl, refl, refl) (refl, refl) (λ d o n e. refl)
         (at_again now a x s y g ex ey migration block part (Desk (ReleaseOrder part.block)) ws answer f z ws f.at.answer f.at.buffer None answer
         (λ i. record z { held = sym (ap (λ (us : List Want). held_for us x.card) nothing ∙ ap held_of suits.1.0) i }) f.at.alike (subst (λ (us : List Want). SawSeal left us x.card) (sym nothing) tt))
         (subst (λ (us : List Want). IsTail us) (sym nothing) tt) (record { of_block = f.of_block; paired = f.paired.1; read = no_write_read now.size ws x.buffer _ f.paired.0 })

@@ -67,7 +67,7 @@ module _ (now : Situation) (a : ℕ) (x : Actor) (s : World) (y : AbstractActor)
             let gone_is : gone y y.task (DoneThere ∷ []) ≡ record y { task = None } = ap (λ (t : Option Script). gone y t (DoneThere ∷ [])) is in
             goes_on now now.words (λ f. f) a x over s y g ex ey telling now.devices (DoneThere ∷ []) s.shared told (subst (λ (t : Option Script). MayGo s.actors a s.shared y t (DoneThere ∷ [])) (sym is) (tt, tt, tt)) (ap (λ (t : Option Script). shared_after s.shared y t (DoneThere ∷ [])) is)
             (subst (λ (z : AbstractActor). StandsFor now.size now.most now.words over z) (sym gone_is) (record { failed = flag now.words.fail; has_failed = λ k. k; at = (refl, rests); below = record { owned = st.below.owned; shared = st.below.shared }; among_others = λ among. refl })) (subst (Leading y) (sym gone_is) (λ l. (l, λ more. absurd more)))
-            g.words_agree g.origin g.cache refl refl refl (refl, refl, refl, refl, refl) (refl, refl) (ap (λ (z : AbstractActor). z.order) gone_is) keeps (does_none _ _ _ _ _ tt)
+            g.words_agree g.origin g.cache refl refl (refl, refl, refl) (refl, refl, refl, refl, refl) (refl, refl) (ap (λ (z : AbstractActor). z.order) gone_is) keeps (does_none _ _ _ _ _ tt)
 
   abbrev Goal : Plan → Content → Answer → Type 0
   Goal plan content answer = WorldFollows (Answers (job_for now.size content plan.job) answer) a s now (record x { task = None })
@@ -88,7 +88,7 @@ module _ (now : Situation) (a : ℕ) (x : Actor) (s : World) (y : AbstractActor)
       by h (inr (inl k)) = answers x.orders x.awaiting (λ o c. c) (Answers (job_for now.size content p.job) answer) (stopped_answers (job_for now.size content p.job) st.failed p x.card answer y refl k, refl) (stopped_over now.words st.failed st.has_failed p x.card y refl k)
       by h (inr (inr l)) = answers x.orders x.awaiting (λ o c. c) (Answers (job_for now.size content p.job) answer) (late_answers_so (job_for now.size content p.job) st.failed p answer y refl (λ t. let bad = ap (λ (q : Plan). q.steps) t in absurd (cc)) l, refl) (late_over now.words st.failed st.has_failed p y l)
 
-  followed : (blocks : ℕ) (job : Job) (plan : Plan) (answer : Answer) → IsRequestJob job → want plan ≡ End answer → Suits blocks plan x.card → IsDoing now.size now.most st.failed job plan x.card y → Goal plan (job_content job) answer
+  followed : (blocks : ℕ) (job : Job) (plan : Plan) (answer : Answer) → IsRequestJob job → want plan ≡ End answer → Suits blocks plan x.card → IsDoing now.size now.most st.failed job plan x.card x.share y → Goal plan (job_content job) answer
   followed blocks (Read extent) plan answer q next suits d = of_request blocks [] Reading plan answer next suits d
   followed blocks (Write extent content) plan answer q next suits d = of_request blocks content write_of plan answer next suits d
   followed blocks (Invalidate block) plan answer q next suits d = of_request blocks [] Invalidating plan answer next suits d

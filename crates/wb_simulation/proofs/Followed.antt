@@ -46,8 +46,8 @@ use Rattle.wb_simulation.proofs.Orders.{MigratesNot, IsDone, does_none}
 use Rattle.wb_simulation.proofs.Among.{card_there, own_there, takes, failed_stays, goes_on}
 
 -- who does a read or write is at it
-pub doing_of : (size most : ℕ) (words : Words) (x : Actor) (y : AbstractActor) (job : Job) (plan : Plan) (st : StandsFor size most words x y) → x.task ≡ Some (job, plan) → IsDoing size most st.failed job plan x.card y
-doing_of size most words x y job plan st e = subst (λ (t : Option (Job × Plan)). IsBusyAt size most st.failed t x.card y) e st.at
+pub doing_of : (size most : ℕ) (words : Words) (x : Actor) (y : AbstractActor) (job : Job) (plan : Plan) (st : StandsFor size most words x y) → x.task ≡ Some (job, plan) → IsDoing size most st.failed job plan x.card x.share y
+doing_of size most words x y job plan st e = subst (λ (t : Option (Job × Plan)). IsBusyAt size most st.failed t x.card x.share y) e st.at
 
 -- What holds of a plan of this job: with its next step first, for whatever comes after it; or with nothing left, where that is its answer.
 pub first : (plan : Plan) (job : TaskJob) (next : Want) → plan.job ≡ job → want plan ≡ next → (P : Plan → Type 0) → ((rest : List Want) → plan.steps ≡ next ∷ rest → P (record { job = job; steps = next ∷ rest; answer = plan.answer })) → (plan.steps ≡ [] → End plan.answer ≡ next → P (record { job = job; steps = []; answer = plan.answer })) → P plan
@@ -179,19 +179,19 @@ module _ (now : Situation) (blocks : ℕ) (a : ℕ) (x : Actor) (job : Job) (ste
     (rule : LockRule blocks now.words (cards_of now.actors)) (ex : slice_get now.actors a ≡ Some x) (ey : slice_get s.actors a ≡ Some y) (g : Agrees now s) where
   -- what its actor did on the words, among all others
   pub among_all : {At : AbstractActor → Type 0} {Is : AbstractJob → Type 0} (plan : Plan) (telling : Telling) (acted : Acted At Is s.actors a s.shared y (words_after now.words step) (after plan (got_of (result_of now.words step))) (card_after now.words step x.card)) → IsTold telling a y.task (records a y.task acted.results) →
-      IsDoing now.size now.most acted.failed job (after plan (got_of (result_of now.words step))) (card_after now.words step x.card) (gone y y.task acted.results) → IsDone now.size (words_after now.words step) now.orders (stepped_actor now.words job plan step x) (gone y y.task acted.results) →
+      IsDoing now.size now.most acted.failed job (after plan (got_of (result_of now.words step))) (card_after now.words step x.card) x.share (gone y y.task acted.results) → IsDone now.size (words_after now.words step) now.orders (stepped_actor now.words job plan step x) (gone y y.task acted.results) →
       WorldFollows telling a s (record now { words = words_after now.words step }) (stepped_actor now.words job plan step x)
   among_all plan telling acted told doing its =
       let k = acted.same.images in
       goes_on now (words_after now.words step) (failed_stays now.words step _ _ rule.logs.fail) a x (stepped_actor now.words job plan step x) s y g ex ey telling now.devices acted.results (shared_after s.shared y y.task acted.results) told acted.may refl
-      (record { failed = acted.failed; has_failed = acted.has_failed; at = doing; below = acted.below; among_others = λ among. acted.among_others }) acted.leads acted.words_agree (acted.same.origin ∙ g.origin) (acted.same.cache ∙ g.cache) k.mode k.committing k.broken (k.committed, k.running, k.root_written, k.committed_clean, k.running_clean) (k.mapping, k.blocks) acted.order (λ o h. h) its
+      (record { failed = acted.failed; has_failed = acted.has_failed; at = doing; below = acted.below; among_others = λ among. acted.among_others }) acted.leads acted.words_agree (acted.same.origin ∙ g.origin) (acted.same.cache ∙ g.cache) k.mode k.committing (k.broken, k.began, k.ended) (k.committed, k.running, k.root_written, k.committed_clean, k.running_clean) (k.mapping, k.blocks) acted.order (λ o h. h) its
 
   abbrev Goal : Plan → Type 0
   Goal plan = WorldFollows Quietly a s (record now { words = words_after now.words step }) (stepped_actor now.words job plan step x)
 
   -- a request's
   of_request : (content : Content) (job_on : BlockRange → BlockJob) → ((part : BlockRange) → IsRequest (job_on part) × (range_of (job_on part) ≡ part)) → ((part : BlockRange) → IsPart now.size part → (seal : ℕ) → AreOfBlock now.size part.block.0 (work_of (OnBlock (job_on part)) seal)) →
-      ((failed : Bool) (p : Plan) (card : Card) (z : AbstractActor) → IsRequestAt now.size content failed job_on p card z → IsDoing now.size now.most failed job p card z) → MigratesNot job → is_alone y.task ≡ false → (plan : Plan) → Suits blocks plan x.card → want plan ≡ Cell step → (st : StandsFor now.size now.most now.words x y) → IsRequestAt now.size content st.failed job_on plan x.card y → Goal plan
+      ((failed : Bool) (p : Plan) (card : Card) (z : AbstractActor) → IsRequestAt now.size content failed job_on p card z → IsDoing now.size now.most failed job p card x.share z) → MigratesNot job → is_alone y.task ≡ false → (plan : Plan) → Suits blocks plan x.card → want plan ≡ Cell step → (st : StandsFor now.size now.most now.words x y) → IsRequestAt now.size content st.failed job_on plan x.card y → Goal plan
   of_request content job_on request works does other among plan suits next st r = first plan (OnBlock (job_on r.part)) (Cell step) r.job next (λ p. Suits blocks p x.card → AreOfBlock now.size r.part.block.0 p.steps → At p → Goal p)
       (λ rest k suits of at. by rest suits (tells now.size r.part.block.0 step rest of) at) (λ k q. absurd (cc)) suits r.of_block r.at
     where
@@ -239,7 +239,7 @@ module _ (now : Situation) (blocks : ℕ) (a : ℕ) (x : Actor) (job : Job) (ste
           acts (inr (inr l)) = over (inr l)
 
 followed : (now : Situation) (blocks : ℕ) (a : ℕ) (x : Actor) (job : Job) (plan : Plan) (step : CellStep) (s : World) (y : AbstractActor) →
-    LockRule blocks now.words (cards_of now.actors) → slice_get now.actors a ≡ Some x → slice_get s.actors a ≡ Some y → IsRequestJob job → Suits blocks plan x.card → want plan ≡ Cell step → Agrees now s → (st : StandsFor now.size now.most now.words x y) → x.task ≡ Some (job, plan) → IsDoing now.size now.most st.failed job plan x.card y →
+    LockRule blocks now.words (cards_of now.actors) → slice_get now.actors a ≡ Some x → slice_get s.actors a ≡ Some y → IsRequestJob job → Suits blocks plan x.card → want plan ≡ Cell step → Agrees now s → (st : StandsFor now.size now.most now.words x y) → x.task ≡ Some (job, plan) → IsDoing now.size now.most st.failed job plan x.card x.share y →
     WorldFollows Quietly a s (record now { words = words_after now.words step }) (stepped_actor now.words job plan step x)
 followed now blocks a x (Read extent) plan step s y rule ex ey q suits next g st task d = of_request now blocks a x (Read extent) step s y rule ex ey g [] Reading (λ part. (tt, refl)) (read_of_block now.size) (λ failed p card z r. r) tt (st.among_others (subst IsAmongOthers (sym task) tt)) plan suits next st d
 followed now blocks a x (Write extent content) plan step s y rule ex ey q suits next g st task d = of_request now blocks a x (Write extent content) step s y rule ex ey g content write_of (λ part. (is_request part, range_written part)) (written_of_block now.size) (λ failed p card z r. r) tt (st.among_others (subst IsAmongOthers (sym task) tt)) plan suits next st d

@@ -1,32 +1,33 @@
 -- An actor that leads a commit goes on, and nobody else leads one.
-use Rattle.std.proofs.Common.{◌≡◌, ◌≢◌, ◌∙◌, inl, inr, ℕ, zero, suc, Bool, true, false, List, [], ◌∷◌, ◌++◌, Some, refl, sym, ap, subst, slice_get, None}
+use Rattle.wb_stage.specs.declared.share.Share.{Share}
+use Rattle.std.proofs.Common.{◌≡◌, ◌≢◌, ◌∙◌, inl, inr, ℕ, zero, suc, Bool, true, false, List, [], ◌∷◌, ◌++◌, Some, refl, sym, ap, subst, slice_get, None, Option}
 use Rattle.wb_types.specs.declared.mode.Dev.TheVariants.{Metadata}
 use Rattle.wb_disk.specs.Device.{History}
 use Rattle.wb_contents.specs.Devices.{by_block}
 use Rattle.wb_words.specs.SharedWords.{Words, flag}
 use Rattle.wb_words.specs.declared.card.Card.{Card}
-use Rattle.wb_tasks.specs.Plan.{Plan, want, table, node_writes, root_steps, begun_steps, after_fault_of}
+use Rattle.wb_tasks.specs.Plan.{Plan, want, table, node_writes, root_steps, begun_steps, after_fault_of, first_step}
 use Rattle.wb_tasks.specs.declared.step.Answer.{Answer}
 use Rattle.wb_tasks.specs.declared.step.DeviceStep.TheVariants.{Sync, WriteNode, WriteRoot}
-use Rattle.wb_tasks.specs.declared.step.DeskStep.TheVariants.{EndCommit}
+use Rattle.wb_tasks.specs.declared.step.DeskStep.TheVariants.{EndCommit, Map, Unmap, ReleaseOrder, Arrive, Ask, BeginCommit, BreakCommit}
 use Rattle.wb_tasks.specs.declared.step.Want.{Want}
 use Rattle.wb_words.specs.declared.word.Word.TheVariants.{Fail}
 use Rattle.wb_words.specs.declared.step.CellStep.TheVariants.{Look, SetSuspended}
 use Rattle.wb_tasks.specs.declared.step.DeviceStep.{DeviceStep}
-use Rattle.wb_tasks.specs.declared.step.Want.TheVariants.{Cell, Device, Desk}
+use Rattle.wb_tasks.specs.declared.step.Want.TheVariants.{Cell, Device, Desk, End}
 use Rattle.wb_devices.specs.declared.devices.Devices.{Devices}
-use Rattle.wb_link.specs.Tables.{Job as AbstractJob}
+use Rattle.wb_link.specs.Tables.{Job as AbstractJob, Script}
 use Rattle.wb_link.specs.World.{World, Shared, AbstractActor, is_alone, job_alone}
 use Rattle.wb_refines.specs.Going.{gone}
-use Rattle.wb_refines.specs.Translation.{job_for, wants_of}
+use Rattle.wb_refines.specs.Translation.{job_for, wants_of, script_for, with_ticket}
 use Rattle.wb_refines.specs.Models.{WordsAgree}
 use Rattle.wb_refines.specs.Commits.{IsCommitting, IsOnMetadata, committing, commit_task, CanGoOn}
 use Rattle.wb_refines.proofs.Holding.{holds_nothing}
 use Rattle.wb_promise.specs.States.{Actor}
-use Rattle.wb_simulation.specs.Actors.{IsCommitAt, IsOfCommit, LeadsAt, IsDoing, IsAmong, StandsFor}
+use Rattle.wb_simulation.specs.Actors.{IsCommitAt, IsOfCommit, IsEnding, LeadsAt, IsDoing, IsAmong, StandsFor, ticket_in}
 use Rattle.wb_simulation.specs.Laws.{flush_or_suspend}
 use Rattle.wb_simulation.specs.Telling.{Quietly}
-use Rattle.wb_simulation.specs.Worlds.{Situation, zeros, Agrees, Turn, TurnedTo, DeskTurnedTo, WorldFollowsBy, IsUnfinished}
+use Rattle.wb_simulation.specs.Worlds.{Situation, zeros, Agrees, Turn, TurnedTo, DeskTurnedTo, WorldFollowsBy, IsUnfinished, KeepsNumbers}
 use Rattle.wb_simulation.proofs.Telling.{quiet_are_unnoted}
 use Rattle.wb_simulation.proofs.Orders.{MigratesNot, does_none}
 use Rattle.wb_simulation.proofs.Among.{goes_by}
@@ -63,9 +64,9 @@ ended_on false most [] m = (tt, tt)
 ended_on clean most later m = absurd m
 
 -- after a fault the failed bit is to be set
-pub failed_on : (clean : Bool) (blocks : List OBlock) (most : ℕ) (step : DeviceStep) → IsOfCommit clean most (after_fault_of (commit_task clean blocks most) step) × LeadsAt true (after_fault_of (commit_task clean blocks most) step) × (after_fault_of (commit_task clean blocks most) step ≢ [])
-failed_on true blocks most step = (refl, refl, λ n. absurd (cc))
-failed_on false blocks most step = (refl, refl, λ n. absurd (cc))
+pub failed_on : (clean : Bool) (blocks : List OBlock) (most : ℕ) (step : DeviceStep) → IsOfCommit clean most (after_fault_of (commit_task clean blocks most) step) × LeadsAt true (after_fault_of (commit_task clean blocks most) step) × (¬ IsEnding (after_fault_of (commit_task clean blocks most) step))
+failed_on true blocks most step = (refl, refl, λ n. n)
+failed_on false blocks most step = (refl, refl, λ n. n)
 
 pub has_wants : (size : ℕ) (job : AbstractJob) (clean : Bool) (steps : List Want) → IsOnMetadata clean steps → wants_of size None job steps ≢ []
 has_wants size job clean (Device (WriteNode number) ∷ later) m = has_wants size job clean later m
@@ -85,13 +86,18 @@ pub is_no_migration : (clean : Bool) → MigratesNot (flush_or_suspend clean)
 is_no_migration true = tt
 is_no_migration false = tt
 
-pub as_doing : (clean : Bool) (size most : ℕ) (failed : Bool) (plan : Plan) (card : Card) (y : AbstractActor) → IsCommitAt size most failed clean plan y → IsDoing size most failed (flush_or_suspend clean) plan card y
-as_doing true size most failed plan card y at = at
-as_doing false size most failed plan card y at = at
+pub as_doing : (clean : Bool) (size most : ℕ) (failed : Bool) (plan : Plan) (card : Card) (share : Share) (y : AbstractActor) → IsCommitAt size most failed clean plan share y → IsDoing size most failed (flush_or_suspend clean) plan card share y
+as_doing true size most failed plan card share y at = at
+as_doing false size most failed plan card share y at = at
 
-pub doing_as : (clean : Bool) (size most : ℕ) (failed : Bool) (plan : Plan) (card : Card) (y : AbstractActor) → IsDoing size most failed (flush_or_suspend clean) plan card y → IsCommitAt size most failed clean plan y
-doing_as true size most failed plan card y at = at
-doing_as false size most failed plan card y at = at
+pub doing_as : (clean : Bool) (size most : ℕ) (failed : Bool) (plan : Plan) (card : Card) (share : Share) (y : AbstractActor) → IsDoing size most failed (flush_or_suspend clean) plan card share y → IsCommitAt size most failed clean plan share y
+doing_as true size most failed plan card share y at = at
+doing_as false size most failed plan card share y at = at
+
+-- with a ticket it is at the same job
+same_job : (ticket : Option ℕ) (script : Script) → (with_ticket ticket script).job ≡ script.job
+same_job None script = refl
+same_job (Some number) script = refl
 
 -- a flush is no suspend
 flushes_among : (clean : Bool) (size : ℕ) (blocks : List OBlock) (most : ℕ) → IsAmong (flush_or_suspend clean) → job_alone (job_for size [] (commit_task clean blocks most)) ≡ false
@@ -101,23 +107,41 @@ flushes_among false size blocks most among = refl
 -- ---- where it stands
 
 -- What holds of it with this step next holds of it: it is at the same there, and leads a commit as far as such steps do.
-pub by_commit : (size most : ℕ) (failed clean : Bool) (plan : Plan) (next : Want) (y : AbstractActor) → want plan ≡ next → IsWithin next → (f : IsCommitAt size most failed clean plan y) → (P : Plan → Type 0) →
-    ((later : List Want) (leads : Bool) → LeadsAt leads (next ∷ later) → IsOfCommit clean most (next ∷ later) → IsCommitting size [] (committing clean f.blocks most (next ∷ later) plan.answer) leads y → P (committing clean f.blocks most (next ∷ later) plan.answer)) → P plan
-by_commit size most failed clean plan next y e within f P h = elim f.at [
-  | inl l ↦ first plan (commit_task clean f.blocks most) next f.job e (λ p. LeadsAt l.leads p.steps → IsOfCommit clean most p.steps → IsCommitting size [] p l.leads y → P p) (λ later k at of is. h later l.leads at of is) (λ k end. absurd (subst IsWithin (sym end) within)) l.at f.steps l.is
+pub by_commit : (size most : ℕ) (failed clean : Bool) (plan : Plan) (next : Want) (share : Share) (y : AbstractActor) → want plan ≡ next → IsWithin next → (f : IsCommitAt size most failed clean plan share y) → (P : Plan → Type 0) →
+    ((later : List Want) (leads : Bool) → LeadsAt leads (next ∷ later) → IsOfCommit clean most (next ∷ later) → IsCommitting size [] (committing clean f.blocks most (next ∷ later) plan.answer) (ticket_in next share) leads y → P (committing clean f.blocks most (next ∷ later) plan.answer)) → P plan
+by_commit size most failed clean plan next share y e within f P h = elim f.at [
+  | inl l ↦ first plan (commit_task clean f.blocks most) next f.job e (λ p. LeadsAt l.leads p.steps → IsOfCommit clean most p.steps → IsCommitting size [] p (ticket_in (want p) share) l.leads y → P p) (λ later k at of is. h later l.leads at of is) (λ k end. absurd (subst IsWithin (sym end) within)) l.at f.steps l.is
   | inr l ↦ absurd (never_late failed plan (commit_task clean f.blocks most) next y f.job (begins_by_look clean f.blocks most) e within l)
 ]
 
+-- who leads a commit asks with no ticket
+pub no_ticket : (plan : Plan) (share : Share) → LeadsAt true plan.steps → ticket_in (want plan) share ≡ None
+no_ticket plan share l = by_steps plan.steps l
+  where
+    by_steps : (steps : List Want) → LeadsAt true steps → ticket_in (first_step steps plan.answer) share ≡ None
+    by_steps [] l = refl
+    by_steps (Cell step ∷ later) l = refl
+    by_steps (Device step ∷ later) l = refl
+    by_steps (End answer ∷ later) l = refl
+    by_steps (Desk (Ask most) ∷ later) l = absurd (cc)
+    by_steps (Desk (Arrive most) ∷ later) l = refl
+    by_steps (Desk (BeginCommit most) ∷ later) l = refl
+    by_steps (Desk EndCommit ∷ later) l = refl
+    by_steps (Desk BreakCommit ∷ later) l = refl
+    by_steps (Desk (Map block place) ∷ later) l = refl
+    by_steps (Desk (Unmap block) ∷ later) l = refl
+    by_steps (Desk (ReleaseOrder block) ∷ later) l = refl
+
 module _ (now : Situation) (clean : Bool) (blocks : List OBlock) (a : ℕ) (x : Actor) (s : World) (y : AbstractActor) (ex : slice_get now.actors a ≡ Some x) (ey : slice_get s.actors a ≡ Some y) (g : Agrees now s) where
   -- who stands there now
-  pub stands : (words' : Words) (plan' : Plan) (card' : Card) (seen' : List Bool) (leads' : Bool) (z : AbstractActor) → plan'.job ≡ commit_task clean blocks now.most → IsOfCommit clean now.most plan'.steps → LeadsAt leads' plan'.steps → (leads' ≡ true → plan'.steps ≡ [] → flag words'.fail ≡ true) → IsCommitting now.size [] plan' leads' z →
-      StandsFor now.size now.most words' (record x { task = Some (flush_or_suspend clean, plan'); card = card'; seen = seen' }) z
-  stands words' plan' card' seen' leads' z j o l f is = record {
+  pub stands : (words' : Words) (plan' : Plan) (card' : Card) (seen' : List Bool) (share' : Share) (leads' : Bool) (z : AbstractActor) → plan'.job ≡ commit_task clean blocks now.most → IsOfCommit clean now.most plan'.steps → LeadsAt leads' plan'.steps → (leads' ≡ true → IsEnding plan'.steps → flag words'.fail ≡ true) → IsCommitting now.size [] plan' (ticket_in (want plan') share') leads' z →
+      StandsFor now.size now.most words' (record x { task = Some (flush_or_suspend clean, plan'); card = card'; seen = seen'; share = share' }) z
+  stands words' plan' card' seen' share' leads' z j o l f is = record {
     failed = flag words'.fail;
     has_failed = λ e. e;
-    at = as_doing clean now.size now.most (flag words'.fail) plan' card' z (record { blocks = blocks; job = j; steps = o; at = inl (record { leads = leads'; at = l; has_failed = f; is = is }) });
+    at = as_doing clean now.size now.most (flag words'.fail) plan' card' share' z (record { blocks = blocks; job = j; steps = o; at = inl (record { leads = leads'; at = l; has_failed = f; is = is }) });
     below = holds_nothing z card' (ap (λ (v : AbstractActor). v.held) is.is);
-    among_others = λ among. ap (λ (v : AbstractActor). is_alone v.task) is.is ∙ ap (λ k. job_alone (job_for now.size [] k)) j ∙ flushes_among clean now.size blocks now.most among;
+    among_others = λ among. ap (λ (v : AbstractActor). is_alone v.task) is.is ∙ ap job_alone (same_job (ticket_in (want plan') share') (script_for now.size [] None plan')) ∙ ap (λ k. job_alone (job_for now.size [] k)) j ∙ flushes_among clean now.size blocks now.most among;
   }
 
   -- nobody else leads a commit
@@ -125,9 +149,9 @@ module _ (now : Situation) (clean : Bool) (blocks : List OBlock) (a : ℕ) (x : 
   leads_alone lead b v n ev l = n (g.one_leads b a v y ev ey l lead)
 
   -- one that leads goes on by a step on a device, and its commit stays whole
-  pub goes : (turn : Turn) (devices' : Devices (List History)) (next : Want) (later : List Want) (answer : Answer) (plan' : Plan) (t : Shared) → IsCommitting now.size [] (committing clean blocks now.most (next ∷ later) answer) true y → wants_of now.size None (job_for now.size [] (commit_task clean blocks now.most)) (next ∷ later) ≢ [] → CanGoOn now.size [] s.actors a s.shared y t plan' true →
-      plan'.job ≡ commit_task clean blocks now.most → IsOfCommit clean now.most plan'.steps → LeadsAt true plan'.steps → (plan'.steps ≢ []) → WordsAgree now.words t → t.origin ≡ by_block now.size zeros devices'.origin → t.cache ≡ by_block now.size zeros devices'.cache → t.mode ≡ s.shared.mode → t.committing ≡ s.shared.committing → t.broken ≡ s.shared.broken → TurnedTo turn s.shared t → DeskTurnedTo turn s.shared t → t.mapping ≡ s.shared.mapping →
+  pub goes : (turn : Turn) (devices' : Devices (List History)) (next : Want) (later : List Want) (answer : Answer) (plan' : Plan) (t : Shared) → IsCommitting now.size [] (committing clean blocks now.most (next ∷ later) answer) None true y → wants_of now.size None (job_for now.size [] (commit_task clean blocks now.most)) (next ∷ later) ≢ [] → CanGoOn now.size [] s.actors a s.shared y t plan' None true →
+      plan'.job ≡ commit_task clean blocks now.most → IsOfCommit clean now.most plan'.steps → LeadsAt true plan'.steps → (¬ IsEnding plan'.steps) → WordsAgree now.words t → t.origin ≡ by_block now.size zeros devices'.origin → t.cache ≡ by_block now.size zeros devices'.cache → t.mode ≡ s.shared.mode → t.committing ≡ s.shared.committing → KeepsNumbers s.shared t → TurnedTo turn s.shared t → DeskTurnedTo turn s.shared t → t.mapping ≡ s.shared.mapping →
       WorldFollowsBy turn Quietly a s (record now { devices = devices' }) (record x { task = Some (flush_or_suspend clean, plan') })
   goes turn devices' next later answer plan' t is some l j o at unfinished w og ca mo co br turned desk same_map = goes_by now now.words (λ f. f) a x (record x { task = Some (flush_or_suspend clean, plan') }) s y g ex ey turn Quietly devices' l.results t (l.results, quiet_are_unnoted y.task l.results l.quiet, refl) l.may l.shared
-      (stands now.words plan' x.card x.seen true (gone y y.task l.results) j o at (λ e n. absurd (unfinished n)) l.at) (λ k. (ap (λ (v : AbstractActor). v.leads) is.is, λ more. subst (λ (v : AbstractActor). IsUnfinished v.task) (sym is.is) some)) w og ca mo co br turned desk
+      (stands now.words plan' x.card x.seen x.share true (gone y y.task l.results) j o at (λ e n. absurd (unfinished n)) (subst (λ (ticket : Option ℕ). IsCommitting now.size [] plan' ticket true (gone y y.task l.results)) (sym (no_ticket plan' x.share at)) l.at)) (λ k. (ap (λ (v : AbstractActor). v.leads) is.is, λ more. subst (λ (v : AbstractActor). IsUnfinished v.task) (sym is.is) some)) w og ca mo co br turned desk
       (ap (λ (v : AbstractActor). v.order) l.at.is ∙ sym (ap (λ (v : AbstractActor). v.order) is.is)) (λ o h. h) same_map (does_none _ _ _ _ _ (is_no_migration clean))

@@ -23,14 +23,14 @@ use Rattle.wb_tasks.specs.declared.step.Got.{Got}
 use Rattle.wb_tasks.specs.declared.step.Got.TheVariants.{Done, Fault}
 use Rattle.wb_devices.specs.declared.devices.Devices.{Devices}
 use Rattle.wb_devices.specs.Moving.{device_in}
-use Rattle.wb_link.specs.Tables.{Seal, Script, Job as AbstractJob, Want as AbstractWant, Read_all, Write_all, Io as AnsweredIo, Gave, Got as AbstractGot, Done as DoneThere}
+use Rattle.wb_link.specs.Tables.{Seal, Script, Set_failed, breaking, Job as AbstractJob, Want as AbstractWant, Read_all, Write_all, Io as AnsweredIo, Gave, Got as AbstractGot, Done as DoneThere}
 use Rattle.wb_link.specs.World.{World, Shared, AbstractActor, abstract_contents_for, newest_at, is_alone, job_alone}
 use Rattle.wb_refines.specs.Going.{records, shared_after}
 use Rattle.wb_refines.specs.Translation.{location_at, wants_of, block_in, job_for, writing_in, script_for, answer_for, offsets, offsets_in}
-use Rattle.wb_refines.specs.Data.{IsInBlock, IsSide, SameBeside, DeviceMoves, read_fault, write_fault}
+use Rattle.wb_refines.specs.Data.{IsInBlock, IsSide, left_with, SameBeside, DeviceMoves, read_fault, write_fault}
 use Rattle.wb_refines.specs.Models.{IsAt, HasStopped, plan_of, SealAgrees, WordsAgree}
 use Rattle.wb_refines.proofs.Locks.{has_no_more}
-use Rattle.wb_refines.proofs.Modes.{block_in_mode, contents_in, among_in, block_read, read_among, read_releases}
+use Rattle.wb_refines.proofs.Modes.{block_in_mode, breaks_in, contents_in, among_in, block_read, read_among, read_releases}
 use Rattle.wb_refines.proofs.Followed.{rest_plain}
 use Rattle.wb_refines.proofs.Moving.{unmaps_none, goes_on_at, extents_followed}
 use Rattle.wb_promise.specs.declared.job.Job.{Job}
@@ -78,7 +78,7 @@ module _ (now : Situation) (a : ℕ) (x : Actor) (s : World) (y : AbstractActor)
 
   -- an actor of a request has moved an extent, and its device is this list now
   moved : (telling : Telling) (job : Job) (content : Content) (plan : Plan) (device : Dev) (e : Extent) (got : AbstractGot) (list : List History) (z : AbstractActor) → IsTold telling a y.task (records a y.task (got ∷ [])) → HoldsBlocks device →
-      DeviceMoves now.size zeros s.actors a s.shared y y.task (location_at now.size device e) got list z → IsAt now.size content plan x.card z → is_alone z.task ≡ false → IsDoing now.size now.most false job plan x.card z →
+      DeviceMoves now.size zeros s.actors a s.shared y y.task (location_at now.size device e) got list z → IsAt now.size content plan x.card z → is_alone z.task ≡ false → IsDoing now.size now.most false job plan x.card x.share z →
       y.order ≡ None → MigratesNot job → WorldFollows telling a s (record now { devices = with_device device now.devices list }) (record x { task = Some (job, plan) })
   moved telling job content plan device e got list z told h m at alone doing own other =
       let t = shared_after s.shared y y.task (got ∷ []) in
@@ -87,7 +87,7 @@ module _ (now : Situation) (a : ℕ) (x : Actor) (s : World) (y : AbstractActor)
       goes_on now now.words (λ f. f) a x (record x { task = Some (job, plan) }) s y g ex ey telling (with_device device now.devices list) (got ∷ []) t told m.may refl
       (subst (λ (v : AbstractActor). StandsFor now.size now.most now.words (record x { task = Some (job, plan) }) v) (sym m.is) (record { failed = false; has_failed = λ e. absurd (cc); at = doing; below = has_no_more now.size content plan x.card z at; among_others = λ among. alone }))
       (λ l. let bad : true ≡ false = sym l ∙ ap (λ (v : AbstractActor). v.leads) (m.is ∙ at.is) in absurd (cc)) (words_beside now.words (location_at now.size device e) s.shared t m.beside g.words_agree)
-      both.0 both.1 k.mode k.committing k.broken (k.committed, k.running, k.root_written, k.committed_clean, k.running_clean) (k.mapping, k.blocks) (ap (λ (v : AbstractActor). v.order) (m.is ∙ at.is) ∙ sym own) (λ o h. h) (does_none _ _ _ _ _ other)
+      both.0 both.1 k.mode k.committing (k.broken, k.began, k.ended) (k.committed, k.running, k.root_written, k.committed_clean, k.running_clean) (k.mapping, k.blocks) (ap (λ (v : AbstractActor). v.order) (m.is ∙ at.is) ∙ sym own) (λ o h. h) (does_none _ _ _ _ _ other)
 
 pub same_device : (device : Dev) (devices : Devices (List History)) → HoldsBlocks device → with_device device devices (device_in device devices) ≡ devices
 same_device Cache devices h = refl
@@ -201,6 +201,9 @@ module _ (now : Situation) (blocks : ℕ) (a : ℕ) (x : Actor) (s : World) (y :
   among : (content : Content) → job_alone (writes content) ≡ false
   among content = ap job_alone (is_written content) ∙ among_in part.block.0 (offsets now.size part.extents) content part.mode
 
+  breaks : (content : Content) → breaking (writes content) ≡ Set_failed ∷ []
+  breaks content = ap breaking (is_written content) ∙ breaks_in part.block.0 (offsets now.size part.extents) content part.mode
+
   write_done : (extent : Extent) (content : Content) → AreOfBlock now.size part.block.0 (Device (WriteExtent device e) ∷ ws) → Suits blocks writing x.card → e.first + e.count ≤ length list → IsAt now.size content writing x.card y →
       Then (telling content) (with_device device now.devices (written_each list e.first (replicate e.count content))) (Write extent content) writing Done
   write_done extent content o suits room is =
@@ -214,7 +217,8 @@ module _ (now : Situation) (blocks : ℕ) (a : ℕ) (x : Actor) (s : World) (y :
       Then (telling content) (with_device device now.devices (written_where lands list e.first (replicate e.count content))) (Write extent content) writing Fault
   write_fails extent content lands o room is =
       let fault = write_fault now.size (location_at now.size device e) (block_in (writes content)) lands in
-      let at : IsAt now.size content (after writing Fault) x.card (record y { task = Some (script_for now.size content is.place (after writing Fault)) }) = record { place = is.place; buffer = is.buffer; is = ap (λ (v : AbstractActor). record v { task = Some (script_for now.size content is.place (after writing Fault)) }) is.is; saw = (Io (device_of (WriteExtent device e)), refl); unmaps = unmaps_none is.place (after writing Fault).steps tt } in
+      let fallen : IsAt now.size content (after writing Fault) x.card (record y { task = Some (script_for now.size content is.place (after writing Fault)) }) = record { place = is.place; buffer = is.buffer; is = ap (λ (v : AbstractActor). record v { task = Some (script_for now.size content is.place (after writing Fault)) }) is.is; saw = (Io (device_of (WriteExtent device e)), refl); unmaps = unmaps_none is.place (after writing Fault).steps tt } in
+      let at = subst (λ (steps : List AbstractWant). IsAt now.size content (after writing Fault) x.card (left_with y (writes content) steps AnsweredIo)) (sym (breaks content)) fallen in
       subst (λ (cs : List Content). Then (telling content) (with_device device now.devices (written_where lands list e.first cs)) (Write extent content) writing Fault) (all_content content)
       (moved now a x s y ex ey g (telling content) (Write extent content) content (after writing Fault) device e fault _ _ (write_told content fault is)
       h (by_task content writing fault _ _ is (extents_followed.write_fails now.size zeros s.actors a s.shared y _ (block_in (writes content)) device e _ _ list lands (in_own_block content o.0) side room)) at (among content)

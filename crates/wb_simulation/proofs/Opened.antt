@@ -224,7 +224,7 @@ opened_followed mode size most origin_blocks cache_blocks clean entries learnt b
   origin = origin;
   cache = cache;
   mode = refl;
-  commits = refl;
+  commits = record { runs = refl; broken = refl; ended = refl; began = refl };
   broken = λ e. absurd (cc);
   led = λ a y e l. absurd (nobody a y e l);
   whole = λ a y e l u. absurd (nobody a y e l);
@@ -233,7 +233,7 @@ opened_followed mode size most origin_blocks cache_blocks clean entries learnt b
   each = λ a x y e f. subst (λ (v : AbstractActor). StandsFor size most words x v) (replicated (length actors) a idle y f) (record {
     failed = false;
     has_failed = λ e. absurd (cc);
-    at = subst (λ t. IsBusyAt size most false t x.card idle) (sym (rest a x e)) (refl, inl (record { task = refl; held = refl; leads = refl }));
+    at = subst (λ t. IsBusyAt size most false t x.card x.share idle) (sym (rest a x e)) (refl, inl (record { task = refl; held = refl; leads = refl }));
     below = holds_nothing idle x.card refl;
     among_others = λ among. refl;
   });

@@ -149,8 +149,8 @@ module _ (now : Situation) (a : ℕ) (x : Actor) (migration : Migration) (block 
 
   -- an order that is given reserves a promotion's cache block, and is nothing else to what is shared
   is_given : (m : Migration) → IsGiven now.words (given_by m c.0) s.shared (abstract_reserved s.shared (job_under own (offsets now.size cut) m))
-  is_given (Promote k) = record { words_agree = record { fail = g.words_agree.fail; seals = g.words_agree.seals }; origin = refl; cache = refl; mode = refl; commits = refl; broken = refl; mapping = refl; turned = (refl, refl, refl, refl, refl); desk = (refl, refl) }
-  is_given m = record { words_agree = g.words_agree; origin = refl; cache = refl; mode = refl; commits = refl; broken = refl; mapping = refl; turned = (refl, refl, refl, refl, refl); desk = (refl, refl) }
+  is_given (Promote k) = record { words_agree = record { fail = g.words_agree.fail; seals = g.words_agree.seals }; origin = refl; cache = refl; mode = refl; commits = refl; broken = (refl, refl, refl); mapping = refl; turned = (refl, refl, refl, refl, refl); desk = (refl, refl) }
+  is_given m = record { words_agree = g.words_agree; origin = refl; cache = refl; mode = refl; commits = refl; broken = (refl, refl, refl); mapping = refl; turned = (refl, refl, refl, refl, refl); desk = (refl, refl) }
 
   st : StandsFor now.size now.most now.words x y
   st = g.each a x y ex ey

@@ -36,7 +36,7 @@ can_agree size most blocks caches cache origin many = record {
   origin = empty_device zeros size origin;
   cache = empty_device zeros size cache;
   mode = refl;
-  commits = refl;
+  commits = record { runs = refl; broken = refl; ended = refl; began = refl };
   broken = λ e. absurd (cc);
   led = λ a y e l. absurd (nobody a y e l);
   whole = λ a y e l u. absurd (nobody a y e l);

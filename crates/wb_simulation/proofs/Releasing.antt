@@ -59,4 +59,4 @@ module _ (now : Situation) (a : ℕ) (x x' : Actor) (s : World) (y : AbstractAct
 
   pub released_there : WorldFollowsBy (GivesUp c) Releases a s (record now { orders = over }) x'
   released_there = begins now a x x' s y g ex ey (GivesUp c) Releases over (Release c ∷ []) (changed s.waiting c None) t y ((own, waits, nobody_alone now s g among), tt) world_is (c, refl)
-      (record { words_agree = record { fail = g.words_agree.fail; seals = g.words_agree.seals }; origin = refl; cache = refl; mode = refl; commits = refl; broken = refl; mapping = refl; turned = (refl, refl, refl, refl, refl); desk = (refl, refl) }) (λ l. (l, λ more. more)) st ordered
+      (record { words_agree = record { fail = g.words_agree.fail; seals = g.words_agree.seals }; origin = refl; cache = refl; mode = refl; commits = refl; broken = (refl, refl, refl); mapping = refl; turned = (refl, refl, refl, refl, refl); desk = (refl, refl) }) (λ l. (l, λ more. more)) st ordered

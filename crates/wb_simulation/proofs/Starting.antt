@@ -29,7 +29,7 @@ use Rattle.wb_refines.specs.Commits.{IsToBegin, commit_there}
 use Rattle.wb_simulation.specs.Actors.{IsLate, IsBusyAt, IsDoing, IsAmong, IsAmongOthers, AreAmongOthers, StandsFor, write_of}
 use Rattle.wb_simulation.specs.Opened.{AreAtRest}
 use Rattle.wb_simulation.specs.Telling.{Telling, Quietly, Starts, IsTold}
-use Rattle.wb_simulation.specs.Worlds.{Situation, Agrees, OrdersAgree, Turn, Stays, TurnedTo, DeskTurnedTo, WorldFollowsBy}
+use Rattle.wb_simulation.specs.Worlds.{Situation, Agrees, OrdersAgree, Turn, Stays, TurnedTo, DeskTurnedTo, WorldFollowsBy, KeepsNumbers}
 use Rattle.wb_simulation.specs.Laws.{StartsFollowed, Begun}
 use Rattle.wb_simulation.proofs.Telling.{unnoted_none}
 use Rattle.wb_simulation.proofs.Cells.{Leading}
@@ -44,22 +44,22 @@ pub record IsGiven (words : Words) (turn : Turn) (s t : Shared) : Type 0 where
   pub turned : TurnedTo turn s t
   pub mode : t.mode ≡ s.mode
   pub commits : t.committing ≡ s.committing
-  pub broken : t.broken ≡ s.broken
+  pub broken : KeepsNumbers s t
   pub mapping : t.mapping ≡ s.mapping
   pub desk : DeskTurnedTo turn s t
 
 pub given_nothing : (words : Words) (s : Shared) → WordsAgree words s → IsGiven words Stays s s
-given_nothing words s w = record { words_agree = w; origin = refl; cache = refl; mode = refl; commits = refl; broken = refl; mapping = refl; turned = (refl, refl, refl, refl, refl); desk = (refl, refl) }
+given_nothing words s w = record { words_agree = w; origin = refl; cache = refl; mode = refl; commits = refl; broken = (refl, refl, refl); mapping = refl; turned = (refl, refl, refl, refl, refl); desk = (refl, refl) }
 
 module _ (now : Situation) (a : ℕ) (x x' : Actor) (s : World) (y : AbstractActor) (g : Agrees now s) (ex : slice_get now.actors a ≡ Some x) (ey : slice_get s.actors a ≡ Some y) where
   -- These records give it something to do, and its actor there is this one then.
   pub begins : (turn : Turn) (telling : Telling) (orders' : List (Option Order)) (rs : List Record) (waiting : ℕ → Option AbstractOrder) (t : Shared) (y' : AbstractActor) → IsAbstractRun now.size s rs → abstract_after_all s rs ≡ record { shared = t; actors = slice_set s.actors a y'; waiting = waiting } → IsTold telling a y.task rs → IsGiven now.words turn s.shared t → Leading y y' → StandsFor now.size now.most now.words x' y' →
       OrdersAgree now.size now.words orders' (slice_set now.actors a x') (record { shared = t; actors = slice_set s.actors a y'; waiting = waiting }) → WorldFollowsBy turn telling a s (record now { orders = orders' }) x'
-  begins turn telling orders' rs waiting t y' run is told i leading st ordered = follows_by now now.words (λ f. f) a x x' s y g ex ey turn telling now.committing orders' now.devices rs _ run is told
+  begins turn telling orders' rs waiting t y' run is told i leading st ordered = follows_by now now.words (λ f. f) a x x' s y g ex ey turn telling now.commits orders' now.devices rs _ run is told
       (agrees_on now now.words (λ f. f) a x x' s y g ex ey orders' now.devices waiting t y' leading st i.words_agree (i.origin ∙ g.origin) (i.cache ∙ g.cache) i.mode i.commits i.broken ordered) i.turned i.desk
 
 pub rests : (size most : ℕ) (words : Words) (x : Actor) (y : AbstractActor) → StandsFor size most words x y → x.task ≡ None → (y.task ≡ None) × (IsResting y ⊎ (flag words.fail ≡ true))
-rests size most words x y st e = let r = subst (λ t. IsBusyAt size most st.failed t x.card y) e st.at in (r.0, elim r.1 [ inl i ↦ inl i | inr f ↦ inr (st.has_failed f) ])
+rests size most words x y st e = let r = subst (λ t. IsBusyAt size most st.failed t x.card x.share y) e st.at in (r.0, elim r.1 [ inl i ↦ inl i | inr f ↦ inr (st.has_failed f) ])
 
 module _ (now : Situation) (a : ℕ) (x : Actor) (s : World) (ex : slice_get now.actors a ≡ Some x) (none : x.task ≡ None) (g : Agrees now s) where
   its : (y : AbstractActor) × (slice_get s.actors a ≡ Some y) × StandsFor now.size now.most now.words x y
@@ -69,7 +69,7 @@ module _ (now : Situation) (a : ℕ) (x : Actor) (s : World) (ex : slice_get now
   y = its.0
 
   -- The same job is started there, or nothing is, since the actor has kept something.
-  starts : (job : Job) (plan : Plan) (seen' : List Bool) (there : AbstractJob) → MigratesNot job → AreAmongOthers now.actors → MayStart now.size s there → abstract_reserved s.shared there ≡ s.shared → abstract_order_of there ≡ None → (IsAmong job → job_alone there ≡ false) → plan ≡ table plan.job → (IsResting y → IsDoing now.size now.most (flag now.words.fail) job plan x.card (abstract_given y there)) → (IsLate (flag now.words.fail) plan y → IsDoing now.size now.most (flag now.words.fail) job plan x.card y) →
+  starts : (job : Job) (plan : Plan) (seen' : List Bool) (there : AbstractJob) → MigratesNot job → AreAmongOthers now.actors → MayStart now.size s there → abstract_reserved s.shared there ≡ s.shared → abstract_order_of there ≡ None → (IsAmong job → job_alone there ≡ false) → plan ≡ table plan.job → (IsResting y → IsDoing now.size now.most (flag now.words.fail) job plan x.card x.share (abstract_given y there)) → (IsLate (flag now.words.fail) plan y → IsDoing now.size now.most (flag now.words.fail) job plan x.card x.share y) →
       Begun there a s now (record x { task = Some (job, plan); seen = seen' })
   starts job plan seen' there other nobody may same no_order among begun doing late = elim (rests now.size now.most now.words x y its.2 none).1 [
     | inl idle ↦ inl (begins now a x x' s y g ex its.1 Stays (Starts there) now.orders (Start a there ∷ []) (aside s.waiting y.order) s.shared (abstract_given y there)
@@ -119,8 +119,8 @@ starts_followed = record {
       let plan = table (Flushing serves now.most) in
       let u = y now a x s ex none g in
       starts now a x s ex none g Flush plan x.seen (commit_there false) tt among refl refl refl (λ k. refl) refl
-      (λ idle. record { blocks = serves; job = refl; steps = (refl, refl, refl); at = inl (record { leads = false; at = refl; has_failed = λ e n. absurd (cc); is = record { buffer = u.buffer; is = λ i. record { task = Some (script_for now.size [] None plan); held = idle.held i; order = None; leads = idle.leads i; buffer = u.buffer } } }) })
-      (λ l. record { blocks = serves; job = refl; steps = (refl, refl, refl); at = inr l });
+      (λ idle. record { blocks = serves; job = refl; steps = (refl, refl); at = inl (record { leads = false; at = refl; has_failed = λ e n. absurd (cc); is = record { buffer = u.buffer; is = λ i. record { task = Some (script_for now.size [] None plan); held = idle.held i; order = None; leads = idle.leads i; buffer = u.buffer } } }) })
+      (λ l. record { blocks = serves; job = refl; steps = (refl, refl); at = inr l });
   suspend = λ now a x looks seen' s ex rest g.
       let plan = table (Suspending looks now.most) in
       let none = rest a x ex in
@@ -145,8 +145,8 @@ starts_followed = record {
     nobody_at now s g rest b z e = let v = whose now s g b z e in (rests now.size now.most now.words v.0 z (g.each b v.0 z v.1 e) (rest b v.0 v.1)).0
 
     -- it has seals to look at, or none
-    to_look : (most : ℕ) (looks : List OBlock) → IsToBegin true most (seal_looks looks ++ Desk (BeginCommit true most) ∷ [])
-    to_look most [] = (refl, refl, refl)
+    to_look : (most : ℕ) (looks : List OBlock) → IsToBegin true most (seal_looks looks ++ Desk (BeginCommit most) ∷ [])
+    to_look most [] = (refl, refl)
     to_look most (b ∷ bs) = to_look most bs
 
     looks_first : (size : ℕ) (looks : List OBlock) (most : ℕ) → script_for size [] None (table (Suspending looks most)) ≡ table_there SuspendingThere

@@ -75,7 +75,7 @@ orders_none now a x x' s y y' t ex ey g none same its = record {
 
 module _ (now : Situation) (a : ℕ) (x : Actor) (s : World) (y : AbstractActor) (ex : slice_get now.actors a ≡ Some x) (ey : slice_get s.actors a ≡ Some y) (g : Agrees now s) (st : StandsFor now.size now.most now.words x y) where
   -- it is at its task there, and unmaps its block from where it was seen
-  at_unmap : (job : Job) (content : Content) (on : BlockJob) (block : OBlock) (later : List Want) (answer : Answer) → IsPlain later → MigratesNot job → is_alone y.task ≡ false → ((z : AbstractActor) → IsAt now.size content (plan_of on later answer) x.card z → IsDoing now.size now.most false job (plan_of on later answer) x.card z) →
+  at_unmap : (job : Job) (content : Content) (on : BlockJob) (block : OBlock) (later : List Want) (answer : Answer) → IsPlain later → MigratesNot job → is_alone y.task ≡ false → ((z : AbstractActor) → IsAt now.size content (plan_of on later answer) x.card z → IsDoing now.size now.most false job (plan_of on later answer) x.card x.share z) →
       IsAt now.size content (plan_of on (Desk (Unmap block) ∷ later) answer) x.card y → UnmapFollowed now a x job (plan_of on (Desk (Unmap block) ∷ later) answer) block s
   at_unmap job content on block later answer plain other among does i = by_place i.place i.is i.unmaps
     where
@@ -108,11 +108,11 @@ module _ (now : Situation) (a : ℕ) (x : Actor) (s : World) (y : AbstractActor)
           by none orders' awaiting' = let x' = then_actor orders' awaiting' in goes_with now now.words (λ f. f) a x x' s y g ex ey (Unmaps block.0 c.0 None) Quietly now.orders now.devices (DoneThere ∷ []) t (DoneThere ∷ [], subst (λ (k : Option Script). AreUnnoted k (DoneThere ∷ [])) (sym (ap (λ (v : AbstractActor). v.task) is)) (tt, tt), refl)
               (subst (λ (k : Option Script). MayGo s.actors a s.shared y k (DoneThere ∷ [])) (sym (ap (λ (v : AbstractActor). v.task) is)) (tt, tt, tt)) (ap (λ (k : Option Script). shared_after s.shared y k (DoneThere ∷ [])) (ap (λ (v : AbstractActor). v.task) is))
               (subst (λ (v : AbstractActor). StandsFor now.size now.most now.words x' v) (sym gone_is) (record { failed = false; has_failed = λ e. absurd (cc); at = does y' at; below = has_no_more now.size content (plan_of on later answer) x.card y' at; among_others = λ k. sym (ap (λ (v : AbstractActor). is_alone v.task) is) ∙ among }))
-              (subst (Leading y) (sym gone_is) (λ l. let bad : true ≡ false = sym l ∙ ap (λ (v : AbstractActor). v.leads) is in absurd (cc))) (record { fail = g.words_agree.fail; seals = g.words_agree.seals }) g.origin g.cache refl refl refl (refl, refl, refl, refl, refl) (refl, refl)
+              (subst (Leading y) (sym gone_is) (λ l. let bad : true ≡ false = sym l ∙ ap (λ (v : AbstractActor). v.leads) is in absurd (cc))) (record { fail = g.words_agree.fail; seals = g.words_agree.seals }) g.origin g.cache refl refl (refl, refl, refl) (refl, refl, refl, refl, refl) (refl, refl)
               (subst (λ (v : AbstractActor). OrdersAgree now.size now.words now.orders (slice_set now.actors a x') (with_own s a t v)) (sym gone_is) (orders_none now a x x' s y y' t ex ey g none refl (does_none _ _ _ _ _ other)))
 
   -- a request whose next step it is
-  of_request : (blocks : ℕ) (job : Job) (content : Content) (job_on : BlockRange → BlockJob) (plan : Plan) (block : OBlock) → MigratesNot job → is_alone y.task ≡ false → ((p : Plan) (z : AbstractActor) → IsRequestAt now.size content false job_on p x.card z → IsDoing now.size now.most false job p x.card z) →
+  of_request : (blocks : ℕ) (job : Job) (content : Content) (job_on : BlockRange → BlockJob) (plan : Plan) (block : OBlock) → MigratesNot job → is_alone y.task ≡ false → ((p : Plan) (z : AbstractActor) → IsRequestAt now.size content false job_on p x.card z → IsDoing now.size now.most false job p x.card x.share z) →
       want plan ≡ Desk (Unmap block) → Suits blocks plan x.card → IsRequestAt now.size content st.failed job_on plan x.card y → UnmapFollowed now a x job plan block s
   of_request blocks job content job_on plan block other among does next suits r = subst (λ (p : Plan). UnmapFollowed now a x job p block s) (sym is)
       (at_unmap job content (job_on r.part) block b.0 plan.answer (rest_plain (job_on r.part) suited.1.1.0 b.0 suited.1.1.1.1) other among
@@ -141,7 +141,7 @@ module _ (now : Situation) (a : ℕ) (x : Actor) (s : World) (y : AbstractActor)
         | inr e ↦ let bad : Desk (Unmap block) ∷ b.0 ≡ [] = e.0 in absurd (cc)
       ]
 
-  followed : (blocks : ℕ) (job : Job) (plan : Plan) (block : OBlock) → IsRequestJob job → x.task ≡ Some (job, plan) → want plan ≡ Desk (Unmap block) → Suits blocks plan x.card → IsDoing now.size now.most st.failed job plan x.card y → UnmapFollowed now a x job plan block s
+  followed : (blocks : ℕ) (job : Job) (plan : Plan) (block : OBlock) → IsRequestJob job → x.task ≡ Some (job, plan) → want plan ≡ Desk (Unmap block) → Suits blocks plan x.card → IsDoing now.size now.most st.failed job plan x.card x.share y → UnmapFollowed now a x job plan block s
   followed blocks (Read extent) plan block q task next suits d = of_request blocks (Read extent) [] Reading plan block tt (st.among_others (subst IsAmongOthers (sym task) tt)) (λ p z r. r) next suits d
   followed blocks (Write extent content) plan block q task next suits d = of_request blocks (Write extent content) content write_of plan block tt (st.among_others (subst IsAmongOthers (sym task) tt)) (λ p z r. r) next suits d
   followed blocks (Invalidate b) plan block q task next suits d = of_request blocks (Invalidate b) [] Invalidating plan block tt (st.among_others (subst IsAmongOthers (sym task) tt)) (λ p z r. r) next suits d

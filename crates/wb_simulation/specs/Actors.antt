@@ -6,18 +6,20 @@ use Rattle.wb_words.specs.declared.card.Card.{Card}
 use Rattle.wb_words.specs.declared.step.CellStep.TheVariants.{Look, SetFailed, SetSuspended}
 use Rattle.wb_words.specs.declared.word.Word.TheVariants.{Fail, Seal as SealWord}
 use Rattle.wb_tasks.specs.Tables.{BlockRange, BlockJob, Reading, Invalidating, OnBlock}
-use Rattle.wb_tasks.specs.Plan.{Plan, table}
+use Rattle.wb_tasks.specs.Plan.{Plan, table, want}
 use Rattle.wb_tasks.specs.declared.step.Answer.TheVariants.{Done as Finished}
 use Rattle.wb_tasks.specs.declared.step.Want.{Want}
 use Rattle.wb_tasks.specs.declared.step.Want.TheVariants.{Cell, Device, Desk}
 use Rattle.wb_tasks.specs.declared.step.DeviceStep.TheVariants.{Sync}
 use Rattle.wb_types.specs.declared.mode.Dev.TheVariants.{Cache, Origin}
-use Rattle.wb_tasks.specs.declared.step.DeskStep.TheVariants.{BeginCommit, ReleaseOrder}
+use Rattle.wb_tasks.specs.declared.step.DeskStep.TheVariants.{Arrive, Ask, BeginCommit, BreakCommit, ReleaseOrder}
 use Rattle.wb_types.specs.declared.number.OBlock.{OBlock}
 use Rattle.wb_link.specs.World.{AbstractActor, is_alone}
 use Rattle.wb_refines.specs.Models.{IsAt, HasStopped, IsBelow}
 use Rattle.wb_refines.specs.Commits.{IsCommitting, IsToBegin, IsOnMetadata, commit_task}
 use Rattle.wb_refines.specs.Tasks.{IsResting}
+use Rattle.wb_stage.specs.declared.share.Share.{Share}
+use Rattle.wb_stage.specs.declared.share.Share.TheVariants.{Waiting}
 use Rattle.wb_promise.specs.declared.job.Job.{Job}
 use Rattle.wb_promise.specs.declared.job.Job.TheVariants.{Read, Write, Flush, Suspend, Open, Invalidate, Migrate, Replace}
 use Rattle.wb_promise.specs.States.{Actor}
@@ -49,9 +51,12 @@ abbrev pub IsOfCommit : (clean : Bool) → ℕ → List Want → Type 0
 IsOfCommit clean most [] = Unit {0}
 IsOfCommit clean most (Cell (Look Fail) ∷ later) = IsToBegin clean most later
 IsOfCommit clean most (Cell (Look (SealWord block)) ∷ later) = (clean ≡ true) × IsToBegin true most later
-IsOfCommit clean most (Desk (BeginCommit marked nodes) ∷ later) = (marked ≡ clean) × (nodes ≡ most) × (later ≡ [])
+IsOfCommit clean most (Desk (Arrive nodes) ∷ later) = (clean ≡ false) × (nodes ≡ most) × (later ≡ [])
+IsOfCommit clean most (Desk (Ask nodes) ∷ later) = (clean ≡ false) × (nodes ≡ most) × (later ≡ [])
+IsOfCommit clean most (Desk (BeginCommit nodes) ∷ later) = (clean ≡ true) × (nodes ≡ most) × (later ≡ [])
 IsOfCommit clean most (Desk (ReleaseOrder block) ∷ later) = (clean ≡ false) × AreReleases later
-IsOfCommit clean most (Cell SetFailed ∷ later) = later ≡ []
+IsOfCommit clean most (Cell SetFailed ∷ later) = later ≡ Desk BreakCommit ∷ []
+IsOfCommit clean most (Desk BreakCommit ∷ later) = later ≡ []
 IsOfCommit clean most (Cell SetSuspended ∷ later) = (clean ≡ true) × (later ≡ [])
 IsOfCommit clean most (Device (Sync Cache) ∷ Device (Sync Origin) ∷ later) = IsOnMetadata clean later
 IsOfCommit clean most (Device (Sync Origin) ∷ later) = IsOnMetadata clean later
@@ -62,42 +67,55 @@ abbrev pub LeadsAt : Bool → List Want → Type 0
 LeadsAt leads [] = Unit {0}
 LeadsAt leads (Cell (Look word) ∷ later) = leads ≡ false
 LeadsAt leads (Cell SetSuspended ∷ later) = leads ≡ false
-LeadsAt leads (Desk (BeginCommit clean most) ∷ later) = leads ≡ false
+LeadsAt leads (Desk (Arrive most) ∷ later) = leads ≡ false
+LeadsAt leads (Desk (Ask most) ∷ later) = leads ≡ false
+LeadsAt leads (Desk (BeginCommit most) ∷ later) = leads ≡ false
 LeadsAt leads (Desk (ReleaseOrder block) ∷ later) = leads ≡ false
 LeadsAt leads steps = leads ≡ true
 
--- It is at the same there; where it leads a commit still when it answers, the target has failed
-pub record IsLeading (size : ℕ) (failed : Bool) (plan : Plan) (y : AbstractActor) : Type 0 where
+-- the ticket with which a flush asks next
+abbrev pub ticket_in : Want → Share → Option ℕ
+ticket_in (Desk (Ask most)) (Waiting number) = Some number
+ticket_in next share = None
+
+-- it has only to answer, or to break its commit first
+abbrev pub IsEnding : List Want → Type 0
+IsEnding [] = Unit {0}
+IsEnding (Desk BreakCommit ∷ later) = Unit {0}
+IsEnding steps = ⊥
+
+-- It is at the same there, with this ticket, if any; where it leads a commit still when it breaks it or answers, the target has failed
+pub record IsLeading (size : ℕ) (failed : Bool) (plan : Plan) (ticket : Option ℕ) (y : AbstractActor) : Type 0 where
   pub leads : Bool
   pub at : LeadsAt leads plan.steps
-  pub has_failed : leads ≡ true → plan.steps ≡ [] → failed ≡ true
-  pub is : IsCommitting size [] plan leads y
+  pub has_failed : leads ≡ true → IsEnding plan.steps → failed ≡ true
+  pub is : IsCommitting size [] plan ticket leads y
 
-pub record IsCommitAt (size most : ℕ) (failed clean : Bool) (plan : Plan) (y : AbstractActor) : Type 0 where
+pub record IsCommitAt (size most : ℕ) (failed clean : Bool) (plan : Plan) (share : Share) (y : AbstractActor) : Type 0 where
   pub blocks : List OBlock
   pub job : plan.job ≡ commit_task clean blocks most
   pub steps : IsOfCommit clean most plan.steps
-  pub at : IsLeading size failed plan y ⊎ IsLate failed plan y
+  pub at : IsLeading size failed plan (ticket_in (want plan) share) y ⊎ IsLate failed plan y
 
 -- a write of this part, in its mode
 abbrev pub write_of : BlockRange → BlockJob
 write_of part = write_job part.mode part
 
 -- what an actor with this job is there; of a migration `Carried` speaks
-abbrev pub IsDoing : (size most : ℕ) → Bool → Job → Plan → Card → AbstractActor → Type 0
-IsDoing size most failed (Read extent) plan card y = IsRequestAt size [] failed Reading plan card y
-IsDoing size most failed (Write extent content) plan card y = IsRequestAt size content failed write_of plan card y
-IsDoing size most failed Flush plan card y = IsCommitAt size most failed false plan y
-IsDoing size most failed Suspend plan card y = IsCommitAt size most failed true plan y
-IsDoing size most failed (Invalidate block) plan card y = IsRequestAt size [] failed Invalidating plan card y
-IsDoing size most failed (Open mode) plan card y = ⊥
-IsDoing size most failed (Migrate migration block) plan card y = Unit {0}
-IsDoing size most failed (Replace old new) plan card y = ⊥
+abbrev pub IsDoing : (size most : ℕ) → Bool → Job → Plan → Card → Share → AbstractActor → Type 0
+IsDoing size most failed (Read extent) plan card share y = IsRequestAt size [] failed Reading plan card y
+IsDoing size most failed (Write extent content) plan card share y = IsRequestAt size content failed write_of plan card y
+IsDoing size most failed Flush plan card share y = IsCommitAt size most failed false plan share y
+IsDoing size most failed Suspend plan card share y = IsCommitAt size most failed true plan share y
+IsDoing size most failed (Invalidate block) plan card share y = IsRequestAt size [] failed Invalidating plan card y
+IsDoing size most failed (Open mode) plan card share y = ⊥
+IsDoing size most failed (Migrate migration block) plan card share y = Unit {0}
+IsDoing size most failed (Replace old new) plan card share y = ⊥
 
 -- one without a task is idle, or has kept something at a failure
-abbrev pub IsBusyAt : (size most : ℕ) → Bool → Option (Job × Plan) → Card → AbstractActor → Type 0
-IsBusyAt size most failed None card y = (y.task ≡ None) × (IsResting y ⊎ (failed ≡ true))
-IsBusyAt size most failed (Some doing) card y = IsDoing size most failed doing.0 doing.1 card y
+abbrev pub IsBusyAt : (size most : ℕ) → Bool → Option (Job × Plan) → Card → Share → AbstractActor → Type 0
+IsBusyAt size most failed None card share y = (y.task ≡ None) × (IsResting y ⊎ (failed ≡ true))
+IsBusyAt size most failed (Some doing) card share y = IsDoing size most failed doing.0 doing.1 card share y
 
 -- a suspend has to be alone, and nothing else has
 abbrev pub IsAmong : Job → Type 0
@@ -117,6 +135,6 @@ AreAmongOthers actors = (b : ℕ) (z : Actor) → slice_get actors b ≡ Some z 
 pub record StandsFor (size most : ℕ) (words : Words) (x : Actor) (y : AbstractActor) : Type 0 where
   pub failed : Bool
   pub has_failed : failed ≡ true → flag words.fail ≡ true
-  pub at : IsBusyAt size most failed x.task x.card y
+  pub at : IsBusyAt size most failed x.task x.card x.share y
   pub below : IsBelow y x.card
   pub among_others : IsAmongOthers x.task → is_alone y.task ≡ false

@@ -1,4 +1,8 @@
 -- How what actors of a run do is followed in the abstract world, where a target stands.
+use Rattle.wb_stage.specs.declared.share.Share.TheVariants.{Waiting}
+use Rattle.wb_stage.specs.declared.share.Share.{Share}
+use Rattle.wb_types.specs.declared.refusal.Refusal.TheVariants.{Failed}
+use Rattle.wb_tasks.specs.declared.step.DeskStep.{DeskStep}
 use Rattle.std.specs.Prelude.{◌++◌, Contains, ◌%◌, ◌≡◌, ◌≤◌, ◌+◌, ◌⊎◌, ◌≢◌, ℕ, Bool, true, false, cond, List, [], Some, None, length, replicate, slice_get, slice_set}
 use Rattle.wb_types.specs.declared.extent.Extent.{Extent}
 use Rattle.wb_types.specs.declared.mode.Mode.{Mode}
@@ -24,11 +28,11 @@ use Rattle.wb_words.specs.declared.card.Hold.TheVariants.{Nothing}
 use Rattle.wb_tasks.specs.Ready.{Suits, HoldsBlocks}
 use Rattle.wb_tasks.specs.declared.step.Want.{Want}
 use Rattle.wb_tasks.specs.declared.step.Want.TheVariants.{Cell, Device, Desk, End}
-use Rattle.wb_tasks.specs.declared.step.DeskStep.TheVariants.{Unmap, BeginCommit, EndCommit, ReleaseOrder}
+use Rattle.wb_tasks.specs.declared.step.DeskStep.TheVariants.{Unmap, BeginCommit, EndCommit, ReleaseOrder, Arrive, Ask, BreakCommit}
 use Rattle.wb_tasks.specs.declared.step.DeviceStep.{DeviceStep}
 use Rattle.wb_tasks.specs.declared.step.DeviceStep.TheVariants.{Read as ReadExtent, Write as WriteExtent, Sync, WriteRoot}
 use Rattle.wb_tasks.specs.declared.step.Got.{Got}
-use Rattle.wb_tasks.specs.declared.step.Got.TheVariants.{Done, Fault, Began, Refused}
+use Rattle.wb_tasks.specs.declared.step.Got.TheVariants.{Done, Fault, Began, Refused, Ticket, Served}
 use Rattle.wb_devices.specs.Moving.{device_in}
 use Rattle.wb_link.specs.Tables.{Script, Order as AbstractOrder, Unmap_plain, Done as DoneThere, Job as AbstractJob}
 use Rattle.wb_refines.specs.Translation.{job_for}
@@ -39,12 +43,12 @@ use Rattle.wb_promise.specs.declared.job.Job.TheVariants.{Read, Write, Flush, Su
 use Rattle.wb_promise.specs.States.{Actor, resting, with_device}
 use Rattle.wb_promise.specs.Clerk.{is_entered}
 use Rattle.wb_runs.specs.Holding.{cards_of}
-use Rattle.wb_simulation.specs.Actors.{AreAmongOthers, write_of}
+use Rattle.wb_simulation.specs.Actors.{AreAmongOthers, write_of, ticket_in}
 use Rattle.wb_simulation.specs.Opened.{AreAtRest}
 use Rattle.wb_simulation.specs.Carried.{held}
 use Rattle.wb_simulation.specs.Steps.{IsPart}
 use Rattle.wb_simulation.specs.Telling.{Telling, Quietly, Reads, Writes, Answers, Starts, Releases}
-use Rattle.wb_simulation.specs.Worlds.{zeros, Situation, Agrees, Turn, Stays, Begins, Puts, Ends, Unmaps, GivesUp, WorldFollowsBy, WorldFollows}
+use Rattle.wb_simulation.specs.Worlds.{zeros, Situation, Agrees, Turn, Stays, Begins, Puts, Ends, Unmaps, GivesUp, WorldFollowsBy, WorldFollows, none_yet, one_begun, one_ended, IsTakenIn, IsLeftOut}
 
 -- This actor, which is at this task, wants this next, and the run stands where the world does.
 pub record WantsNext (now : Situation) (a : ℕ) (x : Actor) (s : World) (job : Job) (plan : Plan) (next : Want) : Type 0 where
@@ -157,6 +161,12 @@ abbrev pub flush_or_suspend : (clean : Bool) → Job
 flush_or_suspend true = Suspend
 flush_or_suspend false = Flush
 
+-- a flush asks to lead a commit: on arriving, or with a ticket
+abbrev pub AsksToLead : DeskStep → Type 0
+AsksToLead (Arrive most) = Unit {0}
+AsksToLead (Ask most) = Unit {0}
+AsksToLead step = ⊥
+
 -- Each step of a flush, or of a suspend, which marks its root clean, with each result that it may have: on the words, on the desk, and on the
 -- devices, done or failing.
 pub record CommitStepsFollowed : Type 0 where
@@ -167,12 +177,30 @@ pub record CommitStepsFollowed : Type 0 where
   pub sees : (now : Situation) (block : OBlock) (seen' : List Bool) (a : ℕ) (x : Actor) (plan : Plan) (s : World) →
       WantsNext now a x s Suspend plan (Cell (Look (SealWord block))) →
       WorldFollows Quietly a s now (record (stepped_actor now.words Suspend plan (Look (SealWord block)) x) { seen = seen' })
-  pub begins : (clean : Bool) (now : Situation) (nodes allowed : ℕ) (marked : Bool) (a : ℕ) (x : Actor) (plan : Plan) (s : World) →
-      WantsNext now a x s (flush_or_suspend clean) plan (Desk (BeginCommit marked allowed)) → now.committing ≡ false →
-      WorldFollowsBy (Begins clean) Quietly a s (record now { committing = true }) (after_step (flush_or_suspend clean) plan (Began nodes) x)
-  pub is_refused : (clean : Bool) (now : Situation) (allowed : ℕ) (marked : Bool) (refusal : Refusal) (a : ℕ) (x : Actor) (plan : Plan) (s : World) → IsNoBegin refusal →
-      WantsNext now a x s (flush_or_suspend clean) plan (Desk (BeginCommit marked allowed)) →
-      WorldFollows Quietly a s now (after_step (flush_or_suspend clean) plan (Refused refusal) x)
+  -- a suspend begins its commit, or is refused it
+  pub begins : (now : Situation) (nodes allowed : ℕ) (a : ℕ) (x : Actor) (plan : Plan) (s : World) →
+      WantsNext now a x s Suspend plan (Desk (BeginCommit allowed)) → now.commits.committing ≡ false →
+      WorldFollowsBy (Begins true) Quietly a s (record now { commits = one_begun now.commits }) (after_step Suspend plan (Began nodes) x)
+  pub is_refused : (now : Situation) (allowed : ℕ) (refusal : Refusal) (a : ℕ) (x : Actor) (plan : Plan) (s : World) → IsNoBegin refusal →
+      WantsNext now a x s Suspend plan (Desk (BeginCommit allowed)) →
+      WorldFollows Quietly a s now (after_step Suspend plan (Refused refusal) x)
+  -- A flush leads a commit, or is refused that; it gets a ticket of the commit that comes after the one that runs, or is served. What it has of the
+  -- commits of others, once it has asked, is nothing to what comes then.
+  pub leads : (now : Situation) (nodes : ℕ) (step : DeskStep) (share : Share) (a : ℕ) (x : Actor) (plan : Plan) (s : World) → AsksToLead step →
+      WantsNext now a x s Flush plan (Desk step) → now.commits.committing ≡ false → now.commits.broken ≡ false → IsLeftOut now.commits (ticket_in (Desk step) x.share) →
+      WorldFollowsBy (Begins false) Quietly a s (record now { commits = one_begun now.commits }) (record (after_step Flush plan (Began nodes) x) { share = share })
+  pub is_not_led : (now : Situation) (refusal : Refusal) (step : DeskStep) (share : Share) (a : ℕ) (x : Actor) (plan : Plan) (s : World) → AsksToLead step → IsNoBegin refusal →
+      WantsNext now a x s Flush plan (Desk step) → IsLeftOut now.commits (ticket_in (Desk step) x.share) →
+      WorldFollows Quietly a s now (record (after_step Flush plan (Refused refusal) x) { share = share })
+  pub is_broken : (now : Situation) (step : DeskStep) (share : Share) (a : ℕ) (x : Actor) (plan : Plan) (s : World) → AsksToLead step →
+      WantsNext now a x s Flush plan (Desk step) → now.commits.broken ≡ true → IsLeftOut now.commits (ticket_in (Desk step) x.share) →
+      WorldFollows Quietly a s now (record (after_step Flush plan (Refused Failed) x) { share = share })
+  pub is_served : (now : Situation) (step : DeskStep) (share : Share) (a : ℕ) (x : Actor) (plan : Plan) (s : World) → AsksToLead step →
+      WantsNext now a x s Flush plan (Desk step) → IsTakenIn now.commits (ticket_in (Desk step) x.share) →
+      WorldFollows Quietly a s now (record (after_step Flush plan Served x) { share = share })
+  pub gets_ticket : (now : Situation) (allowed : ℕ) (a : ℕ) (x : Actor) (plan : Plan) (s : World) →
+      WantsNext now a x s Flush plan (Desk (Arrive allowed)) → now.commits.committing ≡ true → now.commits.broken ≡ false →
+      WorldFollows Quietly a s now (record (after_step Flush plan Ticket x) { share = Waiting (now.commits.ended + 2) })
   pub syncs : (clean : Bool) (now : Situation) (device : Dev) (a : ℕ) (x : Actor) (plan : Plan) (s : World) → HoldsBlocks device →
       WantsNext now a x s (flush_or_suspend clean) plan (Device (Sync device)) →
       WorldFollows Quietly a s (record now { devices = with_device device now.devices (synced (device_in device now.devices)) }) (after_step (flush_or_suspend clean) plan Done x)
@@ -188,7 +216,7 @@ pub record CommitStepsFollowed : Type 0 where
       (written : Bool) × IsWrittenAfter step s.shared.root_written written × WorldFollowsBy (Puts written) Quietly a s (record now { devices = with_device Metadata now.devices metadata }) (after_step (flush_or_suspend clean) plan Fault x)
   pub ends : (clean : Bool) (now : Situation) (a : ℕ) (x : Actor) (plan : Plan) (s : World) →
       WantsNext now a x s (flush_or_suspend clean) plan (Desk EndCommit) →
-      WorldFollowsBy Ends Quietly a s (record now { committing = false }) (after_step (flush_or_suspend clean) plan Done x)
+      WorldFollowsBy Ends Quietly a s (record now { commits = one_ended now.commits }) (after_step (flush_or_suspend clean) plan Done x)
   -- an order that waits for a flush is given up, where nobody suspends; or none is
   pub gives_up : (now : Situation) (block : OBlock) (a : ℕ) (x : Actor) (plan : Plan) (c : ℕ) (order : Order) (awaiting' : List Order) (s : World) → AreAmongOthers now.actors →
       WantsNext now a x s Flush plan (Desk (ReleaseOrder block)) → slice_get now.orders c ≡ Some (Some order) → IsOnlyOf now.actors a order →
@@ -199,6 +227,9 @@ pub record CommitStepsFollowed : Type 0 where
   pub fails : (clean : Bool) (now : Situation) (failures suspensions : ℕ) (a : ℕ) (x : Actor) (plan : Plan) (s : World) → now.words.fail ≡ fail_word failures suspensions →
       WantsNext now a x s (flush_or_suspend clean) plan (Cell SetFailed) →
       WorldFollows Quietly a s (record now { words = words_after now.words SetFailed }) (stepped_actor now.words (flush_or_suspend clean) plan SetFailed x)
+  pub breaks : (clean : Bool) (now : Situation) (a : ℕ) (x : Actor) (plan : Plan) (s : World) →
+      WantsNext now a x s (flush_or_suspend clean) plan (Desk BreakCommit) →
+      WorldFollows Quietly a s (record now { commits = record now.commits { broken = true } }) (after_step (flush_or_suspend clean) plan Done x)
   pub suspends : (now : Situation) (failures suspensions : ℕ) (a : ℕ) (x : Actor) (plan : Plan) (s : World) → now.words.fail ≡ fail_word failures suspensions →
       WantsNext now a x s Suspend plan (Cell SetSuspended) →
       WorldFollows Quietly a s (record now { words = words_after now.words SetSuspended }) (stepped_actor now.words Suspend plan SetSuspended x)
@@ -213,7 +244,7 @@ CanAgree = (size most blocks caches cache origin many : ℕ) → Agrees (record 
   size = size;
   most = most;
   words = fresh_words blocks;
-  committing = false;
+  commits = none_yet;
   orders = replicate caches None;
   devices = record { metadata = []; cache = replicate cache (only zeros); origin = replicate origin (only zeros) };
   actors = replicate many resting;

@@ -12,7 +12,7 @@ use Rattle.wb_link.specs.Openings.{Learnt, opened_on}
 use Rattle.wb_promise.specs.States.{Actor}
 use Rattle.wb_promise.specs.Effects.{sealing_steps, words_by}
 use Rattle.wb_promise.specs.Headline.{place_of}
-use Rattle.wb_simulation.specs.Worlds.{zeros, Agrees}
+use Rattle.wb_simulation.specs.Worlds.{zeros, Agrees, none_yet}
 
 -- where these entries have each block
 abbrev pub located : List (Option Entry) → ℕ → Option ℕ
@@ -43,7 +43,7 @@ OpenedFollowed = (mode : Mode) (size most origin_blocks cache_blocks : ℕ) (cle
       size = size;
       most = most;
       words = words_by (fresh_words origin_blocks) (sealing_steps clean 0 entries);
-      committing = false;
+      commits = none_yet;
       orders = replicate cache_blocks None;
       devices = devices;
       actors = actors;

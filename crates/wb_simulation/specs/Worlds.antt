@@ -1,5 +1,5 @@
 -- When a state of a run, where a target stands, is a state of the abstract world; and when what happens there is a run of that world.
-use Rattle.std.specs.Prelude.{cond, ◌≡◌, ◌≢◌, ◌⊎◌, ℕ, Bool, true, false, List, [], Option, Some, None, length, replicate, slice_get, slice_set}
+use Rattle.std.specs.Prelude.{cond, ◌≡◌, ◌≢◌, ◌≤◌, ◌<◌, ◌⊎◌, ℕ, Bool, true, false, List, [], Option, Some, None, length, replicate, slice_get, slice_set, ◌+◌}
 use Rattle.wb_types.specs.declared.mode.Mode.{Mode}
 use Rattle.wb_disk.specs.Device.{Content, History}
 use Rattle.wb_contents.specs.Devices.{by_block}
@@ -46,14 +46,54 @@ pub record OrdersAgree (size : ℕ) (words : Words) (orders : List (Option Order
   -- and what the run's actor migrates it migrates there
   pub carried : (a : ℕ) (x : Actor) (y : AbstractActor) (migration : Migration) (block : OBlock) (plan : Plan) → slice_get actors a ≡ Some x → slice_get s.actors a ≡ Some y → x.task ≡ Some (Migrate migration block, plan) → IsAtMigration size words orders migration block plan x y
 
--- Where a run stands, with a target: the target's mode; how many sectors blocks have, and how many nodes an image has at most; the target's words, whether
--- its desk has a commit that runs, and the orders that live there, by cache block; the devices, and the actors.
+-- Whether a desk has a commit that runs, whether one was broken, and how many have ended.
+pub record Commits : Type 0 where
+  pub committing : Bool
+  pub broken : Bool
+  pub ended : ℕ
+
+abbrev pub none_yet : Commits
+none_yet = record { committing = false; broken = false; ended = 0 }
+
+-- the number of the last that began
+abbrev pub last_begun : Commits → ℕ
+last_begun commits = commits.ended + cond commits.committing 1 0
+
+-- So it is in the abstract world.
+pub record CommitsAgree (commits : Commits) (s : Shared) : Type 0 where
+  pub runs : s.committing ≡ commits.committing
+  pub broken : s.broken ≡ commits.broken
+  pub ended : s.ended ≡ commits.ended
+  pub began : s.began ≡ last_begun commits
+
+-- one begins, or ends
+abbrev pub one_begun : Commits → Commits
+one_begun commits = record commits { committing = true }
+
+abbrev pub one_ended : Commits → Commits
+one_ended commits = record { committing = false; broken = commits.broken; ended = commits.ended + 1 }
+
+-- a commit of the ticket's number or a later one has ended, or none has
+abbrev pub IsTakenIn : Commits → Option ℕ → Type 0
+IsTakenIn commits None = ⊥
+IsTakenIn commits (Some number) = number ≤ commits.ended
+
+abbrev pub IsLeftOut : Commits → Option ℕ → Type 0
+IsLeftOut commits None = Unit {0}
+IsLeftOut commits (Some number) = commits.ended < number
+
+-- none begins, ends or is broken from the one to the other
+abbrev pub KeepsNumbers : (s t : Shared) → Type 0
+KeepsNumbers s t = (t.broken ≡ s.broken) × (t.began ≡ s.began) × (t.ended ≡ s.ended)
+
+-- Where a run stands, with a target: the target's mode; how many sectors blocks have, and how many nodes an image has at most; the target's words, the
+-- commits of its desk, and the orders that live there, by cache block; the devices, and the actors.
 pub record Situation : Type 0 where
   pub mode : Mode
   pub size : ℕ
   pub most : ℕ
   pub words : Words
-  pub committing : Bool
+  pub commits : Commits
   pub orders : List (Option Order)
   pub devices : Devices (List History)
   pub actors : List Actor
@@ -64,7 +104,7 @@ pub record Agrees (now : Situation) (s : World) : Type 0 where
   pub origin : s.shared.origin ≡ by_block now.size zeros now.devices.origin
   pub cache : s.shared.cache ≡ by_block now.size zeros now.devices.cache
   pub mode : s.shared.mode ≡ now.mode
-  pub commits : s.shared.committing ≡ now.committing
+  pub commits : CommitsAgree now.commits s.shared
   -- a commit that was broken runs for good
   pub broken : s.shared.broken ≡ true → s.shared.committing ≡ true
   -- One actor at most leads a commit, while one runs; until it is broken, it has still to end it.

@@ -1,3 +1,3 @@
 pub mod Releasing
 pub mod Readying
-pub mod Beginning
+pub mod Leading

@@ -6,7 +6,7 @@ use Rattle.wb_tasks.specs.Tables.{BlockJob, TaskJob, Reading, Writing, Displacin
 use Rattle.wb_tasks.specs.Ready.{IsOwnStep, Suits, left_by}
 use Rattle.wb_tasks.specs.Plan.{Plan, table, after}
 use Rattle.wb_tasks.specs.declared.step.DeviceStep.TheVariants.{Read, Write, Sync, ReadMetadata, WriteNode, WriteRoot}
-use Rattle.wb_tasks.specs.declared.step.DeskStep.TheVariants.{Map, Unmap, ReleaseOrder, BeginCommit, EndCommit}
+use Rattle.wb_tasks.specs.declared.step.DeskStep.TheVariants.{Map, Unmap, ReleaseOrder, Arrive, Ask, BeginCommit, EndCommit, BreakCommit}
 use Rattle.wb_tasks.specs.declared.step.Want.{Want}
 use Rattle.wb_tasks.specs.declared.step.Want.TheVariants.{Cell, Device, Desk, End}
 use Rattle.wb_tasks.specs.declared.step.Got.{Got}
@@ -31,13 +31,15 @@ on_block (Migrating migration part) (Device (ReadMetadata left)) o = o
 on_block job (Desk (Map block place)) o = tt
 on_block job (Desk (Unmap block)) o = tt
 on_block job (Desk (ReleaseOrder block)) o = tt
+on_block job (Desk (Arrive most)) o = tt
+on_block job (Desk (Ask most)) o = tt
 on_block job (Desk EndCommit) o = tt
-on_block job (Desk (BeginCommit false most)) o = tt
-on_block (Reading part) (Desk (BeginCommit true most)) o = o
-on_block (Writing part) (Desk (BeginCommit true most)) o = o
-on_block (Displacing part) (Desk (BeginCommit true most)) o = o
-on_block (Invalidating part) (Desk (BeginCommit true most)) o = o
-on_block (Migrating migration part) (Desk (BeginCommit true most)) o = o
+on_block job (Desk BreakCommit) o = tt
+on_block (Reading part) (Desk (BeginCommit most)) o = o
+on_block (Writing part) (Desk (BeginCommit most)) o = o
+on_block (Displacing part) (Desk (BeginCommit most)) o = o
+on_block (Invalidating part) (Desk (BeginCommit most)) o = o
+on_block (Migrating migration part) (Desk (BeginCommit most)) o = o
 
 in_flush : (serves : List _) (most : ℕ) (w : Want) → IsOwnStep (Flushing serves most) w → IsServed w
 in_flush serves most (Cell step) o = tt
@@ -51,9 +53,11 @@ in_flush serves most (Device (ReadMetadata left)) o = absurd o
 in_flush serves most (Desk (Map block place)) o = tt
 in_flush serves most (Desk (Unmap block)) o = tt
 in_flush serves most (Desk (ReleaseOrder block)) o = tt
+in_flush serves most (Desk (Arrive nodes)) o = tt
+in_flush serves most (Desk (Ask nodes)) o = tt
 in_flush serves most (Desk EndCommit) o = tt
-in_flush serves most (Desk (BeginCommit false nodes)) o = tt
-in_flush serves most (Desk (BeginCommit true nodes)) o = absurd cc
+in_flush serves most (Desk BreakCommit) o = tt
+in_flush serves most (Desk (BeginCommit nodes)) o = absurd o
 
 pub served : (blocks : ℕ) (job : TaskJob) (w : Want) → MayRun blocks job → IsOwnStep job w → IsServed w
 served blocks (OnBlock job) w r o = on_block job w o

@@ -2,3 +2,4 @@ pub mod Asking
 pub mod Stages
 pub mod Jobs
 pub mod Seen
+pub mod Sharing

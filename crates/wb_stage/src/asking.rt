@@ -1,34 +1,43 @@
 //! Steps on the desk, each by one call of it. What the desk cannot be asked now is not done.
 
-ghost use Rattle.std.specs.Prelude.{◌≡◌, ◌≤◌, length, IfOk, IfErr, OnOk, OnErr, is_some};
-ghost use Rattle.std.specs.Option.{IfSome, option_map};
-ghost use Rattle.wb_tasks.specs.Plan.{Fits, MayBeRefused};
+ghost use Rattle.std.specs.Prelude.{◌≡◌, ◌<◌, ◌^◌, length, IfOk, OnOk, OnErr, Some};
+ghost use Rattle.std.specs.Bool.{OnTrue, OnFalse};
+ghost use Rattle.wb_tasks.specs.Plan.{Fits};
 ghost use Rattle.wb_tasks.specs.declared.step.Want.TheVariants.{Desk as AskDesk};
-ghost use Rattle.wb_tasks.specs.declared.step.DeskStep.TheVariants.{Map, BeginCommit};
+ghost use Rattle.wb_tasks.specs.declared.step.DeskStep.TheVariants.{Map, Arrive, Ask, BeginCommit};
+ghost use Rattle.wb_tasks.specs.declared.step.Got.TheVariants.{Began};
+ghost use Rattle.wb_meta.specs.Placing.{HavePlaces};
 ghost use Rattle.wb_meta.specs.declared.commit_steps.CommitSteps.TheVariants.{NodesWritten};
-ghost use Rattle.wb_desk.specs.Commits.{HasBegun};
-ghost use Rattle.wb_stage.specs.Asking.{DidMap, DidUnmap, DidRelease, IsUnbegun, is_of, order_of, ended};
-ghost use Rattle.wb_stage.specs.Stages.{DidAsk, DidBeginWith, EndsWith, IsServed, is_all_done};
+ghost use Rattle.wb_devices.specs.declared.running.RunningCommit.{RunningCommit as RunningCommitTerm};
+ghost use Rattle.wb_stage.specs.Asking.{DidMap, DidUnmap, DidRelease, is_of, order_of, ended};
+ghost use Rattle.wb_stage.specs.Sharing.{IsCovered, MustWait, MayGoOn, share_then};
+ghost use Rattle.wb_stage.specs.Stages.{DidAsk, DidArrive, DidAskWith, DidBeginWith, EndsWith, IsServed, is_all_done};
 
+use crate::share::Share;
 use std::alloc::Global;
-use wb_desk::Desk;
+use std::mem;
+use wb_desk::{Arrival, Asked, Desk};
 use wb_devices::RunningCommit;
+use wb_meta::Image;
 use wb_policy::{Order, Policy};
 use wb_tasks::{DeskStep, Got};
 use wb_types::{CBlock, OBlock, Refusal};
 
-/// Performs a step on the desk, for who runs this commit, if any, and has taken these orders.
-#[tactic(auto, using(crate::proofs::Beginning::begun_plainly))]
+/// Performs a step on the desk, for who runs this commit, if any, has this of the commits that others lead, and has taken these
+/// orders. Who asks with a ticket has not to wait: see `must_wait`.
 pub fn ask<P: Policy>(
     alloc: Global,
     desk: &mut Desk<P>,
     commit: &mut Option<RunningCommit>,
+    share: &mut Share,
     held: &[Order],
     step: DeskStep,
 ) -> Got
-    requires { IsServed (AskDesk step) }
+    requires served { IsServed (AskDesk step) }
+    requires goes_on { MayGoOn desk.old share.old step }
     ensures kind { Fits (AskDesk step) result }
-    ensures did { DidAsk P.with_entry P.without_entry held.now step result desk.old commit.old desk.new commit.new }
+    ensures did { DidAsk P.with_entry P.without_entry held.now step share.old result desk.old commit.old desk.new commit.new }
+    ensures share { share.new ≡ share_then desk.old share.old step result }
 {
     match step {
         DeskStep::Map(block, to) => map(desk, block, to),
@@ -40,33 +49,130 @@ pub fn ask<P: Policy>(
             release(desk, held, block);
             Got::Done
         }
-        DeskStep::BeginCommit(_, most) => begin_commit(alloc, desk, commit, None, most),
+        DeskStep::Arrive(most) => arrive(alloc, desk, commit, share, most),
+        DeskStep::Ask(most) => ask_again(alloc, desk, commit, share, most),
+        // It is asked for with the dirty bits that were seen: see `begin_commit`.
+        DeskStep::BeginCommit(_) => unreachable!(),
         DeskStep::EndCommit => {
             end_commit(desk, commit);
+            Got::Done
+        }
+        DeskStep::BreakCommit => {
+            desk.break_commit();
             Got::Done
         }
     }
 }
 
-/// Begins a commit of at most so many nodes, for who runs this commit, if any: that of a suspend, whose root is marked clean, where
-/// the dirty bits are given that the seals told, by cache block; else that of a flush.
+/// Whether who asks with this has to wait: no commit is broken, one runs, and none has ended that covers it.
+pub fn must_wait<P: Policy>(desk: &Desk<P>, share: &Share) -> bool
+    ensures waits { OnTrue result (MustWait desk.now share.now) }
+    ensures goes_on { OnFalse result (¬ MustWait desk.now share.now) }
+{
+    desk.is_committing() && !desk.is_broken() && !is_covered(desk, share)
+}
+
+/// Whether a commit has ended that covers who waits with this.
+fn is_covered<P: Policy>(desk: &Desk<P>, share: &Share) -> bool
+    ensures covered { OnTrue result (IsCovered desk.now share.now) }
+    ensures other { OnFalse result (¬ IsCovered desk.now share.now) }
+{
+    match share {
+        Share::Waiting(ticket) => desk.covers(ticket),
+        Share::Nothing | Share::Covered(_) => false,
+    }
+}
+
+/// A flush leads a commit of at most so many nodes where none runs, and gets a ticket where one does. `Failed`, `GenerationEnd` and
+/// `Memory` as the desk says; `Memory` also where an image may have more nodes. Then nothing changed.
+fn arrive<P: Policy>(
+    alloc: Global,
+    desk: &mut Desk<P>,
+    commit: &mut Option<RunningCommit>,
+    share: &mut Share,
+    most: u32,
+) -> Got
+    ensures kind { Fits (AskDesk (Arrive most)) result }
+    ensures did { DidArrive most result desk.old commit.old desk.new commit.new }
+    ensures share { share.new ≡ share_then desk.old share.old (Arrive most) result }
+{
+    *share = Share::Nothing;
+    if desk.most_nodes() > most {
+        return Got::Refused(Refusal::Memory);
+    }
+    match desk.arrive(alloc) {
+        Ok(Arrival::Lead(image)) => lead(commit, image),
+        Ok(Arrival::Ticket(ticket)) => {
+            *share = Share::Waiting(ticket);
+            Got::Ticket
+        }
+        Err(refusal) => Got::Refused(refusal),
+    }
+}
+
+/// A flush that has not to wait asks with what it has: it gets a receipt where a commit has ended that covers it, else it leads one of at
+/// most so many nodes. Refused as `arrive`.
+fn ask_again<P: Policy>(
+    alloc: Global,
+    desk: &mut Desk<P>,
+    commit: &mut Option<RunningCommit>,
+    share: &mut Share,
+    most: u32,
+) -> Got
+    requires goes_on { ¬ MustWait desk.old share.old }
+    ensures kind { Fits (AskDesk (Ask most)) result }
+    ensures did { DidAskWith share.old most result desk.old commit.old desk.new commit.new }
+    ensures share { share.new ≡ share_then desk.old share.old (Ask most) result }
+{
+    let Share::Waiting(ticket) = mem::replace(share, Share::Nothing) else {
+        return arrive(alloc, desk, commit, share, most);
+    };
+    if desk.most_nodes() > most {
+        return Got::Refused(Refusal::Memory);
+    }
+    match desk.ask(alloc, &ticket) {
+        Ok(Asked::Served(receipt)) => {
+            *share = Share::Covered(receipt);
+            Got::Served
+        }
+        Ok(Asked::Lead(image)) => lead(commit, image),
+        Ok(Asked::Wait) => unreachable!(),
+        Err(refusal) => Got::Refused(refusal),
+    }
+}
+
+/// The commit of an image that the desk gave, before its first step.
+fn lead(commit: &mut Option<RunningCommit>, image: Image) -> Got
+    requires places { HavePlaces image.nodes.items image.root.geometry.meta_sectors }
+    requires few { length image.nodes.items < 2 ^ 32 }
+    ensures got { result ≡ Began (length image.nodes.items) }
+    ensures commit { (begun : RunningCommitTerm) × (commit.new ≡ Some begun) × (begun.steps ≡ NodesWritten 0) × (begun.image ≡ image) }
+{
+    let begun = RunningCommit::new(image);
+    let nodes = begun.nodes() as u32;
+    *commit = Some(begun);
+    Got::Began(nodes)
+}
+
+/// Begins the commit of a suspend, of at most so many nodes: its root is marked clean, and its entries have the dirty bits that the seals
+/// told, by cache block, and the policy's hints. `Busy`, `GenerationEnd` and `Memory` as the desk says; `Memory` also where an image
+/// may have more nodes. Then nothing changed.
 pub fn begin_commit<P: Policy>(
     alloc: Global,
     desk: &mut Desk<P>,
     commit: &mut Option<RunningCommit>,
-    seen: Option<&[bool]>,
+    seen: &[bool],
     most: u32,
 ) -> Got
-    requires { IfSome seen (λ bits. length bits.now ≡ desk.old.geometry.cache_blocks) }
-    ensures kind { Fits (AskDesk (BeginCommit (is_some seen.entry) most)) result }
-    ensures did { DidBeginWith P.hint_of (option_map (λ bits. bits.now) seen.entry) most result desk.old commit.old desk.new commit.new }
+    requires { length seen.now ≡ desk.old.geometry.cache_blocks }
+    ensures kind { Fits (AskDesk (BeginCommit most)) result }
+    ensures did { DidBeginWith P.hint_of seen.now most result desk.old commit.old desk.new commit.new }
 {
-    match begin(alloc, desk, seen, most) {
-        Ok(begun) => {
-            let nodes = begun.nodes() as u32;
-            *commit = Some(begun);
-            Got::Began(nodes)
-        }
+    if desk.most_nodes() > most {
+        return Got::Refused(Refusal::Memory);
+    }
+    match desk.begin_commit(alloc, Some(seen)) {
+        Ok(image) => lead(commit, image),
         Err(refusal) => Got::Refused(refusal),
     }
 }
@@ -104,29 +210,6 @@ pub fn release<P: Policy>(desk: &mut Desk<P>, held: &[Order], block: OBlock)
             desk.release(order);
         }
     }
-}
-
-/// Takes the image of a commit, of at most so many nodes; where dirty bits are given, by cache block, a clean one: its root is marked
-/// clean, and its entries have those bits and the policy's hints. `Busy`, `GenerationEnd` and `Memory` as the desk says; `Memory`
-/// also where an image may have more nodes. Then nothing changed.
-fn begin<P: Policy>(
-    alloc: Global,
-    desk: &mut Desk<P>,
-    seen: Option<&[bool]>,
-    most: u32,
-) -> Result<RunningCommit, Refusal>
-    requires { IfSome seen (λ bits. length bits.now ≡ desk.old.geometry.cache_blocks) }
-    ensures begun { IfOk result (λ commit. HasBegun P.hint_of (option_map (λ bits. bits.now) seen.entry) desk.old commit.image desk.new) }
-    ensures steps { IfOk result (λ commit. commit.steps ≡ NodesWritten 0) }
-    ensures few { IfOk result (λ commit. length commit.image.nodes.items ≤ most) }
-    ensures refused { IfErr result (λ refusal. IsUnbegun desk.old most refusal desk.new) }
-    ensures kind { IfErr result (MayBeRefused (AskDesk (BeginCommit (is_some seen.entry) most))) }
-{
-    if desk.most_nodes() > most {
-        return Err(Refusal::Memory);
-    }
-    let image = desk.begin_commit(alloc, seen)?;
-    Ok(RunningCommit::new(image))
 }
 
 /// Ends the running commit, if one runs.

@@ -4,3 +4,6 @@
 
 pub mod asking;
 pub mod seen;
+mod share;
+
+pub use share::Share;

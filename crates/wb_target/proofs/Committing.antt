@@ -12,12 +12,12 @@ use Rattle.wb_tasks.specs.Run.{Leads}
 use Rattle.wb_tasks.specs.Ready.{AreFirst, IsFlushs, IsOwnStep, left_by}
 use Rattle.wb_tasks.specs.declared.step.DeviceStep.{DeviceStep}
 use Rattle.wb_tasks.specs.declared.step.DeviceStep.TheVariants.{Read, Write, Sync, ReadMetadata, WriteNode, WriteRoot}
-use Rattle.wb_tasks.specs.declared.step.DeskStep.TheVariants.{Map, Unmap, ReleaseOrder, BeginCommit, EndCommit}
+use Rattle.wb_tasks.specs.declared.step.DeskStep.TheVariants.{Map, Unmap, ReleaseOrder, Arrive, Ask, BeginCommit, EndCommit, BreakCommit}
 use Rattle.wb_tasks.specs.declared.step.Answer.{Answer}
 use Rattle.wb_tasks.specs.declared.step.Want.{Want}
 use Rattle.wb_tasks.specs.declared.step.Want.TheVariants.{Cell, Device, Desk, End}
 use Rattle.wb_tasks.specs.declared.step.Got.{Got}
-use Rattle.wb_tasks.specs.declared.step.Got.TheVariants.{Done, Word, Fault, Refused, Began}
+use Rattle.wb_tasks.specs.declared.step.Got.TheVariants.{Done, Word, Fault, Refused, Began, Ticket, Served}
 use Rattle.wb_tasks.proofs.Driving.{no_result}
 use Rattle.wb_tasks.proofs.Readiness.{job_stays}
 use Rattle.wb_devices.specs.Stepping.{Goes}
@@ -36,7 +36,10 @@ CommitsFrom C O R (Device (Sync Origin) ∷ ws) = CommitsFrom C (Unit {0}) R ws
 CommitsFrom C O R (Device (WriteNode number) ∷ ws) = (C × O × R) × CommitsFrom C O R ws
 CommitsFrom C O R (Device WriteRoot ∷ ws) = (C × O × R) × CommitsFrom C O R ws
 CommitsFrom C O R (Desk EndCommit ∷ ws) = CommitsFrom C O ⊥ ws
-CommitsFrom C O R (Desk (BeginCommit clean most) ∷ ws) = Unit {0}
+CommitsFrom C O R (Desk BreakCommit ∷ ws) = CommitsFrom C O R ws
+CommitsFrom C O R (Desk (Arrive most) ∷ ws) = Unit {0}
+CommitsFrom C O R (Desk (Ask most) ∷ ws) = Unit {0}
+CommitsFrom C O R (Desk (BeginCommit most) ∷ ws) = Unit {0}
 CommitsFrom C O R (next ∷ ws) = CommitsFrom C O R ws
 
 -- who knows more knows that
@@ -51,7 +54,10 @@ weaken C O R C' O' R' c o r (Device (Read device e) ∷ ws) k = weaken C O R C' 
 weaken C O R C' O' R' c o r (Device (Write device e) ∷ ws) k = weaken C O R C' O' R' c o r ws k
 weaken C O R C' O' R' c o r (Device (ReadMetadata left) ∷ ws) k = weaken C O R C' O' R' c o r ws k
 weaken C O R C' O' R' c o r (Desk EndCommit ∷ ws) k = weaken C O ⊥ C' O' ⊥ c o (λ u. u) ws k
-weaken C O R C' O' R' c o r (Desk (BeginCommit clean most) ∷ ws) k = tt
+weaken C O R C' O' R' c o r (Desk BreakCommit ∷ ws) k = weaken C O R C' O' R' c o r ws k
+weaken C O R C' O' R' c o r (Desk (Arrive most) ∷ ws) k = tt
+weaken C O R C' O' R' c o r (Desk (Ask most) ∷ ws) k = tt
+weaken C O R C' O' R' c o r (Desk (BeginCommit most) ∷ ws) k = tt
 weaken C O R C' O' R' c o r (Desk (Map b place) ∷ ws) k = weaken C O R C' O' R' c o r ws k
 weaken C O R C' O' R' c o r (Desk (Unmap b) ∷ ws) k = weaken C O R C' O' R' c o r ws k
 weaken C O R C' O' R' c o r (Desk (ReleaseOrder b) ∷ ws) k = weaken C O R C' O' R' c o r ws k
@@ -114,10 +120,18 @@ module _ {D S : Type 0} (tells : Type 0) (size : D → ℕ) (contents : D → Li
   commits_on serves most s t answer (Device (Sync device) ∷ ws) Fault o k f d = tt
   commits_on serves most s t answer (Device (WriteNode number) ∷ ws) Fault o k f d = tt
   commits_on serves most s t answer (Device WriteRoot ∷ ws) Fault o k f d = tt
-  commits_on serves most s t answer (Desk (BeginCommit clean nodes) ∷ ws) (Began n) o k f d = nodes_from (Unit {0}) (Unit {0}) (R t) tt tt (d.2.0, d.2.1) n 0
-  commits_on serves most s t answer (Desk (BeginCommit clean nodes) ∷ ws) (Refused Busy) o k f d = tt
-  commits_on serves most s t answer (Desk (BeginCommit clean nodes) ∷ ws) (Refused Memory) o k f d = orders_from (C t) (O t) (R t) serves
-  commits_on serves most s t answer (Desk (BeginCommit clean nodes) ∷ ws) (Refused GenerationEnd) o k f d = orders_from (C t) (O t) (R t) serves
+  commits_on serves most s t answer (Desk (Arrive nodes) ∷ ws) (Began n) o k f d = nodes_from (Unit {0}) (Unit {0}) (R t) tt tt (d.2.0, d.2.1) n 0
+  commits_on serves most s t answer (Desk (Arrive nodes) ∷ ws) (Refused Failed) o k f d = tt
+  commits_on serves most s t answer (Desk (Arrive nodes) ∷ ws) (Refused Memory) o k f d = orders_from (C t) (O t) (R t) serves
+  commits_on serves most s t answer (Desk (Arrive nodes) ∷ ws) (Refused GenerationEnd) o k f d = orders_from (C t) (O t) (R t) serves
+  commits_on serves most s t answer (Desk (Ask nodes) ∷ ws) (Began n) o k f d = nodes_from (Unit {0}) (Unit {0}) (R t) tt tt (d.2.0, d.2.1) n 0
+  commits_on serves most s t answer (Desk (Ask nodes) ∷ ws) (Refused Failed) o k f d = tt
+  commits_on serves most s t answer (Desk (Ask nodes) ∷ ws) (Refused Memory) o k f d = orders_from (C t) (O t) (R t) serves
+  commits_on serves most s t answer (Desk (Ask nodes) ∷ ws) (Refused GenerationEnd) o k f d = orders_from (C t) (O t) (R t) serves
+  commits_on serves most s t answer (Desk (Arrive nodes) ∷ ws) Ticket o k f d = tt
+  commits_on serves most s t answer (Desk (Ask nodes) ∷ ws) Served o k f d = tt
+  commits_on serves most s t answer (Desk (BeginCommit nodes) ∷ ws) got o k f d = absurd o
+  commits_on serves most s t answer (Desk BreakCommit ∷ ws) Done o k f d = same_devices s t ws d.0 (subst IsRunning (sym d.2)) k
   commits_on serves most s t answer (Desk EndCommit ∷ ws) Done o k f d =
       weaken (C s) (O s) ⊥ (C t) (O t) (R t) (subst (λ (ds : Devices D). tells → IsSynced (contents ds.cache)) (sym d.0)) (subst (λ (ds : Devices D). tells → IsSynced (contents ds.origin)) (sym d.0)) (λ n. absurd n) ws k
   commits_on serves most s t answer (Desk (ReleaseOrder b) ∷ ws) Done o k f d = same_devices s t ws d.0 (subst IsRunning (sym d.2)) k

@@ -13,7 +13,7 @@ use Rattle.wb_tasks.specs.Ready.{AreFirst, IsOwnStep, MayMake, MayTake, left_by}
 use Rattle.wb_tasks.specs.Run.{IsRunOf, Leads}
 use Rattle.wb_tasks.specs.declared.step.Answer.{Answer}
 use Rattle.wb_tasks.specs.declared.step.DeviceStep.TheVariants.{Read, Write, Sync, ReadMetadata, WriteNode, WriteRoot}
-use Rattle.wb_tasks.specs.declared.step.DeskStep.TheVariants.{Map, Unmap, ReleaseOrder, BeginCommit, EndCommit}
+use Rattle.wb_tasks.specs.declared.step.DeskStep.TheVariants.{Map, Unmap, ReleaseOrder, Arrive, Ask, BeginCommit, EndCommit, BreakCommit}
 use Rattle.wb_tasks.specs.declared.step.Want.{Want}
 use Rattle.wb_tasks.specs.declared.step.Want.TheVariants.{Cell, Device, Desk, End}
 use Rattle.wb_tasks.specs.declared.step.Got.{Got}
@@ -50,8 +50,11 @@ module _ {R D P : Type 0} (tells : Type 0) (size : D → ℕ) (contents : D → 
   keeps part stays x (Desk (Unmap b)) g y h = ap part h.0
   keeps part stays x (Desk (Map b c)) g y h = absurd h
   keeps part stays x (Desk (ReleaseOrder b)) g y h = absurd h
-  keeps part stays x (Desk (BeginCommit clean most)) g y h = absurd h
+  keeps part stays x (Desk (Arrive most)) g y h = absurd h
+  keeps part stays x (Desk (Ask most)) g y h = absurd h
+  keeps part stays x (Desk (BeginCommit most)) g y h = absurd h
   keeps part stays x (Desk EndCommit) g y h = absurd h
+  keeps part stays x (Desk BreakCommit) g y h = absurd h
   keeps part stays x (Cell step) g y h = stays x.write (Cell step) g y.write h
   keeps part stays x (Device step) g y h = stays x.write (Device step) g y.write h
   keeps part stays x (End a) g y h = stays x.write (End a) g y.write h
@@ -60,8 +63,11 @@ module _ {R D P : Type 0} (tells : Type 0) (size : D → ℕ) (contents : D → 
   makes x (Desk (Unmap b)) g y h = ap (λ (s : WriteStage D). s.hand.now.pass.card) h.0
   makes x (Desk (Map b c)) g y h = absurd h
   makes x (Desk (ReleaseOrder b)) g y h = absurd h
-  makes x (Desk (BeginCommit clean most)) g y h = absurd h
+  makes x (Desk (Arrive most)) g y h = absurd h
+  makes x (Desk (Ask most)) g y h = absurd h
+  makes x (Desk (BeginCommit most)) g y h = absurd h
   makes x (Desk EndCommit) g y h = absurd h
+  makes x (Desk BreakCommit) g y h = absurd h
   makes x (Cell step) g y h = made_by_pass x.write.cells.now.blocks x.write.hand.now.pass y.write.hand.now.pass (Cell step) g h.by_pass
   makes x (Device step) g y h = made_by_pass x.write.cells.now.blocks x.write.hand.now.pass y.write.hand.now.pass (Device step) g h.by_pass
   makes x (End a) g y h = made_by_pass x.write.cells.now.blocks x.write.hand.now.pass y.write.hand.now.pass (End a) g h.by_pass
@@ -113,8 +119,11 @@ module _ {R D P : Type 0} (tells : Type 0) (size : D → ℕ) (contents : D → 
         by_want (Desk (Unmap b)) o may moves = tt
         by_want (Desk (Map b c)) o may moves = absurd o
         by_want (Desk (ReleaseOrder b)) o may moves = absurd o
-        by_want (Desk (BeginCommit clean most)) o may moves = absurd o
+        by_want (Desk (Arrive most)) o may moves = absurd o
+        by_want (Desk (Ask most)) o may moves = absurd o
+        by_want (Desk (BeginCommit most)) o may moves = absurd o
         by_want (Desk EndCommit) o may moves = absurd o
+        by_want (Desk BreakCommit) o may moves = absurd o
         by_want (End a) o may moves = ((words, may), tt, moves)
 
     pub idle_then : (answer : Answer) → block.0 < old.write.cells.now.blocks → old.write.hand.now.pass.card.hold ≡ Nothing → IsRunOf plan steps answer → new.write.hand.now.pass.card.hold ≡ Nothing
@@ -137,8 +146,11 @@ module _ {R D P : Type 0} (tells : Type 0) (size : D → ℕ) (contents : D → 
       one (Desk (Unmap b)) g h = (ap (λ (s : WriteStage D). record { hand = s.hand.now; moved = s.moved }) h.0, h.1)
       one (Desk (Map b c)) g h = absurd h
       one (Desk (ReleaseOrder b)) g h = absurd h
-      one (Desk (BeginCommit clean most)) g h = absurd h
+      one (Desk (Arrive most)) g h = absurd h
+      one (Desk (Ask most)) g h = absurd h
+      one (Desk (BeginCommit most)) g h = absurd h
       one (Desk EndCommit) g h = absurd h
+      one (Desk BreakCommit) g h = absurd h
       one (Cell step) g h = (h.by_pass, h.from)
       one (Device step) g h = (h.by_pass, h.from)
       one (End a) g h = (h.by_pass, h.from)

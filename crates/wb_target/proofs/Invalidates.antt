@@ -21,7 +21,7 @@ use Rattle.wb_tasks.specs.Run.{IsRunOf, Leads}
 use Rattle.wb_tasks.specs.declared.step.Answer.{Answer}
 use Rattle.wb_tasks.specs.declared.step.Answer.TheVariants.{Refused as Refuses}
 use Rattle.wb_tasks.specs.declared.step.DeviceStep.TheVariants.{Read, Write, Sync, ReadMetadata, WriteNode, WriteRoot}
-use Rattle.wb_tasks.specs.declared.step.DeskStep.TheVariants.{Map, Unmap, ReleaseOrder, BeginCommit, EndCommit}
+use Rattle.wb_tasks.specs.declared.step.DeskStep.TheVariants.{Map, Unmap, ReleaseOrder, Arrive, Ask, BeginCommit, EndCommit, BreakCommit}
 use Rattle.wb_tasks.specs.declared.step.Want.{Want}
 use Rattle.wb_tasks.specs.declared.step.Want.TheVariants.{Cell, Device, Desk, End}
 use Rattle.wb_tasks.specs.declared.step.Got.{Got}
@@ -44,8 +44,11 @@ module _ {D : Type 0} (asked : DeskTold) (blocks : ℕ) where
   by_steps T asks steps s (Desk (Unmap b)) g t h = subst (λ (x : Hand D). T s (Desk (Unmap b)) g x) (sym h.0) (asks s b g)
   by_steps T asks steps s (Desk (Map b c)) g t h = absurd h
   by_steps T asks steps s (Desk (ReleaseOrder b)) g t h = absurd h
-  by_steps T asks steps s (Desk (BeginCommit clean most)) g t h = absurd h
+  by_steps T asks steps s (Desk (Arrive most)) g t h = absurd h
+  by_steps T asks steps s (Desk (Ask most)) g t h = absurd h
+  by_steps T asks steps s (Desk (BeginCommit most)) g t h = absurd h
   by_steps T asks steps s (Desk EndCommit) g t h = absurd h
+  by_steps T asks steps s (Desk BreakCommit) g t h = absurd h
   by_steps T asks steps s (Cell step) g t h = steps s step g t h.0 h.1
   by_steps T asks steps s (Device step) g t h = absurd h
   by_steps T asks steps s (End a) g t h = absurd h
@@ -114,8 +117,11 @@ module _ {R D P : Type 0} (asked : DeskTold) where
         by_want (Desk (Unmap b)) o may = tt
         by_want (Desk (Map b c)) o may = absurd o
         by_want (Desk (ReleaseOrder b)) o may = absurd o
-        by_want (Desk (BeginCommit clean most)) o may = absurd o
+        by_want (Desk (Arrive most)) o may = absurd o
+        by_want (Desk (Ask most)) o may = absurd o
+        by_want (Desk (BeginCommit most)) o may = absurd o
         by_want (Desk EndCommit) o may = absurd o
+        by_want (Desk BreakCommit) o may = absurd o
         by_want (End a) o may = tt
 
     pub idle_then : (answer : Answer) → block.0 < old.cells.now.blocks → old.hand.now.pass.card.hold ≡ Nothing → IsRunOf plan steps answer → new.hand.now.pass.card.hold ≡ Nothing
@@ -152,8 +158,11 @@ fails_alone asked blocks part Defer s (Cell (Look (SealWord block))) (Word word)
 fails_alone asked blocks part Memory s (Desk (Unmap block)) (Refused given) t n c f h = absurd f
 fails_alone asked blocks part Memory s (Desk (Map block place)) (Refused given) t n c f h = absurd h
 fails_alone asked blocks part Memory s (Desk (ReleaseOrder block)) (Refused given) t n c f h = absurd h
-fails_alone asked blocks part Memory s (Desk (BeginCommit clean most)) (Refused given) t n c f h = absurd h
+fails_alone asked blocks part Memory s (Desk (Arrive most)) (Refused given) t n c f h = absurd h
+fails_alone asked blocks part Memory s (Desk (Ask most)) (Refused given) t n c f h = absurd h
+fails_alone asked blocks part Memory s (Desk (BeginCommit most)) (Refused given) t n c f h = absurd h
 fails_alone asked blocks part Memory s (Desk EndCommit) (Refused given) t n c f h = absurd h
+fails_alone asked blocks part Memory s (Desk BreakCommit) (Refused given) t n c f h = absurd h
 fails_alone asked blocks part Memory s (Device step) g t n c f h = absurd h
 fails_alone asked blocks part Worn s (Cell (Look (Number block))) (Word word) t n c f h = absurd cc
 fails_alone asked blocks part NotFormatted s (Device step) g t n c f h = absurd h
@@ -164,8 +173,11 @@ fails_alone asked blocks part GenerationEnd s (Device step) g t n c f h = absurd
 fails_alone asked blocks part GenerationEnd s (Desk (Unmap block)) (Refused given) t n c f h = absurd f
 fails_alone asked blocks part GenerationEnd s (Desk (Map block place)) (Refused given) t n c f h = absurd h
 fails_alone asked blocks part GenerationEnd s (Desk (ReleaseOrder block)) (Refused given) t n c f h = absurd h
-fails_alone asked blocks part GenerationEnd s (Desk (BeginCommit clean most)) (Refused given) t n c f h = absurd h
+fails_alone asked blocks part GenerationEnd s (Desk (Arrive most)) (Refused given) t n c f h = absurd h
+fails_alone asked blocks part GenerationEnd s (Desk (Ask most)) (Refused given) t n c f h = absurd h
+fails_alone asked blocks part GenerationEnd s (Desk (BeginCommit most)) (Refused given) t n c f h = absurd h
 fails_alone asked blocks part GenerationEnd s (Desk EndCommit) (Refused given) t n c f h = absurd h
+fails_alone asked blocks part GenerationEnd s (Desk BreakCommit) (Refused given) t n c f h = absurd h
 fails_alone asked blocks part r s w g t n c f h = absurd c
 
 -- nor do its steps

@@ -89,7 +89,7 @@ desk_sent : (P : RattleType) (g : Ghosts P.Denot) → IsSend P → IsSend (Desk.
 desk_sent P g s = search (sendable, desk_fields_sent P g s) depth 20
 
 office_sent : (P : RattleType) (g : Ghosts P.Denot) → IsSend P → IsSend (Office.the_row P g)
-office_sent P g s = declared_send (Office.the_type P g) (desk_sent P g s, (Vec-send _ seat.the_send, (seat.the_send, (search (sendable, as_row_send), tt))))
+office_sent P g s = declared_send (Office.the_type P g) (desk_sent P g s, (Vec-send _ seat.the_send, (seat.the_send, tt)))
 
 -- what clients on threads share
 pub target_shared : (P : RattleType) (g : Ghosts P.Denot) → IsSend P → IsSync (Target.the_row P g)

@@ -1,5 +1,5 @@
 -- A stage of a suspend is ready for each of its steps, and from its run to what is told of it.
-use Rattle.std.proofs.Common.{◌≡◌, ◌∙◌, ◌<◌, ℕ, zero, suc, Bool, true, false, List, [], ◌∷◌, Option, Some, None, length, nat_lt, if◌then◌else◌, refl, sym, ap, subst}
+use Rattle.std.proofs.Common.{◌⊎◌, inl, inr, ◌≡◌, ◌∙◌, ◌<◌, ℕ, zero, suc, Bool, true, false, List, [], ◌∷◌, Option, Some, None, length, nat_lt, if◌then◌else◌, refl, sym, ap, subst}
 use Rattle.std.proofs.lemmas.List.Elements.{All-nil, All-cons, All-append}
 use Rattle.std.proofs.lemmas.Bool.{ltb-true}
 use Rattle.std.specs.Prelude.{All, replicate, slice_set}
@@ -24,7 +24,9 @@ use Rattle.wb_tasks.proofs.Readiness.{suspend_begins, is_ready, is_own_step}
 use Rattle.wb_devices.specs.declared.running.RunningCommit.{RunningCommit}
 use Rattle.wb_desk.specs.Desks.{DeskState}
 use Rattle.wb_tasks.specs.declared.step.DeskStep.{DeskStep}
-use Rattle.wb_tasks.specs.declared.step.DeskStep.TheVariants.{BeginCommit, EndCommit}
+use Rattle.wb_tasks.specs.declared.step.DeskStep.TheVariants.{BeginCommit, EndCommit, BreakCommit}
+use Rattle.wb_stage.specs.declared.share.Share.TheVariants.{Nothing as Unshared}
+use Rattle.wb_target.proofs.Asking.{commit_asked}
 use Rattle.wb_stage.specs.Stages.{DidAsk, DidBeginWith, EndsWith, is_all_done}
 use Rattle.wb_target.specs.Works.{DidAskDesk, EndsIf}
 use Rattle.wb_stage.specs.Seen.{seen_at, seen_after}
@@ -84,25 +86,23 @@ below count tree c block m = subst (Below count) m.2 (all_below count tree c m.0
 
 module _ {P : Type 0} (hint_of : P → ℕ → ℕ) (with_entry : P → ℕ → ℕ → P) (without_entry : P → ℕ → P) where
   -- a clean commit begins, or is refused
-  pub begun_works : (all : List OBlock) (fewest : ℕ) (seen : List Bool) (step : DeskStep) (clean : Bool) (most : ℕ) (got : Got) (old new : DeskState P) (commit commit' : Option RunningCommit) → step ≡ BeginCommit clean most → IsSuspends all fewest (Desk step)
-      → DidBeginWith hint_of (Some seen) most got old commit new commit' → DidAskDesk step got commit commit' × AskedWith hint_of with_entry without_entry seen step got commit commit'
-  begun_works all fewest seen step true most got old new commit commit' is own did = rw is (asked got did, (old, (new, did)))
+  pub begun_works : (seen : List Bool) (step : DeskStep) (most : ℕ) (got : Got) (old new : DeskState P) (commit commit' : Option RunningCommit) → step ≡ BeginCommit most
+      → DidBeginWith hint_of seen most got old commit new commit' → DidAskDesk step got commit commit' × AskedWith hint_of with_entry without_entry seen step got commit commit'
+  begun_works seen step most got old new commit commit' is did = rw is (asked got did, (old, (new, did)))
     where
-      asked : (got : Got) → DidBeginWith hint_of (Some seen) most got old commit new commit' → DidAskDesk (BeginCommit true most) got commit commit'
+      asked : (got : Got) → DidBeginWith hint_of seen most got old commit new commit' → DidAskDesk (BeginCommit most) got commit commit'
       asked (Began nodes) d = (d.0, d.1, d.2, d.3)
       asked (Refused refusal) d = d.0
       asked got d = absurd d
-  begun_works all fewest seen step false most got old new commit commit' is own did = absurd (let wrong = subst (λ (x : DeskStep). IsSuspends all fewest (Desk x)) is own in let no : false ≡ true = wrong.0 in cc)
 
-  -- a commit ends
-  pub ended_works : (seen : List Bool) (step : DeskStep) (got : Got) (old new : DeskState P) (commit commit' : Option RunningCommit) → step ≡ EndCommit
-      → DidAsk with_entry without_entry [] step got old commit new commit' → DidAskDesk step got commit commit' × AskedWith hint_of with_entry without_entry seen step got commit commit'
-  ended_works seen step got old new commit commit' is did =
-      rw is (let d : DidAsk with_entry without_entry [] EndCommit got old commit new commit' = subst (λ (x : DeskStep). DidAsk with_entry without_entry [] x got old commit new commit') is did in (ends (is_all_done commit) d, (old, (new, d))))
+  -- a commit ends, or is broken
+  pub ended_works : (seen : List Bool) (step : DeskStep) (got : Got) (old new : DeskState P) (commit commit' : Option RunningCommit) → (step ≡ EndCommit) ⊎ (step ≡ BreakCommit)
+      → DidAsk with_entry without_entry [] step Unshared got old commit new commit' → DidAskDesk step got commit commit' × AskedWith hint_of with_entry without_entry seen step got commit commit'
+  ended_works seen step got old new commit commit' which did = (commit_asked with_entry without_entry [] step Unshared got old new commit commit' did, by which)
     where
-      ends : (t : Bool) → EndsWith t old commit new commit' → EndsIf t commit commit'
-      ends true e = e.1
-      ends false e = e.1
+      by : (step ≡ EndCommit) ⊎ (step ≡ BreakCommit) → AskedWith hint_of with_entry without_entry seen step got commit commit'
+      by (inl is) = rw is (old, (new, subst (λ (x : DeskStep). DidAsk with_entry without_entry [] x Unshared got old commit new commit') is did))
+      by (inr is) = rw is (old, (new, subst (λ (x : DeskStep). DidAsk with_entry without_entry [] x Unshared got old commit new commit') is did))
 
 module _ {D P : Type 0} (tells : Type 0) (size : D → ℕ) (contents : D → List History) (faults : D → ℕ) (hint_of : P → ℕ → ℕ) (with_entry : P → ℕ → ℕ → P) (without_entry : P → ℕ → P) where
   abbrev led : SuspendStage D P → Want → Got → SuspendStage D P → Type 0

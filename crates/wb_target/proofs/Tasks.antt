@@ -1,5 +1,5 @@
 -- A stage of a migration or a flush is ready for each of its steps, and from its run to what is told of it.
-use Rattle.std.proofs.Common.{◌≡◌, ℕ, Bool, List, [], ◌∷◌, sym, ap, ◌∙◌, subst}
+use Rattle.std.proofs.Common.{◌≡◌, ℕ, Bool, List, [], ◌∷◌, refl, sym, ap, ◌∙◌, subst}
 use Rattle.wb_disk.specs.Device.{History}
 use Rattle.wb_words.specs.declared.card.Hold.TheVariants.{Nothing}
 use Rattle.wb_port.specs.Moves.{IsSynced}
@@ -12,18 +12,24 @@ use Rattle.wb_tasks.specs.declared.step.Want.{Want}
 use Rattle.wb_tasks.specs.declared.step.Got.{Got}
 use Rattle.wb_stage.specs.Jobs.{MayRun}
 use Rattle.wb_policy.specs.declared.order.Order.{Order}
-use Rattle.wb_target.specs.Works.{DeskTold, WorkState, WorkStep, WorkLed, WasPerformed, IsReadyToWork, MayWork, MayMigrate, WritesUnderCommit}
+use Rattle.wb_target.specs.Works.{ShareTold, WorkState, SharingState, WorkStep, WorkLed, PerformedWith, IsReadyToWork, MayWork, MayMigrate, WritesUnderCommit}
 use Rattle.wb_target.specs.declared.gate.Point.{Point}
 use Rattle.wb_target.specs.declared.working.WorkStage.{WorkStage}
 use Rattle.wb_port.proofs.Passing.{made_by_pass, same_table}
 use Rattle.wb_port.proofs.Readying.{kept_by}
 use Rattle.wb_target.proofs.Readying.{work_ready, work_idle, work_moves, work_own}
 use Rattle.wb_target.proofs.Committing.{CommitsFrom, IsRunning, commits_there, block_commits}
+use Rattle.wb_target.proofs.Asking.{some_told, told_some}
+use Rattle.wb_stage.specs.declared.share.Share.{Share}
+use Rattle.wb_stage.specs.declared.share.Share.TheVariants.{Nothing as Unshared}
 
 abbrev working_at : {R D P G : Type 0} → WorkStage R D P G → WorkState D
 working_at x = record { hand = x.hand.now; buffer = x.buffer.now; commit = x.commit.now }
 
-module _ {R D P G : Type 0} (tells : Type 0) (size : D → ℕ) (contents : D → List History) (faults : D → ℕ) (asked : List Order → DeskTold) (answers : G → Point → Bool → Type 0) (s : Plan) (job : TaskJob) (steps : List (Want × Got)) (old new : WorkStage R D P G)
+abbrev sharing_at : {R D P G : Type 0} → WorkStage R D P G → SharingState D
+sharing_at x = record { work = working_at x; share = x.share.now }
+
+module _ {R D P G : Type 0} (tells : Type 0) (size : D → ℕ) (contents : D → List History) (faults : D → ℕ) (asked : List Order → ShareTold) (answers : G → Point → Bool → Type 0) (s : Plan) (job : TaskJob) (steps : List (Want × Got)) (old new : WorkStage R D P G)
     (begun : s ≡ table job) (leads : Leads (WorkLed tells size contents faults asked answers) old steps new) where
   abbrev led : WorkStage R D P G → Want → Got → WorkStage R D P G → Type 0
   led = WorkLed tells size contents faults asked answers
@@ -36,6 +42,9 @@ module _ {R D P G : Type 0} (tells : Type 0) (size : D → ℕ) (contents : D �
 
   pub same_commit : new.commit.ghost_name ≡ old.commit.ghost_name
   same_commit = kept_by led (λ x. x.commit.ghost_name) (λ x w g y h. h.same_commit) old steps new leads
+
+  pub same_share : new.share.ghost_name ≡ old.share.ghost_name
+  same_share = kept_by led (λ x. x.share.ghost_name) (λ x w g y h. h.same_share) old steps new leads
 
   same_cells : new.cells ≡ old.cells
   same_cells = kept_by led (λ x. x.cells) (λ x w g y h. h.cells) old steps new leads
@@ -67,7 +76,7 @@ module _ {R D P G : Type 0} (tells : Type 0) (size : D → ℕ) (contents : D �
       by_job : (job : TaskJob) → s ≡ table job → MayRun old.cells.now.blocks job → WritesUnderCommit tells contents new.hand.now.devices new.commit.now (want (left_by s steps))
       by_job (OnBlock block_job) b m = block_commits tells contents new.hand.now.devices new.commit.now block_job (want (left_by s steps)) (own (OnBlock block_job) b m steps new f leads)
       by_job (Flushing serves most) b m =
-          commits_there tells size contents faults (λ (x : WorkStage R D P G). asked x.held.now) (λ (x : WorkStage R D P G). x.hand.now.devices) (λ x. x.buffer.now) (λ x. x.commit.now) led (λ x w g y h. h.works) serves most s old steps new (ap (λ (t : Plan). t.job) b) (own (Flushing serves most) b m)
+          commits_there tells size contents faults (λ (x : WorkStage R D P G). some_told (asked x.held.now) x.share.now) (λ (x : WorkStage R D P G). x.hand.now.devices) (λ x. x.buffer.now) (λ x. x.commit.now) led (λ x w g y h. told_some tells size contents faults (asked x.held.now) x.share.now y.share.now x.hand.now.devices x.buffer.now x.commit.now w g y.hand.now.devices y.buffer.now y.commit.now h.works) serves most s old steps new (ap (λ (t : Plan). t.job) b) (own (Flushing serves most) b m)
           (subst (λ (t : Plan). CommitsFrom (tells → IsSynced (contents old.hand.now.devices.cache)) (tells → IsSynced (contents old.hand.now.devices.origin)) (IsRunning old.commit.now) t.steps) (sym b) tt) f leads
       by_job (Suspending all most) b m = absurd m
       by_job (Opening left) b m = absurd m
@@ -80,14 +89,23 @@ module _ {R D P G : Type 0} (tells : Type 0) (size : D → ℕ) (contents : D �
   pub idle_then : (answer : Answer) → MayRun old.cells.now.blocks job → old.hand.now.pass.card.hold ≡ Nothing → IsRunOf s steps answer → new.hand.now.pass.card.hold ≡ Nothing
   idle_then answer may idle run = work_idle led (λ x. x.hand.now.pass.card) (λ x w g y h. made_by_pass x.cells.now.blocks x.hand.now.pass y.hand.now.pass w g h.by_pass) old.cells.now.blocks s job old begun may idle steps answer new run leads
 
-  pub performed : (answer : Answer) → IsRunOf s steps answer → WasPerformed tells size contents faults (asked old.held.now) old.cells.now.blocks s (working_at old) answer (working_at new)
-  performed answer run = record { steps = steps; run = run; leads = plainly old steps leads; same_mode = same_mode }
+  pub performed : (answer : Answer) → old.share.now ≡ Unshared → IsRunOf s steps answer → PerformedWith tells size contents faults (asked old.held.now) old.cells.now.blocks s (working_at old) answer (working_at new) new.share.now
+  performed answer none run = record {
+    was = record {
+      steps = steps;
+      share = new.share.now;
+      run = run;
+      leads = subst (λ (share : Share). Leads (WorkStep tells size contents faults (asked old.held.now) old.cells.now.blocks) (record { work = working_at old; share = share }) steps (sharing_at new)) none (plainly old steps leads);
+      same_mode = same_mode;
+    };
+    ends = refl;
+  }
     where
-      plainly : (x : WorkStage R D P G) (done : List (Want × Got)) → Leads led x done new → Leads (WorkStep tells size contents faults (asked x.held.now) x.cells.now.blocks) (working_at x) done (working_at new)
-      plainly x [] e = ap (λ (y : WorkStage R D P G). working_at y) e
+      plainly : (x : WorkStage R D P G) (done : List (Want × Got)) → Leads led x done new → Leads (WorkStep tells size contents faults (asked x.held.now) x.cells.now.blocks) (sharing_at x) done (sharing_at new)
+      plainly x [] e = ap (λ (y : WorkStage R D P G). sharing_at y) e
       plainly x (step ∷ done) l = (
-        working_at l.0,
-        (l.1.by_pass, l.1.works),
-        subst (λ h. Leads (WorkStep tells size contents faults (asked h.now) x.cells.now.blocks) (working_at l.0) done (working_at new)) l.1.held
-            (subst (λ c. Leads (WorkStep tells size contents faults (asked l.0.held.now) c.now.blocks) (working_at l.0) done (working_at new)) l.1.cells (plainly l.0 done l.2)),
+        sharing_at l.0,
+        (l.1.by_pass, l.1.works, l.1.shares),
+        subst (λ h. Leads (WorkStep tells size contents faults (asked h.now) x.cells.now.blocks) (sharing_at l.0) done (sharing_at new)) l.1.held
+            (subst (λ c. Leads (WorkStep tells size contents faults (asked l.0.held.now) c.now.blocks) (sharing_at l.0) done (sharing_at new)) l.1.cells (plainly l.0 done l.2)),
       )

@@ -1,7 +1,7 @@
 -- What becomes of an order that is given up, and of a worker's turns.
 use Rattle.std.proofs.Common.{◌≡◌, ◌≢◌, ◌∙◌, ◌<◌, ◌⊎◌, inl, inr, ℕ, Bool, true, List, [], ◌∷◌, Option, Some, None, Result, length, sym, ap, subst}
 use Rattle.std.proofs.lemmas.Result.{IfErr-weaker}
-use Rattle.std.specs.Prelude.{IfErr, OnOk}
+use Rattle.std.specs.Prelude.{IfErr, IfOk}
 use Rattle.wb_types.specs.declared.geometry.Geometry.{Geometry}
 use Rattle.wb_types.specs.declared.number.OBlock.{OBlock}
 use Rattle.wb_types.specs.declared.number.CBlock.{CBlock}
@@ -16,8 +16,10 @@ use Rattle.wb_tasks.specs.declared.step.Answer.TheVariants.{Refused as Refuses}
 use Rattle.wb_tasks.specs.declared.step.Migration.TheVariants.{Promote as Promoting, Demote as Demoting}
 use Rattle.wb_port.specs.Hands.{saw_fail_word}
 use Rattle.wb_port.specs.declared.port.Port.{Port}
-use Rattle.wb_target.specs.Works.{DeskTold, WorkState}
-use Rattle.wb_target.specs.Carried.{client_state, looked_at_fail, HasBegun, Runs, WasDone, migration_of, flush_of, jobs_of}
+use Rattle.wb_stage.specs.declared.share.Share.{Share}
+use Rattle.wb_target.specs.declared.carrying.Flushed.{Flushed}
+use Rattle.wb_target.specs.Works.{ShareTold, WorkState}
+use Rattle.wb_target.specs.Carried.{client_state, looked_at_fail, HasBegun, Runs, WasDone, WasDoneWith, share_of, migration_of, flush_of, jobs_of}
 use Rattle.wb_target.specs.declared.gate.Point.{Point}
 use Rattle.wb_target.specs.declared.gate.Point.TheVariants.{Order as BeforeOrder, Idle}
 use Rattle.wb_target.specs.Workers.{WasRefused, DidNotBegin, GaveUpAmong, FlushRefused, HasBuffer, Took, Turn, Works, Idles, StoppedAt}
@@ -42,8 +44,8 @@ begun_by p q r hand buffer commit hand' commit' kept = record {
 -- ---- a job
 
 module _ {D : Type 0} (runs : TaskJob → WorkState D → Answer → WorkState D → Type 0) (job : TaskJob) where
-  pub refused_then : (refusal : Refusal) (old mid new last : WorkState D) → refusal ≢ Busy → Before runs job old mid → runs job mid (Refuses refusal) new → (word : ℕ) × (last ≡ looked_at_fail word new) → WasRefused runs job refusal old last
-  refused_then refusal old mid new last not so run look = (not, (new, look.0, record { tries = so.0; before = mid; tried = so.1; ended = run }, look.1))
+  pub refused_then : (refusal : Refusal) (old mid new : WorkState D) → refusal ≢ Busy → Before runs job old mid → runs job mid (Refuses refusal) new → WasRefused runs job refusal old new
+  refused_then refusal old mid new not so run = (not, record { tries = so.0; before = mid; tried = so.1; ended = run })
 
 -- ---- an order of one job
 
@@ -55,7 +57,7 @@ module _ {D A : Type 0} (runs : List Order → TaskJob → WorkState D → Answe
 
 -- ---- a replacement, in the sizes that stay
 
-module _ {D : Type 0} (tells : Type 0) (size : D → ℕ) (contents : D → List History) (faults : D → ℕ) (asked : List Order → DeskTold) (order : Order) (v x : OBlock) (to : CBlock) (first : Geometry) (is : order ≡ Replace v x to) where
+module _ {D : Type 0} (tells : Type 0) (size : D → ℕ) (contents : D → List History) (faults : D → ℕ) (asked : List Order → ShareTold) (order : Order) (v x : OBlock) (to : CBlock) (first : Geometry) (is : order ≡ Replace v x to) where
   abbrev runs_in : Geometry → List Order → TaskJob → WorkState D → Answer → WorkState D → Type 0
   runs_in geometry = Runs tells size contents faults asked geometry.origin_blocks
 
@@ -88,16 +90,19 @@ module _ {D : Type 0} (tells : Type 0) (size : D → ℕ) (contents : D → List
 
 -- ---- turns, in the sizes that stay
 
-module _ {D : Type 0} (tells : Type 0) (size : D → ℕ) (contents : D → List History) (faults : D → ℕ) (asked : List Order → DeskTold) (first here : Geometry) (same : here ≡ first) where
+module _ {D : Type 0} (tells : Type 0) (size : D → ℕ) (contents : D → List History) (faults : D → ℕ) (asked : List Order → ShareTold) (first here : Geometry) (same : here ≡ first) where
   abbrev runs_at : Geometry → List Order → TaskJob → WorkState D → Answer → WorkState D → Type 0
   runs_at geometry = Runs tells size contents faults asked geometry.origin_blocks
 
   pub gave_up_in : (order : Order) (refusal : Refusal) (old new : WorkState D) → GaveUpAmong (runs_at here (order ∷ [])) (jobs_of here order) refusal old new → GaveUpAmong (runs_at first (order ∷ [])) (jobs_of first order) refusal old new
   gave_up_in order refusal old new h = subst (λ (g : Geometry). GaveUpAmong (runs_at g (order ∷ [])) (jobs_of g order) refusal old new) same h
 
-  pub flush_done_in : {A : Type 0} (r : Result A Refusal) (old old' new : WorkState D) → old ≡ old' → OnOk r (WasDone (runs_at here []) (flush_of here None) old new) → OnOk r (WasDone (runs_at first []) (flush_of first None) old' new)
+  abbrev DoneAt : Geometry → Share → WorkState D → WorkState D → Type 0
+  DoneAt geometry share old new = WasDoneWith tells size contents faults asked geometry.origin_blocks [] (flush_of geometry None) share old new
+
+  pub flush_done_in : (r : Result Flushed Refusal) (old old' new : WorkState D) → old ≡ old' → IfOk r (λ flushed. DoneAt here (share_of flushed) old new) → IfOk r (λ flushed. DoneAt first (share_of flushed) old' new)
   flush_done_in r old old' new e h =
-      subst (λ (g : Geometry). OnOk r (WasDone (runs_at g []) (flush_of g None) old' new)) same (subst (λ (s : WorkState D). OnOk r (WasDone (runs_at here []) (flush_of here None) s new)) e h)
+      subst (λ (g : Geometry). IfOk r (λ flushed. DoneAt g (share_of flushed) old' new)) same (subst (λ (s : WorkState D). IfOk r (λ flushed. DoneAt here (share_of flushed) s new)) e h)
 
   pub flush_refused_in : (refusal : Refusal) (old old' new : WorkState D) → old ≡ old' → FlushRefused (runs_at here) here refusal old new → FlushRefused (runs_at first) first refusal old' new
   flush_refused_in refusal old old' new e h = subst (λ (g : Geometry). FlushRefused (runs_at g) g refusal old' new) same (subst (λ (s : WorkState D). FlushRefused (runs_at here) here refusal s new) e h)
@@ -106,7 +111,7 @@ module _ {D : Type 0} (tells : Type 0) (size : D → ℕ) (contents : D → List
   stopped_at next order was cause old begun mid new word buffer h set is =
       record { order = order; was_next = was; cause = cause; begun = begun; mid = mid; word = word; buffer = buffer; gave_up = gave_up_in order cause begun mid h; set = set; new_is = is }
 
-module _ {D G : Type 0} (tells : Type 0) (size : D → ℕ) (contents : D → List History) (faults : D → ℕ) (asked : List Order → DeskTold) (next : Option Order → Type 0) (answers : G → Point → Bool → Type 0) (gate : G) (first here : Geometry) (same : here ≡ first) where
+module _ {D G : Type 0} (tells : Type 0) (size : D → ℕ) (contents : D → List History) (faults : D → ℕ) (asked : List Order → ShareTold) (next : Option Order → Type 0) (answers : G → Point → Bool → Type 0) (gate : G) (first here : Geometry) (same : here ≡ first) where
   abbrev runs_by : Geometry → List Order → TaskJob → WorkState D → Answer → WorkState D → Type 0
   runs_by geometry = Runs tells size contents faults asked geometry.origin_blocks
 

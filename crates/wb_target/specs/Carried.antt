@@ -20,8 +20,12 @@ use Rattle.wb_port.specs.Hands.{saw_fail_word}
 use Rattle.wb_port.specs.Moves.{IsSynced}
 use Rattle.wb_port.specs.declared.moving.TheConstants.{LONGEST}
 use Rattle.wb_port.specs.declared.port.Port.{Port}
+use Rattle.wb_stage.specs.declared.share.Share.{Share}
+use Rattle.wb_stage.specs.declared.share.Share.TheVariants.{Nothing as Unshared, Covered}
+use Rattle.wb_target.specs.declared.carrying.Flushed.{Flushed}
+use Rattle.wb_target.specs.declared.carrying.Flushed.TheVariants.{Led, Served}
 use Rattle.wb_target.specs.Tries.{EndedAfter}
-use Rattle.wb_target.specs.Works.{WorkState, DeskTold, WasPerformed}
+use Rattle.wb_target.specs.Works.{WorkState, ShareTold, WasPerformed}
 
 -- what a client is at
 abbrev pub client_state : {D : Type 0} → Port D → WorkState D
@@ -41,7 +45,7 @@ pub record HasBegun {D : Type 0} (old new : WorkState D) : Type 0 where
 -- ---- a job
 
 -- one run of a job's table on a client that has taken these orders, with this answer
-abbrev pub Runs : {D : Type 0} → Type 0 → (D → ℕ) → (D → List History) → (D → ℕ) → (List Order → DeskTold) → ℕ → List Order → TaskJob → WorkState D → Answer → WorkState D → Type 0
+abbrev pub Runs : {D : Type 0} → Type 0 → (D → ℕ) → (D → List History) → (D → ℕ) → (List Order → ShareTold) → ℕ → List Order → TaskJob → WorkState D → Answer → WorkState D → Type 0
 Runs tells size contents faults asked blocks held job old answer new = WasPerformed tells size contents faults (asked held) blocks (table job) old answer new
 
 -- A job was done: after runs that were refused as busy, if any, another was answered done.
@@ -66,6 +70,16 @@ serving (Some block) = block ∷ []
 
 abbrev pub flush_of : Geometry → Option OBlock → TaskJob
 flush_of geometry serves = Flushing (serving serves) (node_count geometry.cache_blocks)
+
+-- how a flush was answered done, by what it has of the commits of others at its end
+abbrev pub share_of : Flushed → Share
+share_of Led = Unshared
+share_of (Served receipt) = Covered receipt
+
+-- A job was done so: the last run of it had this of the commits of others at its end.
+abbrev pub WasDoneWith : {D : Type 0} → (tells : Type 0) (size : D → ℕ) (contents : D → List History) (faults : D → ℕ) (asked : List Order → ShareTold) (blocks : ℕ) (held : List Order) (job : TaskJob) (share : Share) (old new : WorkState D) → Type 0
+WasDoneWith tells size contents faults asked blocks held job share old new =
+    EndedAfter (λ s t. Runs tells size contents faults asked blocks held job s (Refuses Busy) t) (λ s t. (run : Runs tells size contents faults asked blocks held job s Finished t) × (run.share ≡ share)) old new
 
 -- The jobs of an order: a migration; a replacement is a demotion, a flush that serves the promoted block's order, and a promotion.
 abbrev pub jobs_of : Geometry → Order → List TaskJob

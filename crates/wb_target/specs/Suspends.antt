@@ -20,6 +20,7 @@ use Rattle.wb_devices.specs.declared.devices.Devices.{Devices}
 use Rattle.wb_devices.specs.declared.running.RunningCommit.{RunningCommit}
 use Rattle.wb_desk.specs.Desks.{DeskState}
 use Rattle.wb_stage.specs.Seen.{seen_after}
+use Rattle.wb_stage.specs.declared.share.Share.TheVariants.{Nothing as Unshared}
 use Rattle.wb_stage.specs.Stages.{DidAsk, DidBeginWith}
 use Rattle.wb_port.specs.Hands.{DoneByPass}
 use Rattle.wb_target.specs.Works.{DeskTold, WorksOn}
@@ -43,8 +44,8 @@ mapped_blocks count tree (suc c) = mapped_blocks count tree c ++ block_within co
 -- Some desk was asked for this step, for who has taken no order, and answered so; where a commit begins, its image is clean, with the dirty
 -- bits that were seen.
 abbrev pub AskedWith : {P : Type 0} → (P → ℕ → ℕ) → (P → ℕ → ℕ → P) → (P → ℕ → P) → List Bool → DeskTold
-AskedWith {P} hint_of with_entry without_entry seen (BeginCommit true most) got commit commit' = (old : DeskState P) × ((new : DeskState P) × DidBeginWith hint_of (Some seen) most got old commit new commit')
-AskedWith {P} hint_of with_entry without_entry seen step got commit commit' = (old : DeskState P) × ((new : DeskState P) × DidAsk with_entry without_entry [] step got old commit new commit')
+AskedWith {P} hint_of with_entry without_entry seen (BeginCommit most) got commit commit' = (old : DeskState P) × ((new : DeskState P) × DidBeginWith hint_of seen most got old commit new commit')
+AskedWith {P} hint_of with_entry without_entry seen step got commit commit' = (old : DeskState P) × ((new : DeskState P) × DidAsk with_entry without_entry [] step Unshared got old commit new commit')
 
 -- What a suspend is at: its pass, the devices that it was lent, the commit that it runs, and for each cache block whether its copy was
 -- seen dirty.

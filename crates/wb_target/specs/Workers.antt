@@ -24,10 +24,9 @@ IsFailure refusal = (refusal ≡ Failed) ⊎ ((device : Dev) × (refusal ≡ Io 
 
 -- ---- jobs and orders that are given up
 
--- A job was refused: after runs that were refused as busy, if any, another was refused for this reason, and then the fail word was looked at.
+-- A job was refused: after runs that were refused as busy, if any, another was refused for this reason.
 abbrev pub WasRefused : {D : Type 0} → (TaskJob → WorkState D → Answer → WorkState D → Type 0) → TaskJob → Refusal → WorkState D → WorkState D → Type 0
-WasRefused {D} runs job refusal old new =
-    (refusal ≢ Busy) × ((mid : WorkState D) × (word : ℕ) × EndedAfter (λ s t. runs job s (Refuses Busy) t) (λ s t. runs job s (Refuses refusal) t) old mid × (new ≡ looked_at_fail word mid))
+WasRefused runs job refusal old new = (refusal ≢ Busy) × EndedAfter (λ s t. runs job s (Refuses Busy) t) (λ s t. runs job s (Refuses refusal) t) old new
 
 -- A flush may not have begun, for want of memory: what was done before are runs that were refused as busy.
 abbrev pub DidNotBegin : {D : Type 0} → (TaskJob → WorkState D → Answer → WorkState D → Type 0) → TaskJob → Refusal → WorkState D → WorkState D → Type 0

@@ -17,7 +17,7 @@ use Rattle.wb_tasks.specs.Plan.{Plan, device_of}
 use Rattle.wb_tasks.specs.Run.{IsRunOf, Leads}
 use Rattle.wb_tasks.specs.declared.step.Answer.{Answer}
 use Rattle.wb_tasks.specs.declared.step.DeskStep.{DeskStep}
-use Rattle.wb_tasks.specs.declared.step.DeskStep.TheVariants.{BeginCommit, EndCommit}
+use Rattle.wb_tasks.specs.declared.step.DeskStep.TheVariants.{Arrive, Ask, BeginCommit, EndCommit}
 use Rattle.wb_tasks.specs.declared.step.Want.{Want}
 use Rattle.wb_tasks.specs.declared.step.Want.TheVariants.{Device, Desk}
 use Rattle.wb_tasks.specs.declared.step.Got.{Got}
@@ -27,6 +27,9 @@ use Rattle.wb_devices.specs.Stepping.{CommitGoes, DidStep, BufferStays}
 use Rattle.wb_devices.specs.declared.devices.Devices.{Devices}
 use Rattle.wb_devices.specs.declared.running.RunningCommit.{RunningCommit}
 use Rattle.wb_desk.specs.Desks.{DeskState}
+use Rattle.wb_stage.specs.Sharing.{share_then}
+use Rattle.wb_stage.specs.declared.share.Share.{Share}
+use Rattle.wb_stage.specs.declared.share.Share.TheVariants.{Nothing as Unshared}
 use Rattle.wb_stage.specs.Stages.{DidAsk, IsServed, is_all_done}
 use Rattle.wb_port.specs.Hands.{DoneByPass, IsReadyOn}
 use Rattle.wb_port.specs.declared.hand.Hand.{Hand}
@@ -39,10 +42,15 @@ abbrev pub EndsIf : Bool → Option RunningCommit → Option RunningCommit → T
 EndsIf true commit commit' = commit' ≡ None
 EndsIf false commit commit' = commit' ≡ commit
 
--- A commit that began has done nothing yet, and has so many nodes; one that is all done ends.
+-- a commit that began has done nothing yet, and has so many nodes
+abbrev pub HasCommit : ℕ → Option RunningCommit → Type 0
+HasCommit nodes commit = (begun : RunningCommit) × (commit ≡ Some begun) × (begun.steps ≡ NodesWritten 0) × (nodes ≡ length begun.image.nodes.items)
+
+-- A commit may begin for who asks for one; one that is all done ends.
 abbrev pub DidAskDesk : DeskStep → Got → Option RunningCommit → Option RunningCommit → Type 0
-DidAskDesk (BeginCommit clean most) (Began nodes) commit commit' = (begun : RunningCommit) × (commit' ≡ Some begun) × (begun.steps ≡ NodesWritten 0) × (nodes ≡ length begun.image.nodes.items)
-DidAskDesk (BeginCommit clean most) got commit commit' = commit' ≡ commit
+DidAskDesk (Arrive most) (Began nodes) commit commit' = HasCommit nodes commit'
+DidAskDesk (Ask most) (Began nodes) commit commit' = HasCommit nodes commit'
+DidAskDesk (BeginCommit most) (Began nodes) commit commit' = HasCommit nodes commit'
 DidAskDesk EndCommit got commit commit' = EndsIf (is_all_done commit) commit commit'
 DidAskDesk step got commit commit' = commit' ≡ commit
 
@@ -50,10 +58,23 @@ DidAskDesk step got commit commit' = commit' ≡ commit
 abbrev pub DeskTold : Type 1
 DeskTold = DeskStep → Got → Option RunningCommit → Option RunningCommit → Type 0
 
--- Some desk was asked for this step, for who has taken these orders, and answered so. Only under the lock does anybody have a desk that
--- tells policy of these entries.
+-- the same, and what who asks has of the commits that others lead, before and after
+abbrev pub ShareTold : Type 1
+ShareTold = Share → Share → DeskTold
+
+-- Some desk was asked for this step, for who has taken these orders and has this of the commits that others lead, and answered so. Only under the lock does
+-- anybody have a desk that tells policy of these entries.
+abbrev pub AskedSharing : {P : Type 0} → (P → ℕ → ℕ → P) → (P → ℕ → P) → List Order → ShareTold
+AskedSharing {P} with_entry without_entry held share share' step got commit commit' = (old : DeskState P) × ((new : DeskState P) × DidAsk with_entry without_entry held step share got old commit new commit' × (share' ≡ share_then old share step got))
+
+-- who asks has nothing of them
 abbrev pub WasAsked : {P : Type 0} → (P → ℕ → ℕ → P) → (P → ℕ → P) → List Order → DeskTold
-WasAsked {P} with_entry without_entry held step got commit commit' = (old : DeskState P) × ((new : DeskState P) × DidAsk with_entry without_entry held step got old commit new commit')
+WasAsked with_entry without_entry held = AskedSharing with_entry without_entry held Unshared Unshared
+
+-- only a step on the desk tells of others' commits
+abbrev pub ShareStays : Want → Share → Share → Type 0
+ShareStays (Desk step) share share' = Unit {0}
+ShareStays want share share' = share' ≡ share
 
 -- A step on a device is one on its own device alone, and leads the commit on where it comes next of it; no other step is on a
 -- device.
@@ -73,18 +94,31 @@ pub record WorkState (D : Type 0) : Type 0 where
   pub buffer : List Bytes
   pub commit : Option RunningCommit
 
--- what a step of it does, on words of so many blocks
-abbrev pub WorkStep : {D : Type 0} → Type 0 → (D → ℕ) → (D → List History) → (D → ℕ) → DeskTold → ℕ → WorkState D → Want → Got → WorkState D → Type 0
-WorkStep tells size contents faults asked blocks s want got t =
-    DoneByPass blocks s.hand.pass want got t.hand.pass
-    × WorksOn tells size contents faults asked s.hand.devices s.buffer s.commit want got t.hand.devices t.buffer t.commit
+-- the same, and what it has of the commits that others lead
+pub record SharingState (D : Type 0) : Type 0 where
+  pub work : WorkState D
+  pub share : Share
 
--- A task was performed, with this answer: its steps are those of its table, and led from the one state to the other.
-pub record WasPerformed {D : Type 0} (tells : Type 0) (size : D → ℕ) (contents : D → List History) (faults : D → ℕ) (asked : DeskTold) (blocks : ℕ) (plan : Plan) (old : WorkState D) (answer : Answer) (new : WorkState D) : Type 0 where
+-- what a step of it does, on words of so many blocks
+abbrev pub WorkStep : {D : Type 0} → Type 0 → (D → ℕ) → (D → List History) → (D → ℕ) → ShareTold → ℕ → SharingState D → Want → Got → SharingState D → Type 0
+WorkStep tells size contents faults asked blocks s want got t =
+    DoneByPass blocks s.work.hand.pass want got t.work.hand.pass
+    × WorksOn tells size contents faults (asked s.share t.share) s.work.hand.devices s.work.buffer s.work.commit want got t.work.hand.devices t.work.buffer t.work.commit
+    × ShareStays want s.share t.share
+
+-- A task was performed, with this answer: its steps are those of its table, and led from the one state to the other. It began with nothing of others'
+-- commits, and has this of them at its end.
+pub record WasPerformed {D : Type 0} (tells : Type 0) (size : D → ℕ) (contents : D → List History) (faults : D → ℕ) (asked : ShareTold) (blocks : ℕ) (plan : Plan) (old : WorkState D) (answer : Answer) (new : WorkState D) : Type 0 where
   pub steps : List (Want × Got)
+  pub share : Share
   pub run : IsRunOf plan steps answer
-  pub leads : Leads (WorkStep tells size contents faults asked blocks) old steps new
+  pub leads : Leads (WorkStep tells size contents faults asked blocks) (record { work = old; share = Unshared }) steps (record { work = new; share = share })
   pub same_mode : new.hand.mode ≡ old.hand.mode
+
+-- the same, with this of others' commits at its end
+pub record PerformedWith {D : Type 0} (tells : Type 0) (size : D → ℕ) (contents : D → List History) (faults : D → ℕ) (asked : ShareTold) (blocks : ℕ) (plan : Plan) (old : WorkState D) (answer : Answer) (new : WorkState D) (share : Share) : Type 0 where
+  pub was : WasPerformed tells size contents faults asked blocks plan old answer new
+  pub ends : was.share ≡ share
 
 -- ---- what it may move
 
@@ -130,7 +164,7 @@ abbrev pub GateIsAsked : {G : Type 0} → (G → Point → Bool → Type 0) → 
 GateIsAsked answers gate (Device step) = (go : Bool) × answers gate AtDevice go
 GateIsAsked answers gate want = Unit {0}
 
-pub record WorkLed {R D P G : Type 0} (tells : Type 0) (size : D → ℕ) (contents : D → List History) (faults : D → ℕ) (told : List Order → DeskTold) (answers : G → Point → Bool → Type 0) (old : WorkStage R D P G) (want : Want) (got : Got) (new : WorkStage R D P G) : Type 0 where
+pub record WorkLed {R D P G : Type 0} (tells : Type 0) (size : D → ℕ) (contents : D → List History) (faults : D → ℕ) (told : List Order → ShareTold) (answers : G → Point → Bool → Type 0) (old : WorkStage R D P G) (want : Want) (got : Got) (new : WorkStage R D P G) : Type 0 where
   pub cells : new.cells ≡ old.cells
   pub held : new.held ≡ old.held
   pub gate : new.gate ≡ old.gate
@@ -138,7 +172,9 @@ pub record WorkLed {R D P G : Type 0} (tells : Type 0) (size : D → ℕ) (conte
   pub same_hand : new.hand.ghost_name ≡ old.hand.ghost_name
   pub same_buffer : new.buffer.ghost_name ≡ old.buffer.ghost_name
   pub same_commit : new.commit.ghost_name ≡ old.commit.ghost_name
+  pub same_share : new.share.ghost_name ≡ old.share.ghost_name
   pub sized : new.hand.now.block_sectors ≡ old.hand.now.block_sectors
   pub same_mode : new.hand.now.mode ≡ old.hand.now.mode
   pub by_pass : DoneByPass old.cells.now.blocks old.hand.now.pass want got new.hand.now.pass
-  pub works : WorksOn tells size contents faults (told old.held.now) old.hand.now.devices old.buffer.now old.commit.now want got new.hand.now.devices new.buffer.now new.commit.now
+  pub works : WorksOn tells size contents faults (told old.held.now old.share.now new.share.now) old.hand.now.devices old.buffer.now old.commit.now want got new.hand.now.devices new.buffer.now new.commit.now
+  pub shares : ShareStays want old.share.now new.share.now

@@ -9,8 +9,8 @@ ghost use Rattle.wb_tasks.specs.Tables.{TaskJob};
 ghost use Rattle.wb_tasks.specs.Plan.{table};
 ghost use Rattle.wb_stage.specs.Jobs.{MayRun};
 ghost use Rattle.wb_port.specs.Moves.{copied_to};
-ghost use Rattle.wb_target.specs.Works.{WasAsked, WasPerformed, IsOrdered, MayMigrate};
-ghost use Rattle.wb_target.specs.Carried.{client_state, looked_at_fail, HasBegun, Runs, WasDone, WereDone, migration_of, serving, flush_of, jobs_of, BlocksAreThere, AreSynced};
+ghost use Rattle.wb_target.specs.Works.{AskedSharing, PerformedWith, IsOrdered, MayMigrate};
+ghost use Rattle.wb_target.specs.Carried.{client_state, looked_at_fail, HasBegun, Runs, WasDone, WasDoneWith, WereDone, share_of, migration_of, serving, flush_of, jobs_of, BlocksAreThere, AreSynced};
 ghost use Rattle.wb_target.specs.Told.{HadTick, WasNext, WasGivenUp};
 ghost use Rattle.wb_target.specs.Workers.{WasRefused, DidNotBegin, GaveUpAmong, OrderRefused, FlushRefused, TickRefused};
 
@@ -21,31 +21,49 @@ use crate::target::Target;
 use std::alloc::Global;
 use std::sync::Wait;
 use std::thread;
+use wb_desk::Receipt;
 use wb_disk::Disk;
 use wb_flow::CommitTask;
 use wb_policy::{Order, Policy};
 use wb_port::{LONGEST, Port};
+use wb_stage::Share;
 use wb_tasks::{Answer, BlockTask, Migration, Task};
 use wb_types::{Geometry, OBlock, Refusal, SECTOR_BYTES};
 
 /// How a flush was answered done.
-#[derive(Clone, Copy, Debug, PartialEq, Eq)]
+#[derive(Debug, Drop)]
 pub enum Flushed {
     /// By a commit of its own.
     Led,
+    /// By a commit that another client led, which began after the flush had come.
+    Served(Receipt),
 }
 
-/// Performs a task, under these orders: a run of its table.
-fn work<R: Wait, D: Disk + Drop, P: Policy, G: Gate, T: Task>(
+/// How a flush was answered that is done, and has this of the commits of others.
+fn answered(share: Share) -> Flushed
+    requires { (ticket : ℕ) → share ≢ Share.Waiting ticket }
+    ensures { share_of result ≡ share }
+{
+    match share {
+        Share::Nothing => Flushed::Led,
+        Share::Covered(receipt) => Flushed::Served(receipt),
+        Share::Waiting(_) => unreachable!(),
+    }
+}
+
+/// Performs a task, under these orders: a run of its table. What it has of the commits of others is left in `share`.
+fn perform<R: Wait, D: Disk + Drop, P: Policy, G: Gate, T: Task>(
     rt: &R,
     target: &Target<P>,
     gate: &G,
     port: &mut Port<D>,
     held: &[Order],
+    share: &mut Share,
     task: &mut T,
 ) -> Answer
     requires begun { (job : TaskJob) × (T.plan task.old ≡ table job) × MayRun port.old.geometry.origin_blocks job × MayMigrate port.old.geometry.block held.now job }
-    ensures performed { WasPerformed D.tells D.size D.contents D.faults (WasAsked P.with_entry P.without_entry held.now) port.old.geometry.origin_blocks (T.plan task.old) (client_state port.old) result (client_state port.new) }
+    requires unshared { share.old ≡ Share.Nothing }
+    ensures performed { PerformedWith D.tells D.size D.contents D.faults (AskedSharing P.with_entry P.without_entry held.now) port.old.geometry.origin_blocks (T.plan task.old) (client_state port.old) result (client_state port.new) share.new }
     ensures geometry { port.new.geometry ≡ port.old.geometry }
 {
     perform_task(
@@ -57,18 +75,27 @@ fn work<R: Wait, D: Disk + Drop, P: Policy, G: Gate, T: Task>(
         port.buffer.as_mut_slice(),
         held,
         &mut port.commit,
+        share,
         task,
     )
 }
 
-/// Where the target has failed, whoever waits for its commit is told.
-fn note_failure<R: Wait, D: Disk + Drop, P: Policy>(rt: &R, target: &Target<P>, port: &mut Port<D>)
-    ensures looked { (word : ℕ) × (client_state port.new ≡ looked_at_fail word (client_state port.old)) }
+/// The same, and what it has of the commits of others at its end.
+fn work<R: Wait, D: Disk + Drop, P: Policy, G: Gate, T: Task>(
+    rt: &R,
+    target: &Target<P>,
+    gate: &G,
+    port: &mut Port<D>,
+    held: &[Order],
+    task: &mut T,
+) -> (Answer, Share)
+    requires begun { (job : TaskJob) × (T.plan task.old ≡ table job) × MayRun port.old.geometry.origin_blocks job × MayMigrate port.old.geometry.block held.now job }
+    ensures performed { PerformedWith D.tells D.size D.contents D.faults (AskedSharing P.with_entry P.without_entry held.now) port.old.geometry.origin_blocks (T.plan task.old) (client_state port.old) result.0 (client_state port.new) result.1 }
     ensures geometry { port.new.geometry ≡ port.old.geometry }
 {
-    if port.has_failed() {
-        target.note_failure(rt);
-    }
+    let mut share = Share::Nothing;
+    let answer = perform(rt, target, gate, port, held, &mut share, task);
+    (answer, share)
 }
 
 /// A buffer for the steps of migrations, if it has none; `Memory` where there is none for it.
@@ -98,21 +125,21 @@ fn migrate<R: Wait, D: Disk + Drop, P: Policy, G: Gate>(
 ) -> Result<(), Refusal>
     requires there { block.0 < port.old.geometry.origin_blocks }
     requires ordered { IsOrdered (order ∷ []) block (copied_to migration) }
-    ensures done { OnOk result (WasDone (Runs D.tells D.size D.contents D.faults (WasAsked P.with_entry P.without_entry) port.old.geometry.origin_blocks (order ∷ [])) (migration_of port.old.geometry migration block) (client_state port.old) (client_state port.new)) }
-    ensures refused { IfErr result (λ refusal. WasRefused (Runs D.tells D.size D.contents D.faults (WasAsked P.with_entry P.without_entry) port.old.geometry.origin_blocks (order ∷ [])) (migration_of port.old.geometry migration block) refusal (client_state port.old) (client_state port.new)) }
+    ensures done { OnOk result (WasDone (Runs D.tells D.size D.contents D.faults (AskedSharing P.with_entry P.without_entry) port.old.geometry.origin_blocks (order ∷ [])) (migration_of port.old.geometry migration block) (client_state port.old) (client_state port.new)) }
+    ensures refused { IfErr result (λ refusal. WasRefused (Runs D.tells D.size D.contents D.faults (AskedSharing P.with_entry P.without_entry) port.old.geometry.origin_blocks (order ∷ [])) (migration_of port.old.geometry migration block) refusal (client_state port.old) (client_state port.new)) }
     ensures geometry { port.new.geometry ≡ port.old.geometry }
 {
     let held = [order];
     for _ in rt.forever() {
         let mut task = BlockTask::migrate(migration, port.geometry.block, block, LONGEST);
-        match work(rt, target, gate, port, &held, &mut task) {
+        let (answer, _) = work(rt, target, gate, port, &held, &mut task);
+        match answer {
             Answer::Done => return Ok(()),
             Answer::Refused(refusal) => {
                 if refusal == Refusal::Busy {
                     thread::yield_now();
                     continue;
                 }
-                note_failure(rt, target, port);
                 return Err(refusal);
             }
         }
@@ -120,8 +147,8 @@ fn migrate<R: Wait, D: Disk + Drop, P: Policy, G: Gate>(
     unreachable!()
 }
 
-/// Makes all that was finished durable, after any commit that runs; the order of a replacement that it serves is given up
-/// where there is no memory, or no next generation.
+/// Makes all that was finished durable, by a commit that begins after it has come: its own, or that of another client which waits, too. The order of a
+/// replacement that it serves is given up where there is no memory, or no next generation.
 fn flush<R: Wait, D: Disk + Drop, P: Policy, G: Gate>(
     rt: &R,
     target: &Target<P>,
@@ -129,9 +156,9 @@ fn flush<R: Wait, D: Disk + Drop, P: Policy, G: Gate>(
     port: &mut Port<D>,
     held: &[Order],
     serves: Option<OBlock>,
-) -> Result<(), Refusal>
-    ensures done { OnOk result (WasDone (Runs D.tells D.size D.contents D.faults (WasAsked P.with_entry P.without_entry) port.old.geometry.origin_blocks held.now) (flush_of port.old.geometry serves) (client_state port.old) (client_state port.new)) }
-    ensures refused { IfErr result (λ refusal. WasRefused (Runs D.tells D.size D.contents D.faults (WasAsked P.with_entry P.without_entry) port.old.geometry.origin_blocks held.now) (flush_of port.old.geometry serves) refusal (client_state port.old) (client_state port.new) ⊎ DidNotBegin (Runs D.tells D.size D.contents D.faults (WasAsked P.with_entry P.without_entry) port.old.geometry.origin_blocks held.now) (flush_of port.old.geometry serves) refusal (client_state port.old) (client_state port.new)) }
+) -> Result<Flushed, Refusal>
+    ensures done { IfOk result (λ flushed. WasDoneWith D.tells D.size D.contents D.faults (AskedSharing P.with_entry P.without_entry) port.old.geometry.origin_blocks held.now (flush_of port.old.geometry serves) (share_of flushed) (client_state port.old) (client_state port.new)) }
+    ensures refused { IfErr result (λ refusal. WasRefused (Runs D.tells D.size D.contents D.faults (AskedSharing P.with_entry P.without_entry) port.old.geometry.origin_blocks held.now) (flush_of port.old.geometry serves) refusal (client_state port.old) (client_state port.new) ⊎ DidNotBegin (Runs D.tells D.size D.contents D.faults (AskedSharing P.with_entry P.without_entry) port.old.geometry.origin_blocks held.now) (flush_of port.old.geometry serves) refusal (client_state port.old) (client_state port.new)) }
     ensures geometry { port.new.geometry ≡ port.old.geometry }
 {
     let most = port.geometry.node_count();
@@ -144,14 +171,14 @@ fn flush<R: Wait, D: Disk + Drop, P: Policy, G: Gate>(
             }
         };
         let mut task = CommitTask::flush(blocks, most);
-        match work(rt, target, gate, port, held, &mut task) {
-            Answer::Done => return Ok(()),
+        let (answer, share) = work(rt, target, gate, port, held, &mut task);
+        match answer {
+            Answer::Done => return Ok(answered(share)),
             Answer::Refused(refusal) => {
                 if refusal == Refusal::Busy {
-                    target.await_commit(rt);
+                    thread::yield_now();
                     continue;
                 }
-                note_failure(rt, target, port);
                 return Err(refusal);
             }
         }
@@ -190,14 +217,14 @@ pub(crate) fn carry_out<R: Wait, D: Disk + Drop, P: Policy, G: Gate>(
     order: Order,
 ) -> Result<(), Refusal>
     requires { BlocksAreThere port.old.geometry order }
-    ensures carried { OnOk result (WereDone (Runs D.tells D.size D.contents D.faults (WasAsked P.with_entry P.without_entry) port.old.geometry.origin_blocks (order ∷ [])) (jobs_of port.old.geometry order) (client_state port.old) (client_state port.new)) }
-    ensures given_up { IfErr result (λ refusal. GaveUpAmong (Runs D.tells D.size D.contents D.faults (WasAsked P.with_entry P.without_entry) port.old.geometry.origin_blocks (order ∷ [])) (jobs_of port.old.geometry order) refusal (client_state port.old) (client_state port.new)) }
+    ensures carried { OnOk result (WereDone (Runs D.tells D.size D.contents D.faults (AskedSharing P.with_entry P.without_entry) port.old.geometry.origin_blocks (order ∷ [])) (jobs_of port.old.geometry order) (client_state port.old) (client_state port.new)) }
+    ensures given_up { IfErr result (λ refusal. GaveUpAmong (Runs D.tells D.size D.contents D.faults (AskedSharing P.with_entry P.without_entry) port.old.geometry.origin_blocks (order ∷ [])) (jobs_of port.old.geometry order) refusal (client_state port.old) (client_state port.new)) }
     ensures geometry { port.new.geometry ≡ port.old.geometry }
 {
     match order {
         Order::Replace(victim, block, to) => {
             migrate(rt, target, gate, port, order, Migration::Demote, victim)?;
-            flush(rt, target, gate, port, &[order], Some(block))?;
+            let _ = flush(rt, target, gate, port, &[order], Some(block))?;
             migrate(rt, target, gate, port, order, Migration::Promote(to), block)
         }
         _ => {
@@ -244,10 +271,10 @@ impl<'t, D: Disk + Drop, P: Policy> Client<'t, D, P> {
     /// `Failed` where the target has failed; `Memory` where there is none; `Io` where a step failed; `GenerationEnd` where a
     /// replacement's commit has no next generation; `Range` for an order of blocks that are not there, of which none is given.
     pub fn work_one<R: Wait>(&mut self, rt: &R) -> Result<Option<Order>, Refusal>
-        ensures carried { IfOk result (λ told. IfSome told (λ order. (begun : _) × HasBegun (client_state self.old.port) begun × WereDone (Runs D.tells D.size D.contents D.faults (WasAsked P.with_entry P.without_entry) self.old.port.geometry.origin_blocks (order ∷ [])) (jobs_of self.old.port.geometry order) begun (client_state self.new.port))) }
+        ensures carried { IfOk result (λ told. IfSome told (λ order. (begun : _) × HasBegun (client_state self.old.port) begun × WereDone (Runs D.tells D.size D.contents D.faults (AskedSharing P.with_entry P.without_entry) self.old.port.geometry.origin_blocks (order ∷ [])) (jobs_of self.old.port.geometry order) begun (client_state self.new.port))) }
         ensures next { IfOk result (WasNext P) }
         ensures idle { IfOk result (λ told. IfNone told (HasBegun (client_state self.old.port) (client_state self.new.port))) }
-        ensures refused { IfErr result (λ refusal. OrderRefused (Runs D.tells D.size D.contents D.faults (WasAsked P.with_entry P.without_entry) self.old.port.geometry.origin_blocks) (WasNext P) self.old.port.geometry refusal (client_state self.old.port) (client_state self.new.port)) }
+        ensures refused { IfErr result (λ refusal. OrderRefused (Runs D.tells D.size D.contents D.faults (AskedSharing P.with_entry P.without_entry) self.old.port.geometry.origin_blocks) (WasNext P) self.old.port.geometry refusal (client_state self.old.port) (client_state self.new.port)) }
         ensures target { self.new.target ≡ self.old.target }
         ensures geometry { self.new.port.geometry ≡ self.old.port.geometry }
     {
@@ -266,20 +293,20 @@ impl<'t, D: Disk + Drop, P: Policy> Client<'t, D, P> {
         Ok(Some(order))
     }
 
-    /// Makes durable all that was finished before it: a commit of its own, after any that runs.
+    /// Makes durable all that was finished before it, by a commit that begins after it was called: `Led` where it was its own, `Served` where another client led
+    /// it, whose flush waited, too.
     ///
     /// `Failed` where the target has failed; `Io` where a step failed; `Memory` where there is none; `GenerationEnd` where there
     /// is no next generation.
     pub fn flush<R: Wait>(&mut self, rt: &R) -> Result<Flushed, Refusal>
-        ensures flushed { OnOk result (WasDone (Runs D.tells D.size D.contents D.faults (WasAsked P.with_entry P.without_entry) self.old.port.geometry.origin_blocks []) (flush_of self.old.port.geometry None) (client_state self.old.port) (client_state self.new.port)) }
-        ensures synced { OnOk result (D.tells → AreSynced D.contents self.new.port.hand.devices) }
-        ensures refused { IfErr result (λ refusal. FlushRefused (Runs D.tells D.size D.contents D.faults (WasAsked P.with_entry P.without_entry) self.old.port.geometry.origin_blocks) self.old.port.geometry refusal (client_state self.old.port) (client_state self.new.port)) }
+        ensures flushed { IfOk result (λ flushed. WasDoneWith D.tells D.size D.contents D.faults (AskedSharing P.with_entry P.without_entry) self.old.port.geometry.origin_blocks [] (flush_of self.old.port.geometry None) (share_of flushed) (client_state self.old.port) (client_state self.new.port)) }
+        ensures synced { IfOk result (λ flushed. flushed ≡ Flushed.Led → D.tells → AreSynced D.contents self.new.port.hand.devices) }
+        ensures refused { IfErr result (λ refusal. FlushRefused (Runs D.tells D.size D.contents D.faults (AskedSharing P.with_entry P.without_entry) self.old.port.geometry.origin_blocks) self.old.port.geometry refusal (client_state self.old.port) (client_state self.new.port)) }
         ensures target { self.new.target ≡ self.old.target }
         ensures geometry { self.new.port.geometry ≡ self.old.port.geometry }
     {
         let target = self.target;
-        flush(rt, target, &OpenGate, &mut self.port, &[], None)?;
-        Ok(Flushed::Led)
+        flush(rt, target, &OpenGate, &mut self.port, &[], None)
     }
 
     /// The policy's tick, over the blocks that are dirty now, and then a flush: orders that the policy gives wait to be taken. It
@@ -289,9 +316,9 @@ impl<'t, D: Disk + Drop, P: Policy> Client<'t, D, P> {
     /// told nothing. Else as `flush`, and then the orders stay.
     pub fn tick<R: Wait>(&mut self, rt: &R) -> Result<Flushed, Refusal>
         ensures ticked { OnOk result (HadTick P.cleaned P.ticked) }
-        ensures flushed { OnOk result (WasDone (Runs D.tells D.size D.contents D.faults (WasAsked P.with_entry P.without_entry) self.old.port.geometry.origin_blocks []) (flush_of self.old.port.geometry None) (looked_at_fail 0 (client_state self.old.port)) (client_state self.new.port)) }
-        ensures synced { OnOk result (D.tells → AreSynced D.contents self.new.port.hand.devices) }
-        ensures refused { IfErr result (λ refusal. TickRefused (Runs D.tells D.size D.contents D.faults (WasAsked P.with_entry P.without_entry) self.old.port.geometry.origin_blocks) self.old.port.geometry refusal (client_state self.old.port) (client_state self.new.port)) }
+        ensures flushed { IfOk result (λ flushed. WasDoneWith D.tells D.size D.contents D.faults (AskedSharing P.with_entry P.without_entry) self.old.port.geometry.origin_blocks [] (flush_of self.old.port.geometry None) (share_of flushed) (looked_at_fail 0 (client_state self.old.port)) (client_state self.new.port)) }
+        ensures synced { IfOk result (λ flushed. flushed ≡ Flushed.Led → D.tells → AreSynced D.contents self.new.port.hand.devices) }
+        ensures refused { IfErr result (λ refusal. TickRefused (Runs D.tells D.size D.contents D.faults (AskedSharing P.with_entry P.without_entry) self.old.port.geometry.origin_blocks) self.old.port.geometry refusal (client_state self.old.port) (client_state self.new.port)) }
         ensures target { self.new.target ≡ self.old.target }
         ensures geometry { self.new.port.geometry ≡ self.old.port.geometry }
     {

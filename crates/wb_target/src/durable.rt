@@ -1,11 +1,11 @@
 //! Writes that are durable when they are answered.
 
-ghost use Rattle.std.specs.Prelude.{◌≡◌, [], None, OnOk, IfErr, length};
+ghost use Rattle.std.specs.Prelude.{◌≡◌, [], None, IfOk, OnOk, IfErr, length};
 ghost use Rattle.wb_target.specs.Blocking.{WriteCame, IsInsideOrigin};
-ghost use Rattle.wb_target.specs.Carried.{client_state, Runs, WasDone, AreSynced, flush_of};
+ghost use Rattle.wb_target.specs.Carried.{client_state, Runs, WasDoneWith, AreSynced, flush_of, share_of};
 ghost use Rattle.wb_target.specs.Durable.{WroteDurably, StoppedDurably};
 ghost use Rattle.wb_target.specs.Workers.{FlushRefused};
-ghost use Rattle.wb_target.specs.Works.{WasAsked};
+ghost use Rattle.wb_target.specs.Works.{AskedSharing, WasAsked};
 
 use crate::blocking::Stopped;
 use crate::carrying::Flushed;
@@ -27,9 +27,9 @@ impl<'t, D: Disk + Drop, P: Policy> Client<'t, D, P> {
         from: &[Content],
     ) -> Result<Flushed, Stopped>
         ensures inside { OnOk result (IsInsideOrigin self.old.port.geometry at.0 (length from.now)) }
-        ensures written { OnOk result (WroteDurably (WriteCame D.tells D.size D.contents D.faults (WasAsked P.with_entry P.without_entry []) self.old.port.geometry) (WasDone (Runs D.tells D.size D.contents D.faults (WasAsked P.with_entry P.without_entry) self.old.port.geometry.origin_blocks []) (flush_of self.old.port.geometry None)) self.old.port.geometry at.0 from.now self.old.port.hand (client_state self.new.port)) }
-        ensures synced { OnOk result (D.tells → AreSynced D.contents self.new.port.hand.devices) }
-        ensures stopped { IfErr result (λ stopped. StoppedDurably (WriteCame D.tells D.size D.contents D.faults (WasAsked P.with_entry P.without_entry []) self.old.port.geometry) (FlushRefused (Runs D.tells D.size D.contents D.faults (WasAsked P.with_entry P.without_entry) self.old.port.geometry.origin_blocks) self.old.port.geometry) self.old.port.geometry at.0 stopped self.old.port.hand from.now (client_state self.new.port)) }
+        ensures written { IfOk result (λ flushed. WroteDurably (WriteCame D.tells D.size D.contents D.faults (WasAsked P.with_entry P.without_entry []) self.old.port.geometry) (WasDoneWith D.tells D.size D.contents D.faults (AskedSharing P.with_entry P.without_entry) self.old.port.geometry.origin_blocks [] (flush_of self.old.port.geometry None) (share_of flushed)) self.old.port.geometry at.0 from.now self.old.port.hand (client_state self.new.port)) }
+        ensures synced { IfOk result (λ flushed. flushed ≡ Flushed.Led → D.tells → AreSynced D.contents self.new.port.hand.devices) }
+        ensures stopped { IfErr result (λ stopped. StoppedDurably (WriteCame D.tells D.size D.contents D.faults (WasAsked P.with_entry P.without_entry []) self.old.port.geometry) (FlushRefused (Runs D.tells D.size D.contents D.faults (AskedSharing P.with_entry P.without_entry) self.old.port.geometry.origin_blocks) self.old.port.geometry) self.old.port.geometry at.0 stopped self.old.port.hand from.now (client_state self.new.port)) }
         ensures target { self.new.target ≡ self.old.target }
         ensures geometry { self.new.port.geometry ≡ self.old.port.geometry }
     {

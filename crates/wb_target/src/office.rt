@@ -23,18 +23,11 @@ pub(crate) struct Office<P: Policy> {
     pub(crate) desk: Desk<P>,
     pub(crate) seats: Vec<Seat>,
     pub(crate) watch: Seat,
-    /// Whether a client met a failed write or sync: the commit that runs then never ends.
-    pub(crate) failed: bool,
 }
 
 impl<P: Policy> Drop for Office<P> {
     fn drop(self) {
-        let Office {
-            desk,
-            seats,
-            watch,
-            failed: _,
-        } = self;
+        let Office { desk, seats, watch } = self;
         drop(desk);
         drop(seats);
         drop(watch);

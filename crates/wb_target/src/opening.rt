@@ -91,12 +91,7 @@ pub(crate) fn office_over<P: Policy>(
     seal_all(&lent.cells, &mut lent.pass, &geometry, entries.as_slice())?;
     let desk = Desk::new(alloc, state, mode, policy, keys)?;
     let (seats, watch) = seats_of(alloc, seat)?;
-    Ok(Office {
-        desk,
-        seats,
-        watch,
-        failed: false,
-    })
+    Ok(Office { desk, seats, watch })
 }
 
 /// The entries of all cache blocks, as an opening goes by them.

@@ -5,7 +5,7 @@ ghost use Rattle.wb_words.specs.declared.card.Hold.TheVariants.{Nothing};
 ghost use Rattle.wb_tasks.specs.Tables.{TaskJob};
 ghost use Rattle.wb_tasks.specs.Plan.{table};
 ghost use Rattle.wb_stage.specs.Jobs.{MayRun};
-ghost use Rattle.wb_target.specs.Works.{WasAsked, WasPerformed, MayMigrate};
+ghost use Rattle.wb_target.specs.Works.{AskedSharing, PerformedWith, MayMigrate};
 
 use crate::gate::Gate;
 use crate::target::Target;
@@ -16,6 +16,7 @@ use wb_devices::RunningCommit;
 use wb_disk::Disk;
 use wb_policy::{Order, Policy};
 use wb_port::Hand;
+use wb_stage::Share;
 use wb_tasks::{Answer, Task, drive};
 use wb_types::Content;
 
@@ -25,10 +26,12 @@ impl<'a, R: Wait, D: Disk, P: Policy, G: Gate> WorkStage<'a, R, D, P, G> {
         requires begun { (job : TaskJob) × (T.plan task.old ≡ table job) × MayRun self.old.cells.now.blocks job × MayMigrate self.old.hand.now.block_sectors self.old.held.now job }
         requires at { self.old.hand.now.pass.table ≡ self.old.cells.now.table }
         requires idle { self.old.hand.now.pass.card.hold ≡ Nothing }
-        ensures performed { WasPerformed D.tells D.size D.contents D.faults (WasAsked P.with_entry P.without_entry self.old.held.now) self.old.cells.now.blocks (T.plan task.old) (record { hand = self.old.hand.now; buffer = self.old.buffer.now; commit = self.old.commit.now }) result (record { hand = self.new.hand.now; buffer = self.new.buffer.now; commit = self.new.commit.now }) }
+        requires unshared { self.old.share.now ≡ Share.Nothing }
+        ensures performed { PerformedWith D.tells D.size D.contents D.faults (AskedSharing P.with_entry P.without_entry self.old.held.now) self.old.cells.now.blocks (T.plan task.old) (record { hand = self.old.hand.now; buffer = self.old.buffer.now; commit = self.old.commit.now }) result (record { hand = self.new.hand.now; buffer = self.new.buffer.now; commit = self.new.commit.now }) self.new.share.now }
         ensures same_hand { self.new.hand.ghost_name ≡ self.old.hand.ghost_name }
         ensures same_buffer { self.new.buffer.ghost_name ≡ self.old.buffer.ghost_name }
         ensures same_commit { self.new.commit.ghost_name ≡ self.old.commit.ghost_name }
+        ensures same_share { self.new.share.ghost_name ≡ self.old.share.ghost_name }
         ensures at { self.new.hand.now.pass.table ≡ self.old.hand.now.pass.table }
         ensures idle { self.new.hand.now.pass.card.hold ≡ Nothing }
         ensures block { self.new.hand.now.block_sectors ≡ self.old.hand.now.block_sectors }
@@ -47,12 +50,14 @@ pub(crate) fn perform_task<'a, R: Wait, D: Disk, P: Policy, G: Gate, T: Task>(
     buffer: &'a mut [Content],
     held: &'a [Order],
     commit: &'a mut Option<RunningCommit>,
+    share: &'a mut Share,
     task: &mut T,
 ) -> Answer
     requires begun { (job : TaskJob) × (T.plan task.old ≡ table job) × MayRun cells.now.blocks job × MayMigrate hand.old.block_sectors held.now job }
     requires at { hand.old.pass.table ≡ cells.now.table }
     requires idle { hand.old.pass.card.hold ≡ Nothing }
-    ensures performed { WasPerformed D.tells D.size D.contents D.faults (WasAsked P.with_entry P.without_entry held.now) cells.now.blocks (T.plan task.old) (record { hand = hand.old; buffer = buffer.old; commit = commit.old }) result (record { hand = hand.new; buffer = buffer.new; commit = commit.new }) }
+    requires unshared { share.old ≡ Share.Nothing }
+    ensures performed { PerformedWith D.tells D.size D.contents D.faults (AskedSharing P.with_entry P.without_entry held.now) cells.now.blocks (T.plan task.old) (record { hand = hand.old; buffer = buffer.old; commit = commit.old }) result (record { hand = hand.new; buffer = buffer.new; commit = commit.new }) share.new }
     ensures at { hand.new.pass.table ≡ hand.old.pass.table }
     ensures idle { hand.new.pass.card.hold ≡ Nothing }
     ensures block { hand.new.block_sectors ≡ hand.old.block_sectors }
@@ -65,6 +70,7 @@ pub(crate) fn perform_task<'a, R: Wait, D: Disk, P: Policy, G: Gate, T: Task>(
         buffer,
         held,
         commit,
+        share,
         gate,
     };
     stage.run(task)

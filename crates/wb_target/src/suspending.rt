@@ -25,7 +25,7 @@ use wb_disk::Disk;
 use wb_flow::CommitTask;
 use wb_policy::Policy;
 use wb_port::Seat;
-use wb_stage::{asking, seen};
+use wb_stage::{Share, asking, seen};
 use wb_tasks::{Answer, CellResult, CellStep, DeskStep, DeviceStep, Got, Stage, Task, Want, drive};
 use wb_types::{CBlock, Content, Entry, OBlock, Refusal};
 use wb_words::Word;
@@ -98,18 +98,31 @@ impl<'a, D: Disk, P: Policy> SuspendStage<'a, D, P> {
         ensures works { WorksOn D.tells D.size D.contents D.faults (AskedWith P.hint_of P.with_entry P.without_entry self.old.seen.items) self.old.devices self.old.buffer.items self.old.commit (AskDesk step) result self.new.devices self.new.buffer.items self.new.commit }
     {
         match step {
-            DeskStep::BeginCommit(_, most) => {
+            DeskStep::BeginCommit(most) => {
                 asking::begin_commit(
                     self.alloc,
                     self.desk,
                     &mut self.commit,
-                    Some(self.seen.as_slice()),
+                    self.seen.as_slice(),
                     most,
                 )
             }
-            DeskStep::EndCommit => {
-                asking::ask(self.alloc, self.desk, &mut self.commit, &[], step)
-            }
+            DeskStep::EndCommit => asking::ask(
+                self.alloc,
+                self.desk,
+                &mut self.commit,
+                &mut Share::Nothing,
+                &[],
+                step,
+            ),
+            DeskStep::BreakCommit => asking::ask(
+                self.alloc,
+                self.desk,
+                &mut self.commit,
+                &mut Share::Nothing,
+                &[],
+                step,
+            ),
             _ => unreachable!(),
         }
     }

@@ -25,7 +25,7 @@ use wb_types::{Geometry, Key, Mode, OBlock, Refusal};
 /// How many clients a target has at most.
 pub const CLIENTS: usize = 64;
 
-/// An opened cache: its desk behind a lock, and a bell that rings when a commit has ended, or never will.
+/// An opened cache: its desk behind a lock, and a bell that rings when a commit has ended, or was broken.
 pub struct Target<P: Policy> {
     pub(crate) alloc: Global,
     pub(crate) geometry: Geometry,
@@ -190,23 +190,6 @@ impl<P: Policy> Target<P> {
         ensures { WasNext P result }
     {
         self.office.lock(rt).desk.next_order()
-    }
-
-    /// Waits while another client's commit runs; not for one that has failed.
-    pub(crate) fn await_commit<R: Wait>(&self, rt: &R) {
-        let mut office = self.office.lock(rt);
-        for _ in rt.forever() {
-            if office.failed || !office.desk.is_committing() {
-                return;
-            }
-            office = self.bell.wait(rt, office);
-        }
-    }
-
-    /// A client met a failed write or sync: whoever waits is woken.
-    pub(crate) fn note_failure<R: Wait>(&self, rt: &R) {
-        self.office.lock(rt).failed = true;
-        self.bell.notify_all();
     }
 
     /// A port's seat goes back to the office.

@@ -4,7 +4,7 @@ ghost use Rattle.std.specs.Prelude.{◌≡◌, ◌⊎◌, OnOk, IfOk, IfErr, Non
 ghost use Rattle.std.specs.Bool.{OnTrue, OnFalse};
 ghost use Rattle.wb_target.specs.declared.gate.Point.TheVariants.{Order as BeforeOrder};
 ghost use Rattle.wb_target.specs.Carried.{client_state, Runs, BlocksAreThere};
-ghost use Rattle.wb_target.specs.Works.{WasAsked};
+ghost use Rattle.wb_target.specs.Works.{AskedSharing};
 ghost use Rattle.wb_target.specs.Told.{WasNext};
 ghost use Rattle.wb_target.specs.Workers.{IsFailure, HasBuffer, EndedBy, FailedAfter, Took, StoppedAt};
 
@@ -27,9 +27,9 @@ impl<'t, D: Disk + Drop, P: Policy> Client<'t, D, P> {
     ///
     /// `Failed` where the target has failed; `Io` where a write or sync of its own failed.
     pub fn worker<R: Wait, G: Gate>(&mut self, rt: &R, gate: &G) -> Result<(), Refusal>
-        ensures ended { OnOk result (EndedBy (Runs D.tells D.size D.contents D.faults (WasAsked P.with_entry P.without_entry) self.old.port.geometry.origin_blocks) (WasNext P) self.old.port.geometry G.answers gate.now (client_state self.old.port) (client_state self.new.port)) }
+        ensures ended { OnOk result (EndedBy (Runs D.tells D.size D.contents D.faults (AskedSharing P.with_entry P.without_entry) self.old.port.geometry.origin_blocks) (WasNext P) self.old.port.geometry G.answers gate.now (client_state self.old.port) (client_state self.new.port)) }
         ensures refused { IfErr result IsFailure }
-        ensures failed { IfErr result (λ refusal. FailedAfter (Runs D.tells D.size D.contents D.faults (WasAsked P.with_entry P.without_entry) self.old.port.geometry.origin_blocks) (WasNext P) self.old.port.geometry G.answers gate.now refusal (client_state self.old.port) (client_state self.new.port)) }
+        ensures failed { IfErr result (λ refusal. FailedAfter (Runs D.tells D.size D.contents D.faults (AskedSharing P.with_entry P.without_entry) self.old.port.geometry.origin_blocks) (WasNext P) self.old.port.geometry G.answers gate.now refusal (client_state self.old.port) (client_state self.new.port)) }
         ensures target { self.new.target ≡ self.old.target }
         ensures geometry { self.new.port.geometry ≡ self.old.port.geometry }
     {
@@ -45,9 +45,9 @@ fn work_off<R: Wait, D: Disk + Drop, P: Policy, G: Gate>(
     gate: &G,
     port: &mut Port<D>,
 ) -> Result<(), Refusal>
-    ensures ended { OnOk result (EndedBy (Runs D.tells D.size D.contents D.faults (WasAsked P.with_entry P.without_entry) port.old.geometry.origin_blocks) (WasNext P) port.old.geometry G.answers gate.now (client_state port.old) (client_state port.new)) }
+    ensures ended { OnOk result (EndedBy (Runs D.tells D.size D.contents D.faults (AskedSharing P.with_entry P.without_entry) port.old.geometry.origin_blocks) (WasNext P) port.old.geometry G.answers gate.now (client_state port.old) (client_state port.new)) }
     ensures refused { IfErr result IsFailure }
-    ensures failed { IfErr result (λ refusal. FailedAfter (Runs D.tells D.size D.contents D.faults (WasAsked P.with_entry P.without_entry) port.old.geometry.origin_blocks) (WasNext P) port.old.geometry G.answers gate.now refusal (client_state port.old) (client_state port.new)) }
+    ensures failed { IfErr result (λ refusal. FailedAfter (Runs D.tells D.size D.contents D.faults (AskedSharing P.with_entry P.without_entry) port.old.geometry.origin_blocks) (WasNext P) port.old.geometry G.answers gate.now refusal (client_state port.old) (client_state port.new)) }
     ensures geometry { port.new.geometry ≡ port.old.geometry }
 {
     for _ in rt.forever() {
@@ -77,11 +77,11 @@ fn take_turn<R: Wait, D: Disk + Drop, P: Policy, G: Gate>(
     port: &mut Port<D>,
 ) -> Result<bool, Refusal>
     requires let_by { G.answers gate.now BeforeOrder true }
-    ensures took { IfOk result (λ took. took ≡ true → Took (Runs D.tells D.size D.contents D.faults (WasAsked P.with_entry P.without_entry) port.old.geometry.origin_blocks) (WasNext P) port.old.geometry (client_state port.old) (client_state port.new)) }
+    ensures took { IfOk result (λ took. took ≡ true → Took (Runs D.tells D.size D.contents D.faults (AskedSharing P.with_entry P.without_entry) port.old.geometry.origin_blocks) (WasNext P) port.old.geometry (client_state port.old) (client_state port.new)) }
     ensures none_waits { IfOk result (λ took. took ≡ false → client_state port.new ≡ client_state port.old) }
     ensures none_next { IfOk result (λ took. took ≡ false → WasNext P None) }
     ensures refused { IfErr result IsFailure }
-    ensures stopped { IfErr result (λ refusal. StoppedAt (Runs D.tells D.size D.contents D.faults (WasAsked P.with_entry P.without_entry) port.old.geometry.origin_blocks) (WasNext P) port.old.geometry (client_state port.old) (client_state port.new)) }
+    ensures stopped { IfErr result (λ refusal. StoppedAt (Runs D.tells D.size D.contents D.faults (AskedSharing P.with_entry P.without_entry) port.old.geometry.origin_blocks) (WasNext P) port.old.geometry (client_state port.old) (client_state port.new)) }
     ensures geometry { port.new.geometry ≡ port.old.geometry }
 {
     let Some(order) = target.take_order(rt) else {

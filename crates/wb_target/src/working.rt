@@ -8,6 +8,7 @@ use wb_cells::Cells;
 use wb_devices::RunningCommit;
 use wb_policy::{Order, Policy};
 use wb_port::Hand;
+use wb_stage::Share;
 use wb_types::Content;
 
 /// The stage of a migration or a flush.
@@ -23,6 +24,8 @@ pub struct WorkStage<'a, R: Wait, D, P: Policy, G: Gate> {
     pub held: &'a [Order],
     /// The commit that it runs, if any.
     pub commit: &'a mut Option<RunningCommit>,
+    /// What it has of the commits that others lead.
+    pub share: &'a mut Share,
     /// It is asked before each step on a device.
     pub gate: &'a G,
 }

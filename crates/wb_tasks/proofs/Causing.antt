@@ -20,12 +20,12 @@ use Rattle.wb_tasks.specs.Causes.{Causes, GaveCause}
 use Rattle.wb_words.specs.declared.step.CellStep.TheVariants.{Look, Take, Release, Seal, Finish, Count, SetFailed, SetSuspended}
 use Rattle.wb_tasks.specs.declared.step.DeviceStep.{DeviceStep}
 use Rattle.wb_tasks.specs.declared.step.DeviceStep.TheVariants.{Read, Write, Sync, ReadMetadata, WriteNode, WriteRoot}
-use Rattle.wb_tasks.specs.declared.step.DeskStep.TheVariants.{Map, Unmap, ReleaseOrder, BeginCommit, EndCommit}
+use Rattle.wb_tasks.specs.declared.step.DeskStep.TheVariants.{Map, Unmap, ReleaseOrder, Arrive, Ask, BeginCommit, EndCommit, BreakCommit}
 use Rattle.wb_tasks.specs.declared.step.Migration.TheVariants.{Promote, Demote, Clean}
 use Rattle.wb_tasks.specs.declared.step.Want.{Want}
 use Rattle.wb_tasks.specs.declared.step.Want.TheVariants.{Cell, Device, Desk, End}
 use Rattle.wb_tasks.specs.declared.step.Got.{Got}
-use Rattle.wb_tasks.specs.declared.step.Got.TheVariants.{Done, Word, Lost, Fault, Refused, Began, More}
+use Rattle.wb_tasks.specs.declared.step.Got.TheVariants.{Done, Word, Lost, Fault, Refused, Began, Ticket, Served, More}
 use Rattle.wb_tasks.specs.declared.step.Answer.TheVariants.{Done as Finished, Refused as Refuses}
 
 -- steps, and no answer among them
@@ -99,6 +99,7 @@ AreCalm [] = Unit {0}
 AreCalm (Cell (Release access block) ∷ ws) = AreCalm ws
 AreCalm (Cell SetFailed ∷ ws) = AreCalm ws
 AreCalm (Desk (ReleaseOrder block) ∷ ws) = AreCalm ws
+AreCalm (Desk BreakCommit ∷ ws) = AreCalm ws
 AreCalm (w ∷ ws) = ⊥
 
 calm_orders : (blocks : List OBlock) → AreCalm (release_orders blocks)
@@ -135,9 +136,11 @@ only_done : (w : Want) (ws : List Want) (g : Got) → AreCalm (w ∷ ws) → Fit
 only_done (Cell (Release access block)) ws Done calm f = (refl, calm)
 only_done (Cell SetFailed) ws Done calm f = (refl, calm)
 only_done (Desk (ReleaseOrder block)) ws Done calm f = (refl, calm)
+only_done (Desk BreakCommit) ws Done calm f = (refl, calm)
 only_done (Cell (Release access block)) ws g calm f = absurd f
 only_done (Cell SetFailed) ws g calm f = absurd f
 only_done (Desk (ReleaseOrder block)) ws g calm f = absurd f
+only_done (Desk BreakCommit) ws g calm f = absurd f
 only_done w ws g calm f = absurd calm
 
 no_answer : (w : Want) (ws : List Want) (x : Refusal) → AreCalm (w ∷ ws) → w ≢ End (Refuses x)
@@ -253,11 +256,22 @@ outcome job (Desk (Map block place) ∷ ws) Done own h = inr (ws, own, refl)
 outcome job (Desk (Map block place) ∷ ws) (Refused Memory) own h = inl (Memory, refl, answers (going job ws) (lets_go job) Memory (calm_lets_go job))
 outcome job (Desk (Unmap block) ∷ ws) Done own h = inr (ws, own, refl)
 outcome job (Desk (ReleaseOrder block) ∷ ws) Done own h = inr (ws, own, refl)
-outcome job (Desk (BeginCommit clean most) ∷ ws) (Refused Busy) own h = inl (Busy, refl, answers (going job ws) [] Busy tt)
-outcome job (Desk (BeginCommit clean most) ∷ ws) (Refused Memory) own h = inl (Memory, refl, answers (going job ws) (lets_go job) Memory (calm_lets_go job))
-outcome job (Desk (BeginCommit clean most) ∷ ws) (Refused GenerationEnd) own h = inl (GenerationEnd, refl, answers (going job ws) (lets_go job) GenerationEnd (calm_lets_go job))
-outcome job (Desk (BeginCommit clean most) ∷ ws) (Began nodes) own h = inr (begun_steps job nodes, own_begun job nodes, refl)
+outcome job (Desk (Arrive most) ∷ ws) (Refused Failed) own h = inl (Failed, refl, answers (going job ws) [] Failed tt)
+outcome job (Desk (Ask most) ∷ ws) (Refused Failed) own h = inl (Failed, refl, answers (going job ws) [] Failed tt)
+outcome job (Desk (BeginCommit most) ∷ ws) (Refused Busy) own h = inl (Busy, refl, answers (going job ws) (lets_go job) Busy (calm_lets_go job))
+outcome job (Desk (Arrive most) ∷ ws) (Refused Memory) own h = inl (Memory, refl, answers (going job ws) (lets_go job) Memory (calm_lets_go job))
+outcome job (Desk (Ask most) ∷ ws) (Refused Memory) own h = inl (Memory, refl, answers (going job ws) (lets_go job) Memory (calm_lets_go job))
+outcome job (Desk (BeginCommit most) ∷ ws) (Refused Memory) own h = inl (Memory, refl, answers (going job ws) (lets_go job) Memory (calm_lets_go job))
+outcome job (Desk (Arrive most) ∷ ws) (Refused GenerationEnd) own h = inl (GenerationEnd, refl, answers (going job ws) (lets_go job) GenerationEnd (calm_lets_go job))
+outcome job (Desk (Ask most) ∷ ws) (Refused GenerationEnd) own h = inl (GenerationEnd, refl, answers (going job ws) (lets_go job) GenerationEnd (calm_lets_go job))
+outcome job (Desk (BeginCommit most) ∷ ws) (Refused GenerationEnd) own h = inl (GenerationEnd, refl, answers (going job ws) (lets_go job) GenerationEnd (calm_lets_go job))
+outcome job (Desk (Arrive most) ∷ ws) (Began nodes) own h = inr (begun_steps job nodes, own_begun job nodes, refl)
+outcome job (Desk (Ask most) ∷ ws) (Began nodes) own h = inr (begun_steps job nodes, own_begun job nodes, refl)
+outcome job (Desk (BeginCommit most) ∷ ws) (Began nodes) own h = inr (begun_steps job nodes, own_begun job nodes, refl)
+outcome job (Desk (Arrive most) ∷ ws) Ticket own h = inr (Desk (Ask most) ∷ [], tt, refl)
+outcome job (Desk (Ask most) ∷ ws) Served own h = inr ([], tt, refl)
 outcome job (Desk EndCommit ∷ ws) Done own h = inr (ws, own, refl)
+outcome job (Desk BreakCommit ∷ ws) Done own h = inr (ws, own, refl)
 outcome job (End b ∷ ws) g own h = absurd own
 outcome job (w ∷ ws) g own h = absurd h
 

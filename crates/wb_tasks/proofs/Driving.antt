@@ -18,12 +18,12 @@ use Rattle.wb_tasks.specs.Length.{most_written, longest_work, longest_failing, l
 use Rattle.wb_words.specs.declared.step.CellStep.TheVariants.{Look, Take, Release, Seal, Finish, Count, SetFailed, SetSuspended}
 use Rattle.wb_tasks.specs.declared.step.DeviceStep.{DeviceStep}
 use Rattle.wb_tasks.specs.declared.step.DeviceStep.TheVariants.{Read, Write, Sync, ReadMetadata, WriteNode, WriteRoot}
-use Rattle.wb_tasks.specs.declared.step.DeskStep.TheVariants.{Map, Unmap, ReleaseOrder, BeginCommit, EndCommit}
+use Rattle.wb_tasks.specs.declared.step.DeskStep.TheVariants.{Map, Unmap, ReleaseOrder, Arrive, Ask, BeginCommit, EndCommit, BreakCommit}
 use Rattle.wb_tasks.specs.declared.step.Migration.TheVariants.{Promote, Demote, Clean}
 use Rattle.wb_tasks.specs.declared.step.Want.{Want}
 use Rattle.wb_tasks.specs.declared.step.Want.TheVariants.{Cell, Device, Desk, End}
 use Rattle.wb_tasks.specs.declared.step.Got.{Got}
-use Rattle.wb_tasks.specs.declared.step.Got.TheVariants.{Begin, Done, Word, Lost, Fault, Refused, Began, More}
+use Rattle.wb_tasks.specs.declared.step.Got.TheVariants.{Begin, Done, Word, Lost, Fault, Refused, Began, Ticket, Served, More}
 use Rattle.wb_tasks.specs.declared.step.Answer.{Answer}
 use Rattle.wb_tasks.specs.declared.step.Answer.TheVariants.{Refused as Refuses}
 
@@ -43,6 +43,8 @@ no_result a Lost h = h
 no_result a Fault h = h
 no_result a (Refused refusal) h = h
 no_result a (Began nodes) h = h
+no_result a Ticket h = h
+no_result a Served h = h
 no_result a More h = h
 
 -- the answer is a step too
@@ -69,8 +71,11 @@ longest_of-some job (Device WriteRoot ∷ ws) = omega arith
 longest_of-some job (Desk (Map b c) ∷ ws) = omega arith
 longest_of-some job (Desk (Unmap b) ∷ ws) = omega arith
 longest_of-some job (Desk (ReleaseOrder b) ∷ ws) = omega arith
-longest_of-some job (Desk (BeginCommit clean most) ∷ ws) = omega arith
+longest_of-some job (Desk (Arrive most) ∷ ws) = omega arith
+longest_of-some job (Desk (Ask most) ∷ ws) = omega arith
+longest_of-some job (Desk (BeginCommit most) ∷ ws) = omega arith
 longest_of-some job (Desk EndCommit ∷ ws) = omega arith
+longest_of-some job (Desk BreakCommit ∷ ws) = omega arith
 longest_of-some job (End a ∷ ws) = omega arith
 
 -- a step for each extent, before others that take as long as a failure
@@ -247,11 +252,22 @@ falls job (Desk (Map block place) ∷ ws) a Done h = omega arith
 falls job (Desk (Unmap block) ∷ ws) a Done h = omega arith
 falls job (Desk (ReleaseOrder block) ∷ ws) a Done h = omega arith
 falls job (Desk EndCommit ∷ ws) a Done h = omega arith
+falls job (Desk BreakCommit ∷ ws) a Done h = omega arith
 falls job (Desk (Map block place) ∷ ws) a (Refused refusal) h = omega (arith, longest_of-let_go job)
-falls job (Desk (BeginCommit clean most) ∷ ws) a (Refused Busy) h = omega arith
-falls job (Desk (BeginCommit clean most) ∷ ws) a (Refused Memory) h = omega (arith, longest_of-let_go job)
-falls job (Desk (BeginCommit clean most) ∷ ws) a (Refused GenerationEnd) h = omega (arith, longest_of-let_go job)
-falls job (Desk (BeginCommit clean most) ∷ ws) a (Began nodes) h = omega (arith, longest_of-commit job nodes, h)
+falls job (Desk (Arrive most) ∷ ws) a (Refused Failed) h = omega arith
+falls job (Desk (Ask most) ∷ ws) a (Refused Failed) h = omega arith
+falls job (Desk (BeginCommit most) ∷ ws) a (Refused Busy) h = omega (arith, longest_of-let_go job)
+falls job (Desk (Arrive most) ∷ ws) a (Refused Memory) h = omega (arith, longest_of-let_go job)
+falls job (Desk (Ask most) ∷ ws) a (Refused Memory) h = omega (arith, longest_of-let_go job)
+falls job (Desk (BeginCommit most) ∷ ws) a (Refused Memory) h = omega (arith, longest_of-let_go job)
+falls job (Desk (Arrive most) ∷ ws) a (Refused GenerationEnd) h = omega (arith, longest_of-let_go job)
+falls job (Desk (Ask most) ∷ ws) a (Refused GenerationEnd) h = omega (arith, longest_of-let_go job)
+falls job (Desk (BeginCommit most) ∷ ws) a (Refused GenerationEnd) h = omega (arith, longest_of-let_go job)
+falls job (Desk (Arrive most) ∷ ws) a (Began nodes) h = omega (arith, longest_of-commit job nodes, h)
+falls job (Desk (Ask most) ∷ ws) a (Began nodes) h = omega (arith, longest_of-commit job nodes, h)
+falls job (Desk (BeginCommit most) ∷ ws) a (Began nodes) h = omega (arith, longest_of-commit job nodes, h)
+falls job (Desk (Arrive most) ∷ ws) a Ticket h = omega arith
+falls job (Desk (Ask most) ∷ ws) a Served h = omega arith
 falls job (End b ∷ ws) a g h = absurd (no_result b g h)
 falls job (w ∷ ws) a g h = absurd h
 

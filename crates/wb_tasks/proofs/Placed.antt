@@ -22,7 +22,8 @@ use Rattle.wb_tasks.specs.Run.{Leads}
 use Rattle.wb_tasks.specs.Ready.{AreFirst, Has, HasBlock, Suits, SuitsJob, IsOwnStep, IsAsked, MayMake, block_of, left_by}
 use Rattle.wb_tasks.specs.declared.step.DeviceStep.{DeviceStep}
 use Rattle.wb_tasks.specs.declared.step.DeviceStep.TheVariants.{Read, Write, Sync, ReadMetadata, WriteNode, WriteRoot}
-use Rattle.wb_tasks.specs.declared.step.DeskStep.TheVariants.{Map, Unmap, ReleaseOrder, BeginCommit, EndCommit}
+use Rattle.wb_tasks.specs.declared.step.DeskStep.{DeskStep}
+use Rattle.wb_tasks.specs.declared.step.DeskStep.TheVariants.{Map, Unmap, ReleaseOrder, Arrive, Ask, BeginCommit, EndCommit, BreakCommit}
 use Rattle.wb_tasks.specs.declared.step.Answer.{Answer}
 use Rattle.wb_tasks.specs.declared.step.Want.{Want}
 use Rattle.wb_tasks.specs.declared.step.Want.TheVariants.{Cell, Device, Desk, End}
@@ -80,20 +81,20 @@ not_seal hold word n = refl
 own_seal : (hold : Hold) (access : Access) (a b : OBlock) → hold ≡ Held access a → b ≡ a → is_own_seal hold (SealWord b) ≡ true
 own_seal hold access a b e f = ap (λ (h : Hold). is_own_seal h (SealWord b)) e ∙ (ap (λ (z : OBlock). z.0 == a.0) f ∙ eq-eqb a.0 a.0 refl)
 
--- no job on a block asks for a commit
-no_commit : (job : BlockJob) (clean : Bool) (most : ℕ) → IsAsked job (BeginCommit clean most) → ⊥
-no_commit (Reading part) clean most a = a
-no_commit (Writing part) clean most a = a
-no_commit (Displacing part) clean most a = a
-no_commit (Invalidating part) clean most a = a
-no_commit (Migrating migration part) clean most a = a
+-- of the desk a job on a block asks what concerns its block alone
+abbrev IsOfBlock : DeskStep → Type 0
+IsOfBlock (Map block place) = Unit {0}
+IsOfBlock (Unmap block) = Unit {0}
+IsOfBlock (ReleaseOrder block) = Unit {0}
+IsOfBlock step = ⊥
 
-no_end : (job : BlockJob) → IsAsked job EndCommit → ⊥
-no_end (Reading part) a = a
-no_end (Writing part) a = a
-no_end (Displacing part) a = a
-no_end (Invalidating part) a = a
-no_end (Migrating migration part) a = a
+asked_of_block : (job : BlockJob) (step : DeskStep) → IsAsked job step → IsOfBlock step
+asked_of_block (Displacing part) (Unmap block) a = tt
+asked_of_block (Invalidating part) (Unmap block) a = tt
+asked_of_block (Migrating migration part) (Map block place) a = tt
+asked_of_block (Migrating migration part) (Unmap block) a = tt
+asked_of_block (Migrating migration part) (ReleaseOrder block) a = tt
+asked_of_block job step a = absurd a
 
 gives_up_still : (job : BlockJob) → IsStill (gives_up job)
 gives_up_still job = parting_has IsStill job tt (λ block. tt)
@@ -181,8 +182,11 @@ module _ (P : OfStep) (job : BlockJob) (works : Works (Followed P) job) where
   placed_on card card' answer (Desk (Map b place) ∷ ws) (Refused refusal) h o p f made = inl (gives_up_still job)
   placed_on card card' answer (Desk (Unmap b) ∷ ws) Done h o p f made = passed card card' (Desk (Unmap b)) ws (λ n. n) (λ place dirty w. w) made p
   placed_on card card' answer (Desk (ReleaseOrder b) ∷ ws) Done h o p f made = passed card card' (Desk (ReleaseOrder b)) ws (λ n. n) (λ place dirty w. w) made p
-  placed_on card card' answer (Desk (BeginCommit clean most) ∷ ws) got h o p f made = absurd (no_commit job clean most o)
-  placed_on card card' answer (Desk EndCommit ∷ ws) got h o p f made = absurd (no_end job o)
+  placed_on card card' answer (Desk (Arrive most) ∷ ws) got h o p f made = absurd (asked_of_block job (Arrive most) o)
+  placed_on card card' answer (Desk (Ask most) ∷ ws) got h o p f made = absurd (asked_of_block job (Ask most) o)
+  placed_on card card' answer (Desk (BeginCommit most) ∷ ws) got h o p f made = absurd (asked_of_block job (BeginCommit most) o)
+  placed_on card card' answer (Desk EndCommit ∷ ws) got h o p f made = absurd (asked_of_block job EndCommit o)
+  placed_on card card' answer (Desk BreakCommit ∷ ws) got h o p f made = absurd (asked_of_block job BreakCommit o)
   placed_on card card' answer (End a ∷ ws) got h o p f made = absurd (no_result a got f)
   placed_on card card' answer (w ∷ ws) got h o p f made = absurd f
 

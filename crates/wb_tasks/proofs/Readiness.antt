@@ -26,14 +26,14 @@ use Rattle.wb_tasks.specs.Ready.{MayTake, MayMake, block_of, HasBlock, KnowsNext
 use Rattle.wb_tasks.specs.Plan.{Plan, table, want, after, first_step, gives_back, gives_up, release_orders, node_writes, root_steps, commit_steps, seal_looks, answer_at, lets_go, exchange, may_take, is_worn, Fits, got_of}
 use Rattle.wb_tasks.specs.declared.step.Answer.{Answer}
 use Rattle.wb_tasks.specs.declared.step.Answer.TheVariants.{Refused as Refuses}
-use Rattle.wb_tasks.specs.declared.step.DeskStep.TheVariants.{Map, Unmap, ReleaseOrder, BeginCommit, EndCommit}
+use Rattle.wb_tasks.specs.declared.step.DeskStep.TheVariants.{Map, Unmap, ReleaseOrder, Arrive, Ask, BeginCommit, EndCommit, BreakCommit}
 use Rattle.wb_tasks.specs.declared.step.DeviceStep.{DeviceStep}
 use Rattle.wb_tasks.specs.declared.step.DeviceStep.TheVariants.{Read, Write, Sync, ReadMetadata, WriteNode, WriteRoot}
 use Rattle.wb_tasks.specs.declared.step.Migration.TheVariants.{Promote, Demote, Clean}
 use Rattle.wb_tasks.specs.declared.step.Want.{Want}
 use Rattle.wb_tasks.specs.declared.step.Want.TheVariants.{Cell, Device, Desk, End}
 use Rattle.wb_tasks.specs.declared.step.Got.{Got}
-use Rattle.wb_tasks.specs.declared.step.Got.TheVariants.{Begin, Done, Word, Lost, Fault, Refused, Began, More}
+use Rattle.wb_tasks.specs.declared.step.Got.TheVariants.{Begin, Done, Word, Lost, Fault, Refused, Began, Ticket, Served, More}
 
 -- the work of a job is of its own steps
 rest_work : (job : BlockJob) (place : Option CBlock) (dirty : Bool) → IsRest job true (work job place dirty)
@@ -130,8 +130,11 @@ parted job card (Desk (ReleaseOrder block) ∷ []) p h = (h, p, refl)
 parted job card (Desk (ReleaseOrder block) ∷ (w ∷ ws)) p h = absurd p
 parted job card (Desk (Map block place) ∷ ws) p h = absurd p
 parted job card (Desk (Unmap block) ∷ ws) p h = absurd p
-parted job card (Desk (BeginCommit clean most) ∷ ws) p h = absurd p
+parted job card (Desk (Arrive most) ∷ ws) p h = absurd p
+parted job card (Desk (Ask most) ∷ ws) p h = absurd p
+parted job card (Desk (BeginCommit most) ∷ ws) p h = absurd p
 parted job card (Desk EndCommit ∷ ws) p h = absurd p
+parted job card (Desk BreakCommit ∷ ws) p h = absurd p
 parted job card (Cell step ∷ ws) p h = absurd p
 parted job card (Device step ∷ ws) p h = absurd p
 parted job card (End answer ∷ ws) p h = absurd p
@@ -253,8 +256,11 @@ module _ (blocks : ℕ) (job : BlockJob) (card card' : Card) (answer : Answer) (
       suits blocks job card' ws answer inside (has_rest job card' r.0 ws r.1.1 (kept_hold h.0 made) (kept_number r.0 (ap (λ (c : Card). c.number) made) r.2))
   keeps_on (Desk (ReleaseOrder b) ∷ ws) Done h f made =
       suits blocks job card' ws answer inside (subst (λ (z : List Want). Has job card' z) (sym h.2) (ap (λ (c : Card). c.hold) made ∙ h.0))
-  keeps_on (Desk (BeginCommit clean most) ∷ ws) got h f made = absurd h.1.1
+  keeps_on (Desk (Arrive most) ∷ ws) got h f made = absurd h.1.1
+  keeps_on (Desk (Ask most) ∷ ws) got h f made = absurd h.1.1
+  keeps_on (Desk (BeginCommit most) ∷ ws) got h f made = absurd h.1.1
   keeps_on (Desk EndCommit ∷ ws) got h f made = absurd h.1.1
+  keeps_on (Desk BreakCommit ∷ ws) got h f made = absurd h.1.1
   keeps_on (Cell SetSuspended ∷ ws) got h f made = absurd h.1.1
   keeps_on (Device (Sync device) ∷ ws) got h f made = absurd (reads_or_writes job (Sync device) h.1.1.0)
   keeps_on (Device (ReadMetadata left) ∷ ws) got h f made = absurd (reads_or_writes job (ReadMetadata left) h.1.1.0)
@@ -287,16 +293,24 @@ flush_keeps blocks serves most card card' answer (Cell (Look Fail) ∷ ws) (Word
     one_of blocks (Flushing serves most) card' (value == 0) ws answer (Refuses Failed) (free, o.1) (free, tt)
 flush_keeps blocks serves most card card' answer (Cell SetFailed ∷ ws) Done h o f made = (ap (λ (c : Card). c.hold) made.2 ∙ (ap (λ (z : Hold). (failing_at z card).hold) h ∙ h), o.1)
 flush_keeps blocks serves most card card' answer (Device (Sync device) ∷ ws) Done h o f made = (ap (λ (c : Card). c.hold) made ∙ h, o.1)
-flush_keeps blocks serves most card card' answer (Device (Sync device) ∷ ws) Fault h o f made = (ap (λ (c : Card). c.hold) made ∙ h, (tt, tt))
+flush_keeps blocks serves most card card' answer (Device (Sync device) ∷ ws) Fault h o f made = (ap (λ (c : Card). c.hold) made ∙ h, (tt, (tt, tt)))
 flush_keeps blocks serves most card card' answer (Device (WriteNode number) ∷ ws) Done h o f made = (ap (λ (c : Card). c.hold) made ∙ h, o.1)
-flush_keeps blocks serves most card card' answer (Device (WriteNode number) ∷ ws) Fault h o f made = (ap (λ (c : Card). c.hold) made ∙ h, (tt, tt))
+flush_keeps blocks serves most card card' answer (Device (WriteNode number) ∷ ws) Fault h o f made = (ap (λ (c : Card). c.hold) made ∙ h, (tt, (tt, tt)))
 flush_keeps blocks serves most card card' answer (Device WriteRoot ∷ ws) Done h o f made = (ap (λ (c : Card). c.hold) made ∙ h, o.1)
-flush_keeps blocks serves most card card' answer (Device WriteRoot ∷ ws) Fault h o f made = (ap (λ (c : Card). c.hold) made ∙ h, (tt, tt))
-flush_keeps blocks serves most card card' answer (Desk (BeginCommit clean nodes) ∷ ws) (Began n) h o f made = (ap (λ (c : Card). c.hold) made ∙ h, commit_own serves most n (subst (λ (m : ℕ). n ≤ m) o.0.1 f))
-flush_keeps blocks serves most card card' answer (Desk (BeginCommit clean nodes) ∷ ws) (Refused Busy) h o f made = (ap (λ (c : Card). c.hold) made ∙ h, tt)
-flush_keeps blocks serves most card card' answer (Desk (BeginCommit clean nodes) ∷ ws) (Refused Memory) h o f made = (ap (λ (c : Card). c.hold) made ∙ h, orders_own serves most serves (λ b c. c))
-flush_keeps blocks serves most card card' answer (Desk (BeginCommit clean nodes) ∷ ws) (Refused GenerationEnd) h o f made = (ap (λ (c : Card). c.hold) made ∙ h, orders_own serves most serves (λ b c. c))
+flush_keeps blocks serves most card card' answer (Device WriteRoot ∷ ws) Fault h o f made = (ap (λ (c : Card). c.hold) made ∙ h, (tt, (tt, tt)))
+flush_keeps blocks serves most card card' answer (Desk (Arrive nodes) ∷ ws) (Began n) h o f made = (ap (λ (c : Card). c.hold) made ∙ h, commit_own serves most n (subst (λ (m : ℕ). n ≤ m) o.0 f))
+flush_keeps blocks serves most card card' answer (Desk (Arrive nodes) ∷ ws) Ticket h o f made = (ap (λ (c : Card). c.hold) made ∙ h, (o.0, tt))
+flush_keeps blocks serves most card card' answer (Desk (Ask nodes) ∷ ws) (Began n) h o f made = (ap (λ (c : Card). c.hold) made ∙ h, commit_own serves most n (subst (λ (m : ℕ). n ≤ m) o.0 f))
+flush_keeps blocks serves most card card' answer (Desk (Ask nodes) ∷ ws) Served h o f made = (ap (λ (c : Card). c.hold) made ∙ h, tt)
+flush_keeps blocks serves most card card' answer (Desk (BeginCommit nodes) ∷ ws) got h o f made = absurd o.0
+flush_keeps blocks serves most card card' answer (Desk (Arrive nodes) ∷ ws) (Refused Failed) h o f made = (ap (λ (c : Card). c.hold) made ∙ h, tt)
+flush_keeps blocks serves most card card' answer (Desk (Ask nodes) ∷ ws) (Refused Failed) h o f made = (ap (λ (c : Card). c.hold) made ∙ h, tt)
+flush_keeps blocks serves most card card' answer (Desk (Arrive nodes) ∷ ws) (Refused Memory) h o f made = (ap (λ (c : Card). c.hold) made ∙ h, orders_own serves most serves (λ b c. c))
+flush_keeps blocks serves most card card' answer (Desk (Ask nodes) ∷ ws) (Refused Memory) h o f made = (ap (λ (c : Card). c.hold) made ∙ h, orders_own serves most serves (λ b c. c))
+flush_keeps blocks serves most card card' answer (Desk (Arrive nodes) ∷ ws) (Refused GenerationEnd) h o f made = (ap (λ (c : Card). c.hold) made ∙ h, orders_own serves most serves (λ b c. c))
+flush_keeps blocks serves most card card' answer (Desk (Ask nodes) ∷ ws) (Refused GenerationEnd) h o f made = (ap (λ (c : Card). c.hold) made ∙ h, orders_own serves most serves (λ b c. c))
 flush_keeps blocks serves most card card' answer (Desk EndCommit ∷ ws) Done h o f made = (ap (λ (c : Card). c.hold) made ∙ h, o.1)
+flush_keeps blocks serves most card card' answer (Desk BreakCommit ∷ ws) Done h o f made = (ap (λ (c : Card). c.hold) made ∙ h, o.1)
 flush_keeps blocks serves most card card' answer (Desk (ReleaseOrder b) ∷ ws) Done h o f made = (ap (λ (c : Card). c.hold) made ∙ h, o.1)
 flush_keeps blocks serves most card card' answer [] got h o f made = absurd (no_result answer got f)
 flush_keeps blocks serves most card card' answer (Cell (Look (LockWord b)) ∷ ws) got h o f made = absurd o.0
@@ -334,16 +348,19 @@ suspend_keeps count all most card card' answer (Cell (Look (SealWord b)) ∷ ws)
 suspend_keeps count all most card card' answer (Cell SetFailed ∷ ws) Done h below o f made = (ap (λ (c : Card). c.hold) made.2 ∙ (ap (λ (z : Hold). (failing_at z card).hold) h ∙ h), below, o.1)
 suspend_keeps count all most card card' answer (Cell SetSuspended ∷ ws) Done h below o f made = (ap (λ (c : Card). c.hold) made.2 ∙ (ap (λ (z : Hold). (failing_at z card).hold) h ∙ h), below, o.1)
 suspend_keeps count all most card card' answer (Device (Sync device) ∷ ws) Done h below o f made = (ap (λ (c : Card). c.hold) made ∙ h, below, o.1)
-suspend_keeps count all most card card' answer (Device (Sync device) ∷ ws) Fault h below o f made = (ap (λ (c : Card). c.hold) made ∙ h, below, (tt, tt))
+suspend_keeps count all most card card' answer (Device (Sync device) ∷ ws) Fault h below o f made = (ap (λ (c : Card). c.hold) made ∙ h, below, (tt, (tt, tt)))
 suspend_keeps count all most card card' answer (Device (WriteNode number) ∷ ws) Done h below o f made = (ap (λ (c : Card). c.hold) made ∙ h, below, o.1)
-suspend_keeps count all most card card' answer (Device (WriteNode number) ∷ ws) Fault h below o f made = (ap (λ (c : Card). c.hold) made ∙ h, below, (tt, tt))
+suspend_keeps count all most card card' answer (Device (WriteNode number) ∷ ws) Fault h below o f made = (ap (λ (c : Card). c.hold) made ∙ h, below, (tt, (tt, tt)))
 suspend_keeps count all most card card' answer (Device WriteRoot ∷ ws) Done h below o f made = (ap (λ (c : Card). c.hold) made ∙ h, below, o.1)
-suspend_keeps count all most card card' answer (Device WriteRoot ∷ ws) Fault h below o f made = (ap (λ (c : Card). c.hold) made ∙ h, below, (tt, tt))
-suspend_keeps count all most card card' answer (Desk (BeginCommit clean nodes) ∷ ws) (Began n) h below o f made = (ap (λ (c : Card). c.hold) made ∙ h, below, (tt, (tt, closing_own all most n 0 (omega (arith, subst (λ (m : ℕ). n ≤ m) o.0.1 f)))))
-suspend_keeps count all most card card' answer (Desk (BeginCommit clean nodes) ∷ ws) (Refused Busy) h below o f made = (ap (λ (c : Card). c.hold) made ∙ h, below, tt)
-suspend_keeps count all most card card' answer (Desk (BeginCommit clean nodes) ∷ ws) (Refused Memory) h below o f made = (ap (λ (c : Card). c.hold) made ∙ h, below, tt)
-suspend_keeps count all most card card' answer (Desk (BeginCommit clean nodes) ∷ ws) (Refused GenerationEnd) h below o f made = (ap (λ (c : Card). c.hold) made ∙ h, below, tt)
+suspend_keeps count all most card card' answer (Device WriteRoot ∷ ws) Fault h below o f made = (ap (λ (c : Card). c.hold) made ∙ h, below, (tt, (tt, tt)))
+suspend_keeps count all most card card' answer (Desk (Arrive nodes) ∷ ws) got h below o f made = absurd o.0
+suspend_keeps count all most card card' answer (Desk (Ask nodes) ∷ ws) got h below o f made = absurd o.0
+suspend_keeps count all most card card' answer (Desk (BeginCommit nodes) ∷ ws) (Began n) h below o f made = (ap (λ (c : Card). c.hold) made ∙ h, below, (tt, (tt, closing_own all most n 0 (omega (arith, subst (λ (m : ℕ). n ≤ m) o.0 f)))))
+suspend_keeps count all most card card' answer (Desk (BeginCommit nodes) ∷ ws) (Refused Busy) h below o f made = (ap (λ (c : Card). c.hold) made ∙ h, below, tt)
+suspend_keeps count all most card card' answer (Desk (BeginCommit nodes) ∷ ws) (Refused Memory) h below o f made = (ap (λ (c : Card). c.hold) made ∙ h, below, tt)
+suspend_keeps count all most card card' answer (Desk (BeginCommit nodes) ∷ ws) (Refused GenerationEnd) h below o f made = (ap (λ (c : Card). c.hold) made ∙ h, below, tt)
 suspend_keeps count all most card card' answer (Desk EndCommit ∷ ws) Done h below o f made = (ap (λ (c : Card). c.hold) made ∙ h, below, o.1)
+suspend_keeps count all most card card' answer (Desk BreakCommit ∷ ws) Done h below o f made = (ap (λ (c : Card). c.hold) made ∙ h, below, o.1)
 suspend_keeps count all most card card' answer [] got h below o f made = absurd (no_result answer got f)
 suspend_keeps count all most card card' answer (Cell (Look (LockWord b)) ∷ ws) got h below o f made = absurd o.0
 suspend_keeps count all most card card' answer (Cell (Look (Number b)) ∷ ws) got h below o f made = absurd o.0
@@ -425,8 +442,11 @@ ready_for blocks job card (Device step ∷ ws) answer l h = tt
 ready_for blocks job card (Desk (Map b place) ∷ ws) answer l h = let m = maps_owned job b place h.1.1.0 in rw m.1 (owned job card h.0 m.0)
 ready_for blocks job card (Desk (Unmap b) ∷ ws) answer l h = let m = unmaps_owned job b h.1.1.0 in rw m.1 (owned job card h.0 m.0)
 ready_for blocks job card (Desk (ReleaseOrder b) ∷ ws) answer l h = h.0
-ready_for blocks job card (Desk (BeginCommit clean most) ∷ ws) answer l h = absurd h.1.1
+ready_for blocks job card (Desk (Arrive most) ∷ ws) answer l h = absurd h.1.1
+ready_for blocks job card (Desk (Ask most) ∷ ws) answer l h = absurd h.1.1
+ready_for blocks job card (Desk (BeginCommit most) ∷ ws) answer l h = absurd h.1.1
 ready_for blocks job card (Desk EndCommit ∷ ws) answer l h = absurd h.1.1
+ready_for blocks job card (Desk BreakCommit ∷ ws) answer l h = absurd h.1.1
 ready_for blocks job card (End a ∷ ws) answer l h = tt
 
 free_for : (blocks : ℕ) (serves : List OBlock) (most : ℕ) (card : Card) (ws : List Want) (answer : Answer) → card.hold ≡ Nothing → AreOwnSteps (Flushing serves most) ws → MayTake blocks card (first_step ws answer)
@@ -434,8 +454,10 @@ free_for blocks serves most card [] answer h o = tt
 free_for blocks serves most card (Cell (Look Fail) ∷ ws) answer h o = tt
 free_for blocks serves most card (Cell SetFailed ∷ ws) answer h o = tt
 free_for blocks serves most card (Device step ∷ ws) answer h o = tt
-free_for blocks serves most card (Desk (BeginCommit clean nodes) ∷ ws) answer h o = h
+free_for blocks serves most card (Desk (Arrive nodes) ∷ ws) answer h o = h
+free_for blocks serves most card (Desk (Ask nodes) ∷ ws) answer h o = h
 free_for blocks serves most card (Desk EndCommit ∷ ws) answer h o = h
+free_for blocks serves most card (Desk BreakCommit ∷ ws) answer h o = h
 free_for blocks serves most card (Desk (ReleaseOrder b) ∷ ws) answer h o = h
 free_for blocks serves most card (End a ∷ ws) answer h o = tt
 free_for blocks serves most card (w ∷ ws) answer h o = absurd o.0
@@ -447,8 +469,9 @@ suspends_for count all most card (Cell (Look (SealWord b)) ∷ ws) answer h belo
 suspends_for count all most card (Cell SetFailed ∷ ws) answer h below o = tt
 suspends_for count all most card (Cell SetSuspended ∷ ws) answer h below o = tt
 suspends_for count all most card (Device step ∷ ws) answer h below o = tt
-suspends_for count all most card (Desk (BeginCommit clean nodes) ∷ ws) answer h below o = h
+suspends_for count all most card (Desk (BeginCommit nodes) ∷ ws) answer h below o = h
 suspends_for count all most card (Desk EndCommit ∷ ws) answer h below o = h
+suspends_for count all most card (Desk BreakCommit ∷ ws) answer h below o = h
 suspends_for count all most card (End a ∷ ws) answer h below o = tt
 suspends_for count all most card (w ∷ ws) answer h below o = absurd o.0
 
@@ -476,8 +499,11 @@ own_step job card (Device step ∷ ws) answer h = h.1.1.0
 own_step job card (Desk (Map b place) ∷ ws) answer h = h.1.1.0
 own_step job card (Desk (Unmap b) ∷ ws) answer h = h.1.1.0
 own_step job card (Desk (ReleaseOrder b) ∷ ws) answer h = h.1
-own_step job card (Desk (BeginCommit clean most) ∷ ws) answer h = absurd h.1.1
+own_step job card (Desk (Arrive most) ∷ ws) answer h = absurd h.1.1
+own_step job card (Desk (Ask most) ∷ ws) answer h = absurd h.1.1
+own_step job card (Desk (BeginCommit most) ∷ ws) answer h = absurd h.1.1
 own_step job card (Desk EndCommit ∷ ws) answer h = absurd h.1.1
+own_step job card (Desk BreakCommit ∷ ws) answer h = absurd h.1.1
 own_step job card (End a ∷ ws) answer h = tt
 
 own_first : (job : TaskJob) (ws : List Want) (answer : Answer) → IsOwnStep job (End answer) → AreOwnSteps job ws → IsOwnStep job (first_step ws answer)
@@ -503,6 +529,19 @@ job_stays_on job ws answer Begin = refl
 job_stays_on job ws answer Done = refl
 job_stays_on job ws answer Lost = refl
 job_stays_on job ws answer (Began nodes) = refl
+job_stays_on job ws answer Served = refl
+job_stays_on job [] answer Ticket = refl
+job_stays_on job (Cell step ∷ ws) answer Ticket = refl
+job_stays_on job (Device step ∷ ws) answer Ticket = refl
+job_stays_on job (Desk (Map b place) ∷ ws) answer Ticket = refl
+job_stays_on job (Desk (Unmap b) ∷ ws) answer Ticket = refl
+job_stays_on job (Desk (ReleaseOrder b) ∷ ws) answer Ticket = refl
+job_stays_on job (Desk (Arrive most) ∷ ws) answer Ticket = refl
+job_stays_on job (Desk (Ask most) ∷ ws) answer Ticket = refl
+job_stays_on job (Desk (BeginCommit most) ∷ ws) answer Ticket = refl
+job_stays_on job (Desk EndCommit ∷ ws) answer Ticket = refl
+job_stays_on job (Desk BreakCommit ∷ ws) answer Ticket = refl
+job_stays_on job (End a ∷ ws) answer Ticket = refl
 job_stays_on job [] answer More = refl
 job_stays_on job (Cell step ∷ ws) answer More = refl
 job_stays_on job (Device (Read device e) ∷ ws) answer More = refl
@@ -534,18 +573,21 @@ job_stays_on job (Device step ∷ ws) answer (Refused refusal) = refl
 job_stays_on job (Desk (Map b place) ∷ ws) answer (Refused refusal) = refl
 job_stays_on job (Desk (Unmap b) ∷ ws) answer (Refused refusal) = refl
 job_stays_on job (Desk (ReleaseOrder b) ∷ ws) answer (Refused refusal) = refl
-job_stays_on job (Desk (BeginCommit clean most) ∷ ws) answer (Refused refusal) = refl
+job_stays_on job (Desk (Arrive most) ∷ ws) answer (Refused refusal) = refl
+job_stays_on job (Desk (Ask most) ∷ ws) answer (Refused refusal) = refl
+job_stays_on job (Desk (BeginCommit most) ∷ ws) answer (Refused refusal) = refl
 job_stays_on job (Desk EndCommit ∷ ws) answer (Refused refusal) = refl
+job_stays_on job (Desk BreakCommit ∷ ws) answer (Refused refusal) = refl
 job_stays_on job (End a ∷ ws) answer (Refused refusal) = refl
 
 pub job_stays : (s : Plan) (got : Got) → (after s got).job ≡ s.job
 job_stays s got = job_stays_on s.job s.steps s.answer got
 
 pub flush_begins : (blocks : ℕ) (serves : List OBlock) (most : ℕ) (card : Card) → card.hold ≡ Nothing → Suits blocks (table (Flushing serves most)) card
-flush_begins blocks serves most card h = (h, (tt, ((refl, refl), tt)))
+flush_begins blocks serves most card h = (h, (tt, (refl, tt)))
 
 pub suspend_begins : (count : ℕ) (blocks : List OBlock) (most : ℕ) (card : Card) → AreBelow count blocks → card.hold ≡ Nothing → Suits count (table (Suspending blocks most)) card
-suspend_begins count blocks most card below h = (h, below, (tt, looks_own blocks most blocks _ (λ b c. c) ((refl, refl), tt)))
+suspend_begins count blocks most card below h = (h, below, (tt, looks_own blocks most blocks _ (λ b c. c) (refl, tt)))
 
 pub opening_begins : (blocks left : ℕ) (card : Card) → card.hold ≡ Nothing → Suits blocks (table (Opening left)) card
 opening_begins blocks left card h = (h, (tt, (tt, (tt, (tt, (tt, (tt, tt)))))))

@@ -23,13 +23,13 @@ use Rattle.wb_tasks.specs.declared.block.Work.TheVariants.{Read as ToRead, Write
 use Rattle.wb_tasks.specs.declared.block.Phase.{Phase}
 use Rattle.wb_tasks.specs.declared.block.Phase.TheVariants.{Acquires, Dirties, Drops, SealsHome, Reads, Writes, Mirrors, Counts, Copies, Puts, Seals, Releases, GivesUp, SetsFailed, Ended}
 use Rattle.wb_tasks.specs.declared.step.Migration.TheVariants.{Promote, Demote, Clean}
-use Rattle.wb_tasks.specs.declared.step.DeskStep.TheVariants.{BeginCommit}
+use Rattle.wb_tasks.specs.declared.step.DeskStep.TheVariants.{Arrive, Ask, BeginCommit, EndCommit, BreakCommit}
 use Rattle.wb_tasks.specs.declared.step.DeviceStep.TheVariants.{Write, ReadMetadata}
 use Rattle.wb_tasks.specs.declared.step.Want.{Want}
 use Rattle.wb_tasks.specs.declared.step.Want.TheVariants.{Device, Desk}
 use Rattle.wb_tasks.specs.declared.step.Answer.TheVariants.{Done as Finished, Refused as Refuses}
 use Rattle.wb_tasks.specs.declared.step.Got.{Got}
-use Rattle.wb_tasks.specs.declared.step.Got.TheVariants.{Word, Lost, Fault, Refused, Began, More}
+use Rattle.wb_tasks.specs.declared.step.Got.TheVariants.{Word, Lost, Fault, Refused, Began, Ticket, Served, More}
 
 -- what is shown of the fields' view holds of the value
 pub by_view : (v old new : Plan) (got : Got) → v ≡ old → Fits (want old) got → (Fits (want v) got → new ≡ after v got) → new ≡ after old got
@@ -168,10 +168,12 @@ after_refused_entry work part (GivesUp answer) extents refusal h = absurd h
 after_refused_entry work part (SetsFailed device) extents refusal h = absurd h
 after_refused_entry work part (Ended answer) extents refusal h = absurd h
 
--- a step that neither begins a commit nor reads metadata
+-- a step that neither asks for a commit nor reads metadata
 abbrev IsAside : Want → Type 0
 IsAside (Device (ReadMetadata left)) = ⊥
-IsAside (Desk (BeginCommit clean most)) = ⊥
+IsAside (Desk (Arrive most)) = ⊥
+IsAside (Desk (Ask most)) = ⊥
+IsAside (Desk (BeginCommit most)) = ⊥
 IsAside want = Unit {0}
 
 aside : (work : Work) (part : BlockRange) (phase : Phase) (extents : List Extent) → IsAside (want (left_in work part phase extents))
@@ -211,8 +213,18 @@ aside work part (SetsFailed device) extents = tt
 aside work part (Ended answer) extents = tt
 
 never_begun : (w : Want) (nodes : ℕ) → IsAside w → Fits w (Began nodes) → ⊥
-never_begun (Desk (BeginCommit clean most)) nodes a h = a
+never_begun (Desk (Arrive most)) nodes a h = a
+never_begun (Desk (Ask most)) nodes a h = a
+never_begun (Desk (BeginCommit most)) nodes a h = a
 never_begun w nodes a h = h
+
+never_ticket : (w : Want) → IsAside w → Fits w Ticket → ⊥
+never_ticket (Desk (Arrive most)) a h = a
+never_ticket w a h = h
+
+never_served : (w : Want) → IsAside w → Fits w Served → ⊥
+never_served (Desk (Ask most)) a h = a
+never_served w a h = h
 
 never_more : (w : Want) → IsAside w → Fits w More → ⊥
 never_more (Device (ReadMetadata left)) a h = a
@@ -222,6 +234,8 @@ never_more w a h = h
 pub lost : (work : Work) (part : BlockRange) (phase : Phase) (extents : List Extent) (got : Got) → IsRare got → Fits (want (left_in work part phase extents)) got → left_in work part (Ended (Refuses Busy)) extents ≡ after (left_in work part phase extents) got
 lost work part phase extents Lost r h = refl
 lost work part phase extents (Began nodes) r h = absurd (never_begun _ nodes (aside work part phase extents) h)
+lost work part phase extents Ticket r h = absurd (never_ticket _ (aside work part phase extents) h)
+lost work part phase extents Served r h = absurd (never_served _ (aside work part phase extents) h)
 lost work part phase extents More r h = absurd (never_more _ (aside work part phase extents) h)
 lost work part phase extents got r h = absurd r
 

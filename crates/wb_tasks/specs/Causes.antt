@@ -13,8 +13,8 @@ use Rattle.wb_tasks.specs.declared.step.Got.{Got}
 use Rattle.wb_tasks.specs.declared.step.Got.TheVariants.{Word, Lost, Fault, Refused}
 
 -- What a step has to give for a job to answer with a refusal: a fault of that device; a lock word that rules the exchange
--- out, a lost exchange, or a commit that is running; a seal by which the desk is needed first; a fail word that is set; a desk, or a
--- reading, without memory; a number that is used up, where one is wanted; metadata that were read and hold no mapping that can be opened; a generation
+-- out, a lost exchange, or a commit that is running; a seal by which the desk is needed first; a fail word that is set, or commits that are
+-- broken; a desk, or a reading, without memory; a number that is used up, where one is wanted; metadata that were read and hold no mapping that can be opened; a generation
 -- that has no next one.
 abbrev pub Causes : TaskJob → Refusal → Want → Got → Type 0
 Causes job (Io device) (Device step) Fault = device_of step ≡ device
@@ -23,6 +23,7 @@ Causes job Busy (Cell (Take taken block seen)) Lost = Unit {0}
 Causes job Busy (Desk step) (Refused given) = given ≡ Busy
 Causes job Defer (Cell (Look (SealWord block))) (Word word) = answer_seeing job word Finished ≡ Refuses Defer
 Causes job Failed (Cell (Look Fail)) (Word word) = word ≢ 0
+Causes job Failed (Desk step) (Refused given) = given ≡ Failed
 Causes job Memory (Desk step) (Refused given) = given ≡ Memory
 Causes job Memory (Device step) (Refused given) = given ≡ Memory
 Causes job Worn (Cell (Look (Number block))) (Word word) = is_worn job word ≡ true

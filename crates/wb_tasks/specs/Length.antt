@@ -7,7 +7,7 @@ use Rattle.wb_tasks.specs.Tables.{BlockJob, Reading, Writing, Displacing, Invali
 use Rattle.wb_tasks.specs.Plan.{Plan, lets_go}
 use Rattle.wb_words.specs.declared.step.CellStep.TheVariants.{Look}
 use Rattle.wb_tasks.specs.declared.step.DeviceStep.TheVariants.{ReadMetadata}
-use Rattle.wb_tasks.specs.declared.step.DeskStep.TheVariants.{Map, BeginCommit}
+use Rattle.wb_tasks.specs.declared.step.DeskStep.TheVariants.{Map, Arrive, Ask, BeginCommit}
 use Rattle.wb_tasks.specs.declared.step.Want.{Want}
 use Rattle.wb_tasks.specs.declared.step.Want.TheVariants.{Cell, Device, Desk}
 
@@ -38,8 +38,8 @@ longest_failing_on (Migrating migration part) = 3
 
 abbrev pub longest_failing : TaskJob → ℕ
 longest_failing (OnBlock job) = longest_failing_on job
-longest_failing (Flushing serves most) = 2
-longest_failing (Suspending blocks most) = 2
+longest_failing (Flushing serves most) = 3
+longest_failing (Suspending blocks most) = 3
 longest_failing (Opening left) = 1
 
 -- from the end of a commit on: it, the bit of a suspend, and the answer
@@ -66,7 +66,9 @@ longest_of job (Cell (Look (Number block)) ∷ ws) = 1 + max 2 (longest_of job w
 longest_of job (Device (ReadMetadata left) ∷ ws) = left + 1 + max (longest_failing job) (longest_of job ws)
 longest_of job (Device step ∷ ws) = 1 + max (longest_failing job) (longest_of job ws)
 longest_of job (Desk (Map block place) ∷ ws) = 1 + max (length (lets_go job) + 1) (longest_of job ws)
-longest_of job (Desk (BeginCommit clean most) ∷ ws) = 1 + max (longest_commit job most) (length (lets_go job) + 1)
+longest_of job (Desk (Arrive most) ∷ ws) = 2 + max (longest_commit job most) (length (lets_go job) + 1)
+longest_of job (Desk (Ask most) ∷ ws) = 1 + max (longest_commit job most) (length (lets_go job) + 1)
+longest_of job (Desk (BeginCommit most) ∷ ws) = 1 + max (longest_commit job most) (length (lets_go job) + 1)
 longest_of job (w ∷ ws) = 1 + longest_of job ws
 
 -- the most steps that a task may still take, its answer counted

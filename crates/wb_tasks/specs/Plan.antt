@@ -16,13 +16,13 @@ use Rattle.wb_words.specs.declared.step.CellResult.TheVariants.{Done as CellDone
 use Rattle.wb_words.specs.declared.step.CellStep.TheVariants.{Look, Take, Release, SetFailed, SetSuspended}
 use Rattle.wb_tasks.specs.declared.step.DeviceStep.{DeviceStep}
 use Rattle.wb_tasks.specs.declared.step.DeviceStep.TheVariants.{Read, Write, Sync, ReadMetadata, WriteNode, WriteRoot}
-use Rattle.wb_tasks.specs.declared.step.DeskStep.TheVariants.{Map, ReleaseOrder, BeginCommit, EndCommit}
+use Rattle.wb_tasks.specs.declared.step.DeskStep.TheVariants.{Map, ReleaseOrder, Arrive, Ask, BeginCommit, EndCommit, BreakCommit}
 use Rattle.wb_tasks.specs.declared.step.Answer.{Answer}
 use Rattle.wb_tasks.specs.declared.step.Answer.TheVariants.{Done as Finished, Refused as Refuses}
 use Rattle.wb_tasks.specs.declared.step.Want.{Want}
 use Rattle.wb_tasks.specs.declared.step.Want.TheVariants.{Cell, Device, Desk, End}
 use Rattle.wb_tasks.specs.declared.step.Got.{Got}
-use Rattle.wb_tasks.specs.declared.step.Got.TheVariants.{Begin, Done, Word, Lost, Fault, Refused, Began, More}
+use Rattle.wb_tasks.specs.declared.step.Got.TheVariants.{Begin, Done, Word, Lost, Fault, Refused, Began, Ticket, Served, More}
 
 -- What is left of a task: the job that it is on, the steps to come, as far as they are known, and the answer
 -- after them. The exchange is known once
@@ -55,13 +55,13 @@ abbrev pub seal_looks : List OBlock → List Want
 seal_looks [] = []
 seal_looks (block ∷ blocks) = Cell (Look (SealWord block)) ∷ seal_looks blocks
 
--- The steps of a job, as far as they are known before it begins. A suspend asks for a commit whose root is marked clean, once it has seen
--- which blocks are dirty. An opening makes everything durable, reads the metadata,
+-- The steps of a job, as far as they are known before it begins. A flush asks to lead a commit, or for a ticket. A suspend asks for a commit
+-- whose root is marked clean, once it has seen which blocks are dirty. An opening makes everything durable, reads the metadata,
 -- and writes a root that no longer says that the metadata are clean.
 abbrev pub first_steps : TaskJob → List Want
 first_steps (OnBlock job) = acquire (range_of job).block
-first_steps (Flushing serves most) = Cell (Look Fail) ∷ Desk (BeginCommit false most) ∷ []
-first_steps (Suspending blocks most) = Cell (Look Fail) ∷ (seal_looks blocks ++ Desk (BeginCommit true most) ∷ [])
+first_steps (Flushing serves most) = Cell (Look Fail) ∷ Desk (Arrive most) ∷ []
+first_steps (Suspending blocks most) = Cell (Look Fail) ∷ (seal_looks blocks ++ Desk (BeginCommit most) ∷ [])
 first_steps (Opening left) = Device (Sync Metadata) ∷ Device (Sync Cache) ∷ Device (Sync Origin) ∷ Device (ReadMetadata left) ∷ Device WriteRoot ∷ Device (Sync Metadata) ∷ []
 
 -- a job that has not begun
@@ -174,27 +174,31 @@ device_of (ReadMetadata left) = Metadata
 device_of (WriteNode number) = Metadata
 device_of WriteRoot = Metadata
 
+abbrev pub failed_commit : List Want
+failed_commit = Cell SetFailed ∷ Desk BreakCommit ∷ []
+
 -- After a fault on a read a job on a block lets go what it has; after one on a write or sync the failed bit is set, and
--- what is owned is kept. An opening has nothing and sets nothing.
+-- what is owned is kept. One of a commit's step breaks the commits, too. An opening has nothing and sets nothing.
 abbrev pub after_fault_of : TaskJob → DeviceStep → List Want
 after_fault_of (OnBlock job) (Read device e) = release job ∷ gives_up job
 after_fault_of (OnBlock job) step = Cell SetFailed ∷ []
-after_fault_of (Flushing serves most) step = Cell SetFailed ∷ []
-after_fault_of (Suspending blocks most) step = Cell SetFailed ∷ []
+after_fault_of (Flushing serves most) step = failed_commit
+after_fault_of (Suspending blocks most) step = failed_commit
 after_fault_of (Opening left) step = []
 
 abbrev pub after_fault : Plan → Want → Plan
 after_fault s (Device step) = refused s (after_fault_of s.job step) (Io (device_of step))
 after_fault s w = s
 
--- After the desk refused, a job lets go what it has; but a flush that another commit keeps from beginning may be tried
--- again, under the orders that it serves.
-abbrev pub lets_go_unless_busy : TaskJob → Refusal → List Want
-lets_go_unless_busy job Busy = []
-lets_go_unless_busy job refusal = lets_go job
+-- After the desk refused, a job lets go what it has; but where commits are broken the orders that a flush serves stay, as all else of a
+-- failed target.
+abbrev pub lets_go_unless_failed : TaskJob → Refusal → List Want
+lets_go_unless_failed job Failed = []
+lets_go_unless_failed job refusal = lets_go job
 
 abbrev pub after_refusal : Plan → Want → Refusal → Plan
-after_refusal s (Desk (BeginCommit clean most)) refusal = refused s (lets_go_unless_busy s.job refusal) refusal
+after_refusal s (Desk (Arrive most)) refusal = refused s (lets_go_unless_failed s.job refusal) refusal
+after_refusal s (Desk (Ask most)) refusal = refused s (lets_go_unless_failed s.job refusal) refusal
 after_refusal s (Desk step) refusal = refused s (lets_go s.job) refusal
 after_refusal s w refusal = refused s [] refusal
 
@@ -202,6 +206,11 @@ after_refusal s w refusal = refused s [] refusal
 abbrev pub after_more : Plan → Want → Plan
 after_more s (Device (ReadMetadata left)) = record s { steps = Device (ReadMetadata (left - 1)) ∷ later_steps s.steps }
 after_more s w = onward s
+
+-- who got a ticket on arriving asks with it next
+abbrev pub after_ticket : Plan → Want → Plan
+after_ticket s (Desk (Arrive most)) = record s { steps = Desk (Ask most) ∷ [] }
+after_ticket s w = onward s
 
 -- what is left after the result of a step
 abbrev pub after : Plan → Got → Plan
@@ -212,6 +221,8 @@ after s Lost = refused s [] Busy
 after s Fault = after_fault s (want s)
 after s (Refused refusal) = after_refusal s (want s) refusal
 after s (Began nodes) = record s { steps = begun_steps s.job nodes }
+after s Ticket = after_ticket s (want s)
+after s Served = record s { steps = []; answer = Finished }
 after s More = after_more s (want s)
 
 -- what a step on a shared word gave, as a task is told it
@@ -224,7 +235,9 @@ got_of CellLost = Lost
 
 abbrev pub MayBeDone : Want → Type 0
 MayBeDone (Cell (Look word)) = ⊥
-MayBeDone (Desk (BeginCommit clean most)) = ⊥
+MayBeDone (Desk (Arrive most)) = ⊥
+MayBeDone (Desk (Ask most)) = ⊥
+MayBeDone (Desk (BeginCommit most)) = ⊥
 MayBeDone (End answer) = ⊥
 MayBeDone want = Unit {0}
 
@@ -240,14 +253,20 @@ abbrev pub WantMayFail : Want → Type 0
 WantMayFail (Device step) = Unit {0}
 WantMayFail want = ⊥
 
--- The desk refuses an entry of the mapping for want of memory, a commit also where another one runs or no generation is
--- left. What was read of the metadata is refused where it has no root, or a root of another geometry or one that cannot be
+-- The desk refuses an entry of the mapping for want of memory, a commit also where no generation is left; that of a suspend where another
+-- one runs, that of a flush once one was broken. What was read of the metadata is refused where it has no root, or a root of another geometry or one that cannot be
 -- opened in this mode, where its tree is damaged, where no generation is left, or for want of memory.
 abbrev pub MayBeRefused : Want → Refusal → Type 0
 MayBeRefused (Desk (Map block place)) Memory = Unit {0}
-MayBeRefused (Desk (BeginCommit clean most)) Busy = Unit {0}
-MayBeRefused (Desk (BeginCommit clean most)) Memory = Unit {0}
-MayBeRefused (Desk (BeginCommit clean most)) GenerationEnd = Unit {0}
+MayBeRefused (Desk (Arrive most)) Failed = Unit {0}
+MayBeRefused (Desk (Arrive most)) Memory = Unit {0}
+MayBeRefused (Desk (Arrive most)) GenerationEnd = Unit {0}
+MayBeRefused (Desk (Ask most)) Failed = Unit {0}
+MayBeRefused (Desk (Ask most)) Memory = Unit {0}
+MayBeRefused (Desk (Ask most)) GenerationEnd = Unit {0}
+MayBeRefused (Desk (BeginCommit most)) Busy = Unit {0}
+MayBeRefused (Desk (BeginCommit most)) Memory = Unit {0}
+MayBeRefused (Desk (BeginCommit most)) GenerationEnd = Unit {0}
 MayBeRefused (Device (ReadMetadata left)) Memory = Unit {0}
 MayBeRefused (Device (ReadMetadata left)) NotFormatted = Unit {0}
 MayBeRefused (Device (ReadMetadata left)) (Damaged place) = Unit {0}
@@ -258,8 +277,19 @@ MayBeRefused want refusal = ⊥
 
 -- an image has no more nodes than were allowed
 abbrev pub MayBegin : Want → ℕ → Type 0
-MayBegin (Desk (BeginCommit clean most)) nodes = nodes ≤ most
+MayBegin (Desk (Arrive most)) nodes = nodes ≤ most
+MayBegin (Desk (Ask most)) nodes = nodes ≤ most
+MayBegin (Desk (BeginCommit most)) nodes = nodes ≤ most
 MayBegin want nodes = ⊥
+
+-- who arrives may be given a ticket, and who asks with one may be served
+abbrev pub IsArrival : Want → Type 0
+IsArrival (Desk (Arrive most)) = Unit {0}
+IsArrival want = ⊥
+
+abbrev pub IsAsking : Want → Type 0
+IsAsking (Desk (Ask most)) = Unit {0}
+IsAsking want = ⊥
 
 -- nor has a reading more sectors
 abbrev pub ReadingMayGoOn : Want → Type 0
@@ -274,6 +304,8 @@ Fits want Lost = IsExchange want
 Fits want Fault = WantMayFail want
 Fits want (Refused refusal) = MayBeRefused want refusal
 Fits want (Began nodes) = MayBegin want nodes
+Fits want Ticket = IsArrival want
+Fits want Served = IsAsking want
 Fits want More = ReadingMayGoOn want
 
 -- a want that is a step, and no answer
@@ -288,9 +320,11 @@ abbrev pub MayCome : Plan → Got → Type 0
 MayCome s Begin = Unit {0}
 MayCome s got = Fits (want s) got
 
--- a result that one kind of step alone has: an exchange, the beginning of a commit, a read of the metadata
+-- a result that one kind of step alone has: an exchange, a beginning, ticket or end of a commit, a read of the metadata
 abbrev pub IsRare : Got → Type 0
 IsRare Lost = Unit {0}
 IsRare (Began nodes) = Unit {0}
+IsRare Ticket = Unit {0}
+IsRare Served = Unit {0}
 IsRare More = Unit {0}
 IsRare got = ⊥

@@ -18,7 +18,7 @@ use Rattle.wb_tasks.specs.Run.{Leads}
 use Rattle.wb_tasks.specs.declared.step.DeviceStep.{DeviceStep}
 use Rattle.wb_tasks.specs.declared.step.DeviceStep.TheVariants.{Read, Write, Sync, ReadMetadata, WriteNode, WriteRoot}
 use Rattle.wb_tasks.specs.declared.step.DeskStep.{DeskStep}
-use Rattle.wb_tasks.specs.declared.step.DeskStep.TheVariants.{Map, Unmap, ReleaseOrder, BeginCommit, EndCommit}
+use Rattle.wb_tasks.specs.declared.step.DeskStep.TheVariants.{Map, Unmap, ReleaseOrder, Arrive, Ask, BeginCommit, EndCommit, BreakCommit}
 use Rattle.wb_tasks.specs.declared.step.Migration.{Migration}
 use Rattle.wb_tasks.specs.declared.step.Migration.TheVariants.{Promote, Demote, Clean}
 use Rattle.wb_tasks.specs.declared.step.Want.{Want}
@@ -95,29 +95,32 @@ IsAsked (Migrating migration part) (Map block place) = (block ≡ part.block) ×
 IsAsked (Migrating migration part) (Unmap block) = (block ≡ part.block) × (migration ≡ Demote)
 IsAsked job step = ⊥
 
--- What commits looks at the fail word, asks the desk for a commit whose root is marked clean or not, syncs each device, writes nodes and a
--- root, and may set the failed bit.
-abbrev pub IsCommits : Bool → ℕ → Want → Type 0
-IsCommits clean most (Cell (Look Fail)) = Unit {0}
-IsCommits clean most (Cell SetFailed) = Unit {0}
-IsCommits clean most (Device (Sync device)) = Unit {0}
-IsCommits clean most (Device (WriteNode number)) = number < most
-IsCommits clean most (Device WriteRoot) = Unit {0}
-IsCommits clean most (Desk (BeginCommit marked nodes)) = (marked ≡ clean) × (nodes ≡ most)
-IsCommits clean most (Desk EndCommit) = Unit {0}
-IsCommits clean most (End answer) = Unit {0}
-IsCommits clean most next = ⊥
+-- What commits looks at the fail word, syncs each device, writes nodes and a root, and ends its commit; it may set the failed bit, and break
+-- the commits.
+abbrev pub IsCommits : ℕ → Want → Type 0
+IsCommits most (Cell (Look Fail)) = Unit {0}
+IsCommits most (Cell SetFailed) = Unit {0}
+IsCommits most (Device (Sync device)) = Unit {0}
+IsCommits most (Device (WriteNode number)) = number < most
+IsCommits most (Device WriteRoot) = Unit {0}
+IsCommits most (Desk EndCommit) = Unit {0}
+IsCommits most (Desk BreakCommit) = Unit {0}
+IsCommits most (End answer) = Unit {0}
+IsCommits most next = ⊥
 
--- a flush may give up what it serves too
+-- a flush asks to lead a commit, or to be served by one, and may give up what it serves itself
 abbrev pub IsFlushs : List OBlock → ℕ → Want → Type 0
 IsFlushs serves most (Desk (ReleaseOrder block)) = Contains serves block
-IsFlushs serves most next = IsCommits false most next
+IsFlushs serves most (Desk (Arrive nodes)) = nodes ≡ most
+IsFlushs serves most (Desk (Ask nodes)) = nodes ≡ most
+IsFlushs serves most next = IsCommits most next
 
--- a suspend looks at the seals of its blocks too, and sets the suspended bit
+-- a suspend looks at the seals of its blocks, asks for a commit whose root is marked clean, and sets the suspended bit
 abbrev pub IsSuspends : List OBlock → ℕ → Want → Type 0
 IsSuspends blocks most (Cell (Look (SealWord block))) = Contains blocks block
 IsSuspends blocks most (Cell SetSuspended) = Unit {0}
-IsSuspends blocks most next = IsCommits true most next
+IsSuspends blocks most (Desk (BeginCommit nodes)) = nodes ≡ most
+IsSuspends blocks most next = IsCommits most next
 
 -- An opening syncs each device, reads metadata and writes a root; it touches no word and asks nothing of a desk, which
 -- is not there yet.

@@ -24,15 +24,15 @@ ghost use Rattle.wb_tasks.specs.declared.step.Got.{Got as GotTerm};
 /// blocks, an opening by the metadata sectors: `drive` takes no more steps than `longest`.
 pub fn step_bound()
     ensures extents { (job : BlockJob) → longest (table (OnBlock job)) ≤ 2 * length (range_of job).extents + 11 }
-    ensures flush { (serves : List OBlock) (most : ℕ) → longest (table (Flushing serves most)) ≤ max (most + 9) (length serves + 3) }
+    ensures flush { (serves : List OBlock) (most : ℕ) → longest (table (Flushing serves most)) ≤ max (most + 11) (length serves + 4) }
     ensures suspend { (blocks : List OBlock) (most : ℕ) → longest (table (Suspending blocks most)) ≤ length blocks + most + 10 }
     ensures opening { (left : ℕ) → longest (table (Opening left)) ≤ left + 7 }
     ensures sectors { (job : BlockJob) (whole : Extent) → IsCutInto whole (range_of job).extents → longest (table (OnBlock job)) ≤ 2 * whole.count + 11 }
 {}
 
 /// The law that a task refuses for a cause alone: `Io` only where a step on that device failed, `Busy` only where the
-/// lock word that it looked at ruled the exchange out, it lost its exchange, or another commit was running, `Failed`
-/// only where the fail word was set, `Defer` only where a write saw its block mapped in passthrough, `Memory` only where the desk or a reading had none, `Worn` only where a write found
+/// lock word that it looked at ruled the exchange out, it lost its exchange, or a suspend found another commit running, `Failed`
+/// only where the fail word was set or commits were broken, `Defer` only where a write saw its block mapped in passthrough, `Memory` only where the desk or a reading had none, `Worn` only where a write found
 /// its block's number used up; `NotFormatted`, `Damaged`, `Mismatch`, `NotClean` only where the metadata were read so,
 /// `GenerationEnd` only where the desk or that reading said it, and nothing else ever.
 #[tactic(auto, using(crate::proofs::Causing::refuses_for_cause))]

@@ -38,9 +38,16 @@ pub enum DeskStep {
     Unmap(OBlock),
     /// Gives up the order under which a migration of this block runs.
     ReleaseOrder(OBlock),
-    /// Takes the image of a commit, of at most so many nodes; the flag says whether its root is to be marked clean.
-    BeginCommit(bool, u32),
+    /// Asks to lead a commit, whose image has at most so many nodes; where one runs, for a ticket of the next.
+    Arrive(u32),
+    /// Asks, with a ticket, whether a commit has ended that serves it, or else to lead one, whose image has at most so many nodes. It
+    /// cannot be taken while a commit runs that began too early to serve the ticket.
+    Ask(u32),
+    /// Takes the image of a commit, of at most so many nodes, whose root is to be marked clean.
+    BeginCommit(u32),
     EndCommit,
+    /// After a fault in a commit: none begins any more.
+    BreakCommit,
 }
 
 /// How a task ends.
@@ -76,6 +83,10 @@ pub enum Got {
     Refused(Refusal),
     /// A commit began, whose image has so many nodes.
     Began(u32),
+    /// A commit runs, and there is a ticket now of the one that comes after it.
+    Ticket,
+    /// A commit has ended that began after the ticket was given.
+    Served,
     /// There is more of the metadata to read.
     More,
 }

@@ -47,8 +47,8 @@ pub trait Steps {
         requires { Fits (want (left self.old)) (Got.Refused refusal) }
         ensures { left self.new ≡ after (left self.old) (Got.Refused refusal) };
 
-    /// What is left after a result that one kind of step alone has: an exchange was lost, a commit began, or there is more of the
-    /// metadata to read.
+    /// What is left after a result that one kind of step alone has: an exchange was lost, a commit began, a ticket was given or served, or
+    /// there is more of the metadata to read.
     fn after_rare(&mut self, got: Got)
         requires rare { IsRare got }
         requires fits { Fits (want (left self.old)) got }
@@ -65,7 +65,9 @@ impl<S: Steps> Task for S {
             Got::Done => self.after_done(),
             Got::Fault => self.after_fault(),
             Got::Refused(refusal) => self.after_refusal(refusal),
-            Got::Lost | Got::Began(_) | Got::More => self.after_rare(got),
+            Got::Lost | Got::Began(_) | Got::Ticket | Got::Served | Got::More => {
+                self.after_rare(got);
+            }
         }
         self.want()
     }

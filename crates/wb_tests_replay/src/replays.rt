@@ -35,7 +35,7 @@ const FAILED_WRITES: [Row; 3] = [
 ];
 
 /// What was flushed survives, what was not may be lost, sector by sector.
-const FLUSHES: [Row; 2] = [
+const FLUSHES: [Row; 4] = [
     Row {
         name: "a write, a flush, a read by another, and a crash",
         lines: "setup writeback 64 4 10 4\nstart 0 w 0 2 22\nend 0\nstart 0 flush\nend 0\nstart 1 r 0 3\nend 1\nstop old\nopen writeback\nview 0 3\n",
@@ -46,6 +46,18 @@ const FLUSHES: [Row; 2] = [
         name: "one sector keeps an older content than its neighbour",
         lines: "setup writeback 64 4 10 4\nstart 5 w 70 2 aa\nend 5\nstop new o:70:0\nopen writeback\nview 70 2\n",
         prints: "5 done\nopen 2 0 0\n70 00\n71 aa\n",
+        ends: Ended::Played,
+    },
+    Row {
+        name: "two flushes that come while a commit runs wait for it, and share the next one",
+        lines: "setup writeback 64 4 10 4\nstart 0 w 0 1 11\nend 0\nstart 0 promote 0 0\nend 0\nstart 0 flush\nend 0\nstart 1 flush\nstep 1 2\nstart 2 flush\nstep 2 2\nstart 3 flush\nstep 3 2\nstep 2\nend 1\nend 2\nend 3\nstop old\nopen writeback\n",
+        prints: "0 done\n0 done\n0 done\nskipped\n1 done\n2 done\n3 done\nopen 5 1 1\n",
+        ends: Ended::Played,
+    },
+    Row {
+        name: "one that waits stops where it is, and is refused once the commit that runs has failed",
+        lines: "setup writeback 64 4 10 4\nstart 1 flush\nstep 1 2\nstart 2 flush\nend 2\nstep 2 3\nfault 2 old\nfault 1 old\nend 2\nend 1\nend 2\nopen writeback\n",
+        prints: "skipped\nskipped\nskipped\nskipped\n1 refused 5 Io cache\n2 refused 6 Failed\nopen 2 0 0\n",
         ends: Ended::Played,
     },
 ];

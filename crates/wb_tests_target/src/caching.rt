@@ -30,7 +30,7 @@ pub fn caches_and_flushes(rt: &impl Wait, client: &mut Lent<'_>) -> bool {
     write_and_read(rt, client, 70, 0x11)
         && worked(rt, client).is_some()
         && client.write(rt, Sector(70), &[begun_with(0x22)]).is_ok()
-        && client.flush(rt) == Ok(Flushed::Led)
+        && matches!(client.flush(rt), Ok(Flushed::Led))
 }
 
 /// The devices of a target on which that was done, and whether it was.

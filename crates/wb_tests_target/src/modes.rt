@@ -71,7 +71,7 @@ fn a_write_in_passthrough_takes_its_block_out_of_the_cache(rt: HostRuntime) -> R
 /// Whether a write with FUA of two blocks is done.
 pub fn writes_durably(rt: &impl Wait, client: &mut Lent<'_>) -> bool {
     let two = [begun_with(0x33), begun_with(0x44)];
-    client.write_fua(rt, Sector(63), &two) == Ok(Flushed::Led)
+    matches!(client.write_fua(rt, Sector(63), &two), Ok(Flushed::Led))
 }
 
 /// Whether it is found after a crash that leaves what was durable alone.

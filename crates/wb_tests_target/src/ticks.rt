@@ -14,7 +14,7 @@ pub fn ticks(rt: &impl Wait, target: &Target<TinyLfu>, client: &mut Lent<'_>) ->
         && worked(rt, client).is_some()
         && client.write(rt, Sector(70), &[begun_with(0x22)]).is_ok()
         && target.dirty(rt) == 1
-        && client.tick(rt) == Ok(Flushed::Led)
+        && matches!(client.tick(rt), Ok(Flushed::Led))
         && worked(rt, client) == Some(Order::Clean(OBlock(1)))
         && target.dirty(rt) == 0
         && shows(rt, client, 70, 0x22)

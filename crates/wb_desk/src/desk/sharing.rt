@@ -1,6 +1,7 @@
 //! Flushes that share a commit.
 
 ghost use Rattle.std.specs.Prelude.{◌≡◌, IfOk, IfErr, OnErr};
+ghost use Rattle.std.specs.Bool.{OnTrue, OnFalse};
 ghost use Rattle.wb_desk.specs.Commits.{commit_broken};
 ghost use Rattle.wb_desk.specs.Sharing.{HasArrived, HasAsked, HasLed, IsLeadRefused, IsServed};
 
@@ -117,6 +118,21 @@ impl<P: Policy> Desk<P> {
         ensures { self.new ≡ commit_broken self.old }
     {
         self.broken = true;
+    }
+
+    /// Whether a commit has ended that covers who waits with this.
+    pub fn covers(&self, ticket: &Ticket) -> bool
+        ensures covered { OnTrue result (IsServed self.now ticket.now) }
+        ensures other { OnFalse result (¬ IsServed self.now ticket.now) }
+    {
+        ticket.after < self.ended
+    }
+
+    /// Whether a commit failed.
+    pub fn is_broken(&self) -> bool
+        ensures { result ≡ self.now.broken }
+    {
+        self.broken
     }
 
     /// Begins a commit that a flush leads; none where one runs.

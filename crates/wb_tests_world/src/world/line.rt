@@ -156,9 +156,13 @@ pub const COUNT_WRITE: Want = Want::Cell(CellStep::Count(Kind::WriteMiss));
 pub const FINISH: Want = Want::Cell(CellStep::Finish(BLOCK));
 
 /// The mapping of a cache of four blocks has one node at most.
-pub const BEGIN: Want = Want::Desk(DeskStep::BeginCommit(false, 1));
+pub const ARRIVE: Want = Want::Desk(DeskStep::Arrive(1));
+
+pub const ASK: Want = Want::Desk(DeskStep::Ask(1));
 
 pub const END: Want = Want::Desk(DeskStep::EndCommit);
+
+pub const BREAK: Want = Want::Desk(DeskStep::BreakCommit);
 
 pub const SHARE_NO_MORE: Want = Want::Cell(CellStep::Release(Access::Shared, BLOCK));
 

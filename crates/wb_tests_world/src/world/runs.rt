@@ -1,7 +1,7 @@
 //! A list of events by `run`: a write, a flush, a write that no flush has made durable, a crash, an opening, and a read.
 
 use super::line::{
-    Act, BEGIN, BOTH_SECTORS, CACHE, COUNT_READ, COUNT_WRITE, DONE, END, FINISH, FIRST_SECTOR,
+    ARRIVE, Act, BOTH_SECTORS, CACHE, COUNT_READ, COUNT_WRITE, DONE, END, FINISH, FIRST_SECTOR,
     FLUSH, LOOK_FAIL, LOOK_LOCK, LOOK_NUMBER, LOOK_SEAL, METADATA, OPEN, OPENING, ORIGIN, OWN,
     OWN_NO_MORE, READ_FIRST, READ_SECOND, ROOT, SHARE, SHARE_NO_MORE, WRITE_FIRST, WRITE_SECOND,
     WRITING,
@@ -24,7 +24,7 @@ struct Part {
 /// A flush of no node.
 pub const FLUSHING: [(Want, Got); 9] = [
     (LOOK_FAIL, Got::Word(0)),
-    (BEGIN, Got::Began(0)),
+    (ARRIVE, Got::Began(0)),
     (CACHE, Got::Done),
     (ORIGIN, Got::Done),
     (METADATA, Got::Done),

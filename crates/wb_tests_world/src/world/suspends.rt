@@ -1,8 +1,8 @@
 //! Suspends of a target that was opened by actor 0.
 
 use super::line::{
-    Act, CACHE, CACHE_FAILED, DONE, END, FAILED, FIRST_SECTOR, FLUSH, LOOK_FAIL, LOOK_SEAL, Line,
-    METADATA, OPEN, ORIGIN, PROMOTE, ROOT, Row, SET_FAILED, SUSPEND,
+    Act, BREAK, CACHE, CACHE_FAILED, DONE, END, FAILED, FIRST_SECTOR, FLUSH, LOOK_FAIL, LOOK_SEAL,
+    Line, METADATA, OPEN, ORIGIN, PROMOTE, ROOT, Row, SET_FAILED, SUSPEND,
 };
 use wb_disk::Base;
 use wb_promise::What;
@@ -13,7 +13,7 @@ use wb_types::{Mode, Refusal};
 const WRITE: Act = Act::WriteOf(0, FIRST_SECTOR, 0x22);
 
 /// The mapping of a cache of four blocks has one node at most.
-const BEGIN_CLEAN: Want = Want::Desk(DeskStep::BeginCommit(true, 1));
+const BEGIN_CLEAN: Want = Want::Desk(DeskStep::BeginCommit(1));
 
 const NODE: Want = Want::Device(DeviceStep::WriteNode(0));
 
@@ -81,7 +81,7 @@ pub const SUSPENDS: [Row; 6] = [
                 Act::Fault(1, Base::Durable),
                 What::Stepped(CACHE, Got::Fault),
             ),
-            Line::Takes(1, &[SET_FAILED]),
+            Line::Takes(1, &[SET_FAILED, BREAK]),
             Line::Does(OPEN, What::Skipped),
             Line::Takes(1, &[CACHE_FAILED]),
             Line::Finishes(&[OPEN]),

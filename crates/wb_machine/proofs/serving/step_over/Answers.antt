@@ -1,4 +1,4 @@
-use Rattle.std.proofs.Common.{◌∙◌, arith, length-set, subst, sym}
+use Rattle.std.proofs.Common.{◌∙◌, inl, arith, length-set, subst, sym}
 use Rattle.std.proofs.lemmas.Option.{slice_get_past, slice_get_read}
 use Rattle.wb_types.specs.declared.geometry.Geometry.{Geometry}
 use Rattle.wb_promise.specs.declared.event.Event.TheVariants.{Step}
@@ -17,7 +17,7 @@ returns-then-actor-len-clause-ok c =
     let members = c.args.members.now in
     let target = c.args.target.now in
     rw (c.skipped.ensures.read) (passes (shape_of c.args.geometry.now ACTORS) (state_of ACTORS c.args.devices.now (Standing target members)) (Step c.args.actor) _
-    (λ h. nobody_there _ c.args.actor _ (absent members.items target.crew.cards c.args.actor (slice_get_past members.items c.args.actor (omega (arith, members.ok)))) h) c.skipped.ensures.what)
+    (inl (λ h. nobody_there _ c.args.actor _ (absent members.items target.crew.cards c.args.actor (slice_get_past members.items c.args.actor (omega (arith, members.ok)))) h)) c.skipped.ensures.what)
 
 pub step-requires-clause-suits : goal.step-requires-clause-suits
 step-requires-clause-suits c =

@@ -1,4 +1,4 @@
-use Rattle.std.proofs.Common.{◌∙◌, ap, refl, sym, subst}
+use Rattle.std.proofs.Common.{◌∙◌, inl, ap, refl, sym, subst}
 use Rattle.wb_promise.specs.declared.event.Event.TheVariants.{Step}
 use Rattle.wb_machine.specs.declared.machine.TheConstants.{ACTORS}
 use Rattle.wb_machine.specs.declared.phase.Phase.TheVariants.{Underway}
@@ -10,11 +10,11 @@ use Rattle.wb_machine.proofs.stepping.step_opening.Goals as goal
 
 pub returns-in_default-clause-ok : goal.returns-in_default-clause-ok
 returns-in_default-clause-ok c = passes (shape_of c.args.geometry.now ACTORS) (state_of ACTORS c.args.devices.now c.args.phase.now) (Step c.args.actor) _
-    (idle ACTORS c.args.phase.now c.args.actor _ (nobody_opens c.args.phase.now c.args.actor c.requires.no_target c.in_default.not-Underway)) refl
+    (inl (idle ACTORS c.args.phase.now c.args.actor _ (nobody_opens c.args.phase.now c.args.actor c.requires.no_target c.in_default.not-Underway))) refl
 
 pub returns-then-opener-actor-clause-ok : goal.returns-then-opener-actor-clause-ok
 returns-then-opener-actor-clause-ok c = rw c.in-Underway.is (passes (shape_of c.args.geometry.now ACTORS) (state_of ACTORS c.args.devices.now (Underway c.in-Underway.opener)) (Step c.args.actor) _
-    (idle_beside ACTORS c.in-Underway.opener c.args.actor _ c.if-opener-actor.true) refl)
+    (inl (idle_beside ACTORS c.in-Underway.opener c.args.actor _ c.if-opener-actor.true)) refl)
 
 pub returns-in-Some-clause-ok : goal.returns-in-Some-clause-ok
 returns-in-Some-clause-ok c =

@@ -4,7 +4,7 @@ use Rattle.wb_target.specs.Carried.{client_state, Runs}
 use Rattle.wb_target.specs.Workers.{Turn}
 use Rattle.wb_target.proofs.Tries.{again}
 use Rattle.wb_target.proofs.Turns.{looked, works, idles, stopped}
-use Rattle.wb_target.specs.Works.{WasAsked}
+use Rattle.wb_target.specs.Works.{AskedSharing}
 use Rattle.wb_target.specs.Told.{WasNext}
 use Rattle.wb_target.proofs.worker.work_off.Goals as goal
 
@@ -36,7 +36,7 @@ returns-in_err-take_turn-clause-failed g c =
       took = c.loop.invariant.turned.1;
       saw = inr (
         c.if-not-go_on.ensures,
-        stopped g.D.Disk.tells g.D.Disk.size g.D.Disk.contents g.D.Disk.faults (WasAsked g.P.Policy.with_entry g.P.Policy.without_entry) (WasNext g.row.P.Denot) g.G.Gate.answers c.args.gate.now first seen.geometry (c.has_failed.ensures.geometry ∙ c.loop.invariant.geometry) (client_state c.loop.port) (client_state seen) (client_state c.take_turn.new.port)
+        stopped g.D.Disk.tells g.D.Disk.size g.D.Disk.contents g.D.Disk.faults (AskedSharing g.P.Policy.with_entry g.P.Policy.without_entry) (WasNext g.row.P.Denot) g.G.Gate.answers c.args.gate.now first seen.geometry (c.has_failed.ensures.geometry ∙ c.loop.invariant.geometry) (client_state c.loop.port) (client_state seen) (client_state c.take_turn.new.port)
             (looked 0 c.loop.port seen c.if-has_failed.ensures.clear c.has_failed.ensures.buffer c.has_failed.ensures.commit) c.in_err-take_turn.ensures.stopped,
       );
     })
@@ -56,8 +56,8 @@ loop-preserved g c =
     let seen = c.has_failed.new.self in
     let same = c.has_failed.ensures.geometry ∙ c.loop.invariant.geometry in record {
       geometry = c.take_turn.ensures.geometry ∙ same;
-      turned = again (Turn (Runs g.D.Disk.tells g.D.Disk.size g.D.Disk.contents g.D.Disk.faults (WasAsked g.P.Policy.with_entry g.P.Policy.without_entry) first.origin_blocks) (WasNext g.row.P.Denot) first g.G.Gate.answers c.args.gate.now) (client_state c.args.port.now) (client_state c.loop.port) (client_state c.take_turn.new.port) c.loop.invariant.turned
-          (idles g.D.Disk.tells g.D.Disk.size g.D.Disk.contents g.D.Disk.faults (WasAsked g.P.Policy.with_entry g.P.Policy.without_entry) (WasNext g.row.P.Denot) g.G.Gate.answers c.args.gate.now first seen.geometry same (client_state c.loop.port) (client_state seen) (client_state c.take_turn.new.port)
+      turned = again (Turn (Runs g.D.Disk.tells g.D.Disk.size g.D.Disk.contents g.D.Disk.faults (AskedSharing g.P.Policy.with_entry g.P.Policy.without_entry) first.origin_blocks) (WasNext g.row.P.Denot) first g.G.Gate.answers c.args.gate.now) (client_state c.args.port.now) (client_state c.loop.port) (client_state c.take_turn.new.port) c.loop.invariant.turned
+          (idles g.D.Disk.tells g.D.Disk.size g.D.Disk.contents g.D.Disk.faults (AskedSharing g.P.Policy.with_entry g.P.Policy.without_entry) (WasNext g.row.P.Denot) g.G.Gate.answers c.args.gate.now first seen.geometry same (client_state c.loop.port) (client_state seen) (client_state c.take_turn.new.port)
           (looked 0 c.loop.port seen c.if-has_failed.ensures.clear c.has_failed.ensures.buffer c.has_failed.ensures.commit) c.if-not-go_on.ensures (c.in_ok-take_turn.ensures.none_next c.if-branch.false) c.if-not-go_on-2.ensures (c.in_ok-take_turn.ensures.none_waits c.if-branch.false));
     }
 
@@ -67,7 +67,7 @@ loop-preserved-then-branch g c =
     let seen = c.has_failed.new.self in
     let same = c.has_failed.ensures.geometry ∙ c.loop.invariant.geometry in record {
       geometry = c.take_turn.ensures.geometry ∙ same;
-      turned = again (Turn (Runs g.D.Disk.tells g.D.Disk.size g.D.Disk.contents g.D.Disk.faults (WasAsked g.P.Policy.with_entry g.P.Policy.without_entry) first.origin_blocks) (WasNext g.row.P.Denot) first g.G.Gate.answers c.args.gate.now) (client_state c.args.port.now) (client_state c.loop.port) (client_state c.take_turn.new.port) c.loop.invariant.turned
-          (works g.D.Disk.tells g.D.Disk.size g.D.Disk.contents g.D.Disk.faults (WasAsked g.P.Policy.with_entry g.P.Policy.without_entry) (WasNext g.row.P.Denot) g.G.Gate.answers c.args.gate.now first seen.geometry same (client_state c.loop.port) (client_state seen) (client_state c.take_turn.new.port)
+      turned = again (Turn (Runs g.D.Disk.tells g.D.Disk.size g.D.Disk.contents g.D.Disk.faults (AskedSharing g.P.Policy.with_entry g.P.Policy.without_entry) first.origin_blocks) (WasNext g.row.P.Denot) first g.G.Gate.answers c.args.gate.now) (client_state c.args.port.now) (client_state c.loop.port) (client_state c.take_turn.new.port) c.loop.invariant.turned
+          (works g.D.Disk.tells g.D.Disk.size g.D.Disk.contents g.D.Disk.faults (AskedSharing g.P.Policy.with_entry g.P.Policy.without_entry) (WasNext g.row.P.Denot) g.G.Gate.answers c.args.gate.now first seen.geometry same (client_state c.loop.port) (client_state seen) (client_state c.take_turn.new.port)
           (looked 0 c.loop.port seen c.if-has_failed.ensures.clear c.has_failed.ensures.buffer c.has_failed.ensures.commit) c.if-not-go_on.ensures (c.in_ok-take_turn.ensures.took c.if-branch.true));
     }

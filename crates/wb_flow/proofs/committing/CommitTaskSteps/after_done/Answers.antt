@@ -9,4 +9,4 @@ returns-then-self-as_slice c = let t = c.self.inside in
     gave_up t c.in-GivesUp.field-0 c.in-GivesUp.is (subst (λ (xs : List OBlock). t.past < length xs) c.as_slice.ensures.value c.if-self-as_slice.true) c.self.view_is
 
 pub returns-in_default : goal.returns-in_default
-returns-in_default c = absurd (undone c.self.inside.phase c.in_default.not-Commits c.in_default.not-SetsSuspended c.in_default.not-GivesUp c.in_default.not-SetsFailed (comes_to c.self.inside Done c.self.view_is c.requires))
+returns-in_default c = absurd (undone c.self.inside.phase c.in_default.not-Commits c.in_default.not-SetsSuspended c.in_default.not-GivesUp c.in_default.not-SetsFailed c.in_default.not-BreaksCommits (comes_to c.self.inside Done c.self.view_is c.requires))

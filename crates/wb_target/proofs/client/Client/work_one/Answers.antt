@@ -5,7 +5,7 @@ use Rattle.wb_meta.proofs.Loaded.{IfErr-handed}
 use Rattle.wb_target.specs.Carried.{client_state}
 use Rattle.wb_target.proofs.Carried.{jobs_in}
 use Rattle.wb_target.proofs.Turns.{begun_by, gave_up_in}
-use Rattle.wb_target.specs.Works.{WasAsked}
+use Rattle.wb_target.specs.Works.{AskedSharing}
 use Rattle.wb_target.proofs.client.Client.work_one.Goals as goal
 
 pub returns-clause-carried : goal.returns-clause-carried
@@ -15,7 +15,7 @@ returns-clause-carried g c =
     let taken = c.take_buffer.ensures in (
       client_state begun,
       begun_by c.args.self.now.port c.has_failed.new.self begun c.if-has_failed.ensures.clear looked.buffer looked.commit taken.hand taken.commit taken.kept,
-      jobs_in g.D.Disk.tells g.D.Disk.size g.D.Disk.contents g.D.Disk.faults (WasAsked g.P.Policy.with_entry g.P.Policy.without_entry) _ begun.geometry c.args.self.now.port.geometry _ _ (taken.geometry ∙ looked.geometry) c.in_ok-carry_out.ensures.carried,
+      jobs_in g.D.Disk.tells g.D.Disk.size g.D.Disk.contents g.D.Disk.faults (AskedSharing g.P.Policy.with_entry g.P.Policy.without_entry) _ begun.geometry c.args.self.now.port.geometry _ _ (taken.geometry ∙ looked.geometry) c.in_ok-carry_out.ensures.carried,
     )
 
 pub returns-in_err-carry_out-clause-refused : goal.returns-in_err-carry_out-clause-refused
@@ -30,6 +30,6 @@ returns-in_err-carry_out-clause-refused g c =
       (
         client_state begun,
         begun_by c.args.self.now.port c.has_failed.new.self begun c.if-has_failed.ensures.clear looked.buffer looked.commit taken.hand taken.commit taken.kept,
-        gave_up_in g.D.Disk.tells g.D.Disk.size g.D.Disk.contents g.D.Disk.faults (WasAsked g.P.Policy.with_entry g.P.Policy.without_entry) c.args.self.now.port.geometry begun.geometry (taken.geometry ∙ looked.geometry) c.in-Some.order cause _ _ c.in_err-carry_out.ensures.given_up,
+        gave_up_in g.D.Disk.tells g.D.Disk.size g.D.Disk.contents g.D.Disk.faults (AskedSharing g.P.Policy.with_entry g.P.Policy.without_entry) c.args.self.now.port.geometry begun.geometry (taken.geometry ∙ looked.geometry) c.in-Some.order cause _ _ c.in_err-carry_out.ensures.given_up,
       ),
     ))))

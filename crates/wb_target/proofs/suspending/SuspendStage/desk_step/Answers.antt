@@ -1,16 +1,20 @@
-use Rattle.std.proofs.Common.{List, Bool, Some, refl, subst}
+use Rattle.std.proofs.Common.{List, Bool, inl, inr, refl, subst}
 use Rattle.wb_stage.specs.Stages.{DidBeginWith}
 use Rattle.wb_target.proofs.Suspends.{begun_works, ended_works}
 use Rattle.wb_target.proofs.suspending.SuspendStage.desk_step.Goals as goal
 
 pub returns-in-BeginCommit-clause-works : goal.returns-in-BeginCommit-clause-works
 returns-in-BeginCommit-clause-works g c =
-    let own = c.requires.step in
     let old = c.args.self.now in
-    let did = subst (λ (bits : List Bool). DidBeginWith g.P.Policy.hint_of (Some bits) c.in-BeginCommit.most c.begin_commit.result old.desk.now old.commit c.begin_commit.new.desk c.begin_commit.new.commit) c.as_slice.ensures.value c.begin_commit.ensures.did in
-    let asked = begun_works g.P.Policy.hint_of g.P.Policy.with_entry g.P.Policy.without_entry own.0 own.1 old.seen.items c.args.step _ c.in-BeginCommit.most c.begin_commit.result old.desk.now c.begin_commit.new.desk old.commit c.begin_commit.new.commit c.in-BeginCommit.is own.2 did in (refl, refl, asked.0, asked.1)
+    let did = subst (λ (bits : List Bool). DidBeginWith g.P.Policy.hint_of bits c.in-BeginCommit.most c.begin_commit.result old.desk.now old.commit c.begin_commit.new.desk c.begin_commit.new.commit) c.as_slice.ensures.value c.begin_commit.ensures.did in
+    let asked = begun_works g.P.Policy.hint_of g.P.Policy.with_entry g.P.Policy.without_entry old.seen.items c.args.step c.in-BeginCommit.most c.begin_commit.result old.desk.now c.begin_commit.new.desk old.commit c.begin_commit.new.commit c.in-BeginCommit.is did in (refl, refl, asked.0, asked.1)
 
 pub returns-in-EndCommit-clause-works : goal.returns-in-EndCommit-clause-works
 returns-in-EndCommit-clause-works g c =
     let old = c.args.self.now in
-    let asked = ended_works g.P.Policy.hint_of g.P.Policy.with_entry g.P.Policy.without_entry old.seen.items c.args.step c.ask.result old.desk.now c.ask.new.desk old.commit c.ask.new.commit c.in-EndCommit.is c.ask.ensures.did in (refl, refl, asked.0, asked.1)
+    let asked = ended_works g.P.Policy.hint_of g.P.Policy.with_entry g.P.Policy.without_entry old.seen.items c.args.step c.ask.result old.desk.now c.ask.new.desk old.commit c.ask.new.commit (inl c.in-EndCommit.is) c.ask.ensures.did in (refl, refl, asked.0, asked.1)
+
+pub returns-in-BreakCommit-clause-works : goal.returns-in-BreakCommit-clause-works
+returns-in-BreakCommit-clause-works g c =
+    let old = c.args.self.now in
+    let asked = ended_works g.P.Policy.hint_of g.P.Policy.with_entry g.P.Policy.without_entry old.seen.items c.args.step c.ask-in-BreakCommit.result old.desk.now c.ask-in-BreakCommit.new.desk old.commit c.ask-in-BreakCommit.new.commit (inr c.in-BreakCommit.is) c.ask-in-BreakCommit.ensures.did in (refl, refl, asked.0, asked.1)
