@@ -11,7 +11,7 @@ use Rattle.wb_desk.specs.Calls.{reserved, released, next_order_taken}
 use Rattle.wb_desk.specs.Entries.{mapped, unmapped}
 use Rattle.wb_desk.specs.Commits.{commit_broken}
 use Rattle.wb_desk.specs.Safety.{DeskCall, TakeOrder, Tell, GiveOrder, Release, Map, Unmap, BeginCommit, EndCommit, BreakCommit, Does, AreCalls, desk_after}
-use Rattle.wb_desk.specs.Sharing.{IsTicket, IsServed, HasArrived, HasAsked, HasEnd, HasWholeCommit, BeginsOrStays}
+use Rattle.wb_desk.specs.Sharing.{IsTicket, CommitCovers, HasArrived, HasAsked, HasEnd, HasWholeCommit, BeginsOrStays}
 use Rattle.wb_desk.proofs.Safe.{begun_does}
 
 -- whether a commit runs, and how many have ended
@@ -57,7 +57,7 @@ module _ {P : Type 0} where
   -- ---- lists of calls
 
   module _ (knows : P → Holdings → Type 0) where
-    pub served_stays : (d : DeskState P) (calls : List (DeskCall × DeskState P)) (number : ℕ) → AreCalls knows d calls → IsServed d number → IsServed (desk_after d calls) number
+    pub served_stays : (d : DeskState P) (calls : List (DeskCall × DeskState P)) (number : ℕ) → AreCalls knows d calls → CommitCovers d number → CommitCovers (desk_after d calls) number
     served_stays d [] number are served = served
     served_stays d (c ∷ calls) number are served = served_stays c.1 calls number are.2 (omega (arith, served, never_less d c.1 c.0 are.1))
 
@@ -94,7 +94,7 @@ module _ {P : Type 0} where
       ]
     ]
 
-    pub served_by_later : (d : DeskState P) (calls : List (DeskCall × DeskState P)) (number : ℕ) → AreCalls knows d calls → IsTicket d number → IsServed (desk_after d calls) number → HasWholeCommit calls
+    pub served_by_later : (d : DeskState P) (calls : List (DeskCall × DeskState P)) (number : ℕ) → AreCalls knows d calls → IsTicket d number → CommitCovers (desk_after d calls) number → HasWholeCommit calls
     served_by_later d calls number are ticket served = whole_from_running d calls are ticket.runs (omega (arith, ticket.next, served))
 
     pub broken_stays : (d : DeskState P) (calls : List (DeskCall × DeskState P)) → AreCalls knows d calls → d.broken ≡ true → (desk_after d calls).broken ≡ true

@@ -20,8 +20,8 @@ pub record IsTicket {P : Type 0} (d : DeskState P) (number : ℕ) : Type 0 where
   pub next : number ≡ d.ended + 2
 
 -- a commit of this number or a later one has ended
-abbrev pub IsServed : {P : Type 0} → DeskState P → ℕ → Type 0
-IsServed d number = number ≤ d.ended
+abbrev pub CommitCovers : {P : Type 0} → DeskState P → ℕ → Type 0
+CommitCovers d number = number ≤ d.ended
 
 -- A flush leads the commit that began for it.
 pub record IsLed {P : Type 0} (hint_of : P → ℕ → ℕ) (d : DeskState P) (image : Image) (new : DeskState P) : Type 0 where
@@ -44,9 +44,9 @@ HasArrived hint_of d (Ticket number) new = IsTicket d number × (new ≡ d)
 
 -- what comes of asking with a ticket of this number; a receipt tells the greatest number of those that ended
 abbrev pub HasAsked : {P : Type 0} → (P → ℕ → ℕ) → DeskState P → ℕ → Asked → DeskState P → Type 0
-HasAsked hint_of d number (Served receipt) new = IsServed d number × (receipt ≡ d.ended) × (new ≡ d)
-HasAsked hint_of d number (Leads image) new = (¬ IsServed d number) × IsLed hint_of d image new
-HasAsked hint_of d number Wait new = (¬ IsServed d number) × (d.broken ≡ false) × (d.space.committing ≡ true) × (new ≡ d)
+HasAsked hint_of d number (Served receipt) new = CommitCovers d number × (receipt ≡ d.ended) × (new ≡ d)
+HasAsked hint_of d number (Leads image) new = (¬ CommitCovers d number) × IsLed hint_of d image new
+HasAsked hint_of d number Wait new = (¬ CommitCovers d number) × (d.broken ≡ false) × (d.space.committing ≡ true) × (new ≡ d)
 
 -- ---- laws
 
@@ -63,11 +63,11 @@ HasWholeCommit (c ∷ calls) = ((c.0 ≡ BeginCommit) × HasEnd calls) ⊎ HasWh
 -- Whatever is called, a ticket is served only by a commit that began after its holder came.
 abbrev pub ServedByLaterCommits : (P : Type 0) → (P → Holdings → Type 0) → Type 0
 ServedByLaterCommits P knows = (d : DeskState P) (calls : List (DeskCall × DeskState P)) (number : ℕ) → AreCalls knows d calls → IsTicket d number
-    → IsServed (desk_after d calls) number → HasWholeCommit calls
+    → CommitCovers (desk_after d calls) number → HasWholeCommit calls
 
 -- One that is served stays so.
 abbrev pub ServedStays : (P : Type 0) → (P → Holdings → Type 0) → Type 0
-ServedStays P knows = (d : DeskState P) (calls : List (DeskCall × DeskState P)) (number : ℕ) → AreCalls knows d calls → IsServed d number → IsServed (desk_after d calls) number
+ServedStays P knows = (d : DeskState P) (calls : List (DeskCall × DeskState P)) (number : ℕ) → AreCalls knows d calls → CommitCovers d number → CommitCovers (desk_after d calls) number
 
 -- And a desk whose commits are broken stays so.
 abbrev pub BrokenStays : (P : Type 0) → (P → Holdings → Type 0) → Type 0

@@ -1,6 +1,6 @@
 -- What the promises exclude: answers that are right and ones that are not, on one sector to which two contents were written. A definition that
 -- were always true, or never, would be caught by one of these.
-use Rattle.std.specs.Prelude.{true, false, ◌≡◌, ℕ, Bool, List, [], ◌∷◌, Some, None, map}
+use Rattle.std.specs.Prelude.{true, false, ◌≡◌, ℕ, List, [], ◌∷◌, Some, None, map}
 use Rattle.wb_types.specs.declared.entry.Entry.{Entry}
 use Rattle.wb_types.specs.declared.mode.Dev.{Dev}
 use Rattle.wb_types.specs.declared.mode.Dev.TheVariants.{Cache, Origin}

@@ -1,10 +1,10 @@
 -- What is left of a flush, a suspend or an opening, by the phase that it is in.
-use Rattle.std.specs.Prelude.{◌++◌, ℕ, true, false, List, [], ◌∷◌}
+use Rattle.std.specs.Prelude.{◌++◌, ℕ, List, [], ◌∷◌}
 use Rattle.wb_types.specs.declared.mode.Dev.TheVariants.{Metadata, Cache, Origin}
 use Rattle.wb_types.specs.declared.number.OBlock.{OBlock}
 use Rattle.wb_types.specs.declared.refusal.Refusal.TheVariants.{Io}
 use Rattle.wb_words.specs.declared.word.Word.TheVariants.{Fail}
-use Rattle.wb_words.specs.declared.step.CellStep.TheVariants.{Look, SetFailed, SetSuspended}
+use Rattle.wb_words.specs.declared.step.CellStep.TheVariants.{Look, SetSuspended}
 use Rattle.wb_tasks.specs.Tables.{TaskJob, Flushing, Suspending, Opening}
 use Rattle.wb_tasks.specs.Plan.{Plan, failed_commit, seal_looks, release_orders}
 use Rattle.wb_tasks.specs.declared.step.DeviceStep.TheVariants.{Sync, ReadMetadata, WriteRoot}

@@ -2,7 +2,6 @@
 use Rattle.std.proofs.Common.{◌≡◌, ◌≢◌, ◌⊎◌, ℕ, false, List, [], ◌∷◌, Option, Some, None, length, slice_get}
 use Rattle.wb_types.specs.Limits.{node_count}
 use Rattle.wb_types.specs.declared.mode.Mode.{Mode}
-use Rattle.wb_types.specs.declared.mode.Mode.TheVariants.{Passthrough}
 use Rattle.wb_types.specs.declared.mode.Dev.TheVariants.{Metadata, Cache, Origin}
 use Rattle.wb_disk.specs.Device.{History}
 use Rattle.wb_meta.specs.Representing.{Stored}

@@ -1,5 +1,5 @@
 -- Whatever is started is followed: a read, a write, a flush, a suspend, an opening, and a migration or a replacement, under an order that is given or again under one that was kept.
-use Rattle.std.proofs.Common.{◌≡◌, ◌≢◌, ◌∙◌, ◌<◌, ◌+◌, ◌-◌, ◌/◌, inl, inr, ℕ, zero, suc, true, false, List, [], ◌∷◌, Option, Some, None, refl, sym, ap, subst, arith, length, slice_get, slice_set, Contains, ◌^◌, Bool, get_or}
+use Rattle.std.proofs.Common.{◌≡◌, ◌∙◌, ◌<◌, ◌+◌, ◌-◌, ◌/◌, inl, inr, ℕ, zero, suc, true, false, List, [], ◌∷◌, Option, Some, None, refl, sym, ap, subst, arith, length, slice_get, slice_set, Contains, ◌^◌, Bool, get_or}
 use Rattle.std.proofs.lemmas.List.{length-set, length-map}
 use Rattle.std.proofs.lemmas.List.Elements.{Contains-append_left}
 use Rattle.wb_types.proofs.Lists.{set_cases}
@@ -27,7 +27,7 @@ use Rattle.wb_runs.proofs.Extents.{AllWithin, MayStart, may_start, some_sectors,
 use Rattle.wb_runs.proofs.Lists.{rests}
 use Rattle.wb_link.specs.Tables.{Job as AbstractJob}
 use Rattle.wb_refines.specs.Commits.{commit_there}
-use Rattle.wb_link.specs.World.{World, abstract_after_all, job_alone, Shared, Mapped as MappedThere, NamesBlock as NamesThere}
+use Rattle.wb_link.specs.World.{World, abstract_after_all, Shared, Mapped as MappedThere, NamesBlock as NamesThere}
 use Rattle.wb_link.specs.Openings.{Opens as OpensThere, Settling, MayOpen}
 use Rattle.wb_refines.specs.Translation.{job_for}
 use Rattle.wb_simulation.specs.Sites.{StateTakesClean}

@@ -1,11 +1,10 @@
 //! A client of a target, as who stands above it sees it.
 
-ghost use Rattle.std.specs.Prelude.{◌≡◌, ◌*◌, [], IfErr, length};
+ghost use Rattle.std.specs.Prelude.{[]};
 ghost use Rattle.wb_opened.specs.Deeds.{ClientDid, ClientWorked};
 ghost use Rattle.wb_target.specs.Messages.{MessageDid};
 ghost use Rattle.wb_target.specs.Works.{AskedSharing, WasAsked};
 ghost use Rattle.wb_target.specs.Told.{WereSettled, HadTick, WasNext};
-ghost use Rattle.wb_opened.specs.Inside.{IsInside};
 
 use crate::served::{Served, Shown};
 use std::sync::Wait;

@@ -25,7 +25,7 @@ use Rattle.wb_tasks.specs.declared.step.Got.TheVariants.{Word, Fault}
 use Rattle.wb_tasks.proofs.Pieces.{first_piece}
 use Rattle.wb_port.specs.declared.moving.TheConstants.{LONGEST}
 use Rattle.wb_tasks.specs.Phases.{job_on_block}
-use Rattle.wb_port.specs.Straight.{ComesTo, GoesOn, access_by, giving_back, is_deferred, job_by, left, part_at, range_in, straight_writing, straight_written, work_by}
+use Rattle.wb_port.specs.Straight.{ComesTo, Continues, access_by, giving_back, is_deferred, job_by, left, part_at, range_in, straight_writing, straight_written, work_by}
 use Rattle.wb_port.specs.declared.straight.Part.{Part}
 use Rattle.wb_port.specs.declared.straight.Way.{Way}
 use Rattle.wb_port.specs.declared.straight.Way.TheVariants.{Reads, Writes}
@@ -48,10 +48,10 @@ module _ {S : Type 0} (led : S → Want → Got → S → Type 0) where
 
 module _ {S : Type 0} (ready : S → Want → Type 0) (led : S → Want → Got → S → Type 0) where
   -- one step goes on, and two stretches make one
-  pub steps_on : (s : Plan) (old : S) (w : Want) (g : Got) (mid : S) (t : Plan) → StaysReady ready led s old → want s ≡ w → Fits w g → led old w g mid → after s g ≡ t → GoesOn ready led s old t mid
+  pub steps_on : (s : Plan) (old : S) (w : Want) (g : Got) (mid : S) (t : Plan) → StaysReady ready led s old → want s ≡ w → Fits w g → led old w g mid → after s g ≡ t → Continues ready led s old t mid
   steps_on s old w g mid t stays e fits did is = (ready_after ready led s old w g mid t stays e fits did is, λ answer end run. goes_on led s old w g mid t answer end e fits did is run)
 
-  pub on_and_on : (s : Plan) (old : S) (t : Plan) (mid : S) (u : Plan) (new : S) → GoesOn ready led s old t mid → GoesOn ready led t mid u new → GoesOn ready led s old u new
+  pub on_and_on : (s : Plan) (old : S) (t : Plan) (mid : S) (u : Plan) (new : S) → Continues ready led s old t mid → Continues ready led t mid u new → Continues ready led s old u new
   on_and_on s old t mid u new first second = (second.0, λ answer end run. first.1 answer end (second.1 answer end run))
 
 -- what follows where there is no device that failed, and where there is one

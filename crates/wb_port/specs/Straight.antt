@@ -67,6 +67,7 @@ is_deferred mode place = false
 abbrev pub ComesTo : {S : Type 0} → (S → Want → Got → S → Type 0) → Plan → S → Answer → S → Type 0
 ComesTo led s old answer new = (steps : List (Want × Got)) × IsRunOf s steps answer × Leads led old steps new
 
--- At this state before, a stage comes to that state, with that left, goes on: it is ready for it, and what it comes to then it comes to from before.
-abbrev pub GoesOn : {S : Type 0} → (S → Want → Type 0) → (S → Want → Got → S → Type 0) → Plan → S → Plan → S → Type 0
-GoesOn ready led before old after new = StaysReady ready led after new × ((answer : Answer) (end : _) → ComesTo led after new answer end → ComesTo led before old answer end)
+-- A stage that stood at a state with some steps left stands at another with others left, and may go on from there: it is ready for what is
+-- left, and however a run of that ends, a run from the first state may end so.
+abbrev pub Continues : {S : Type 0} → (S → Want → Type 0) → (S → Want → Got → S → Type 0) → Plan → S → Plan → S → Type 0
+Continues ready led before old after new = StaysReady ready led after new × ((answer : Answer) (end : _) → ComesTo led after new answer end → ComesTo led before old answer end)

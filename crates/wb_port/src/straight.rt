@@ -4,7 +4,6 @@
 //! costs a fraction of the instructions.
 
 ghost use Rattle.std.specs.Prelude.{◌≡◌, ◌<◌, [], ◌∷◌, ◌++◌, Some, true, if◌then◌else◌, IfSome, IfNone};
-ghost use Rattle.std.specs.Bool.{OnTrue};
 ghost use Rattle.wb_types.specs.declared.refusal.Refusal.TheVariants.{Io};
 ghost use Rattle.wb_words.specs.SharedWords.{place_in as place_of_seal, dirty_in};
 ghost use Rattle.wb_words.specs.declared.word.Word.TheVariants.{Cell as LockWord, Seal as SealWord, Number};
@@ -15,7 +14,7 @@ ghost use Rattle.wb_tasks.specs.Plan.{table, answer_at};
 ghost use Rattle.wb_tasks.specs.declared.step.Answer.TheVariants.{Done as Finished, Refused as Refuses};
 ghost use Rattle.wb_tasks.specs.declared.step.Want.TheVariants.{Cell, Device};
 ghost use Rattle.wb_tasks.specs.declared.step.DeviceStep.TheVariants.{Read, Write};
-ghost use Rattle.wb_port.specs.Straight.{ComesTo, GoesOn, access_by, giving_back, is_deferred, job_by, left, range_in, straight_writing, straight_written};
+ghost use Rattle.wb_port.specs.Straight.{ComesTo, Continues, access_by, giving_back, is_deferred, job_by, left, range_in, straight_writing, straight_written};
 
 use crate::stepping::{change, look, take, transfer};
 use wb_tasks::{Answer, CellStep, DeviceStep, Stage};
@@ -147,7 +146,7 @@ fn dirty<S: Stage>(stage: &mut S, part: Part, place: Option<CBlock>, dirty: bool
 #[inline(always)]
 fn mark<S: Stage>(stage: &mut S, part: Part, place: Option<CBlock>, dirty: bool)
     requires stays { StaysReady S.ready S.led (left (Writing (range_in part)) (dirtying part.mode part.block place dirty ++ straight_writing part (places_written part.mode place) place) Finished) stage.old }
-    ensures { GoesOn S.ready S.led (left (Writing (range_in part)) (dirtying part.mode part.block place dirty ++ straight_writing part (places_written part.mode place) place) Finished) stage.old (left (Writing (range_in part)) (straight_writing part (places_written part.mode place) place) Finished) stage.new }
+    ensures { Continues S.ready S.led (left (Writing (range_in part)) (dirtying part.mode part.block place dirty ++ straight_writing part (places_written part.mode place) place) Finished) stage.old (left (Writing (range_in part)) (straight_writing part (places_written part.mode place) place) Finished) stage.new }
 {
     let Some(c) = place else {
         return;
@@ -176,8 +175,8 @@ fn write<S: Stage>(stage: &mut S, part: Part, place: Option<CBlock>) -> Answer
 fn put<S: Stage>(stage: &mut S, part: Part, place: Option<CBlock>) -> Option<Dev>
     requires some { 0 < part.block_sectors }
     requires stays { StaysReady S.ready S.led (left (Writing (range_in part)) (straight_writing part (places_written part.mode place) place) Finished) stage.old }
-    ensures done { IfNone result (GoesOn S.ready S.led (left (Writing (range_in part)) (straight_writing part (places_written part.mode place) place) Finished) stage.old (left (Writing (range_in part)) (straight_written part place) Finished) stage.new) }
-    ensures failed { IfSome result (λ device. GoesOn S.ready S.led (left (Writing (range_in part)) (straight_writing part (places_written part.mode place) place) Finished) stage.old (left (Writing (range_in part)) (Cell SetFailed ∷ []) (Refuses (Io device))) stage.new) }
+    ensures done { IfNone result (Continues S.ready S.led (left (Writing (range_in part)) (straight_writing part (places_written part.mode place) place) Finished) stage.old (left (Writing (range_in part)) (straight_written part place) Finished) stage.new) }
+    ensures failed { IfSome result (λ device. Continues S.ready S.led (left (Writing (range_in part)) (straight_writing part (places_written part.mode place) place) Finished) stage.old (left (Writing (range_in part)) (Cell SetFailed ∷ []) (Refuses (Io device))) stage.new) }
 {
     let (first, again) = written(part.mode, place);
     let (device, extent) = route(part, first);
@@ -195,8 +194,8 @@ fn put<S: Stage>(stage: &mut S, part: Part, place: Option<CBlock>) -> Option<Dev
 fn mirror<S: Stage>(stage: &mut S, part: Part, place: Option<CBlock>) -> Option<Dev>
     requires some { 0 < part.block_sectors }
     requires stays { StaysReady S.ready S.led (left (Writing (range_in part)) (straight_writing part (place ∷ []) place) Finished) stage.old }
-    ensures done { IfNone result (GoesOn S.ready S.led (left (Writing (range_in part)) (straight_writing part (place ∷ []) place) Finished) stage.old (left (Writing (range_in part)) (straight_written part place) Finished) stage.new) }
-    ensures failed { IfSome result (λ device. GoesOn S.ready S.led (left (Writing (range_in part)) (straight_writing part (place ∷ []) place) Finished) stage.old (left (Writing (range_in part)) (Cell SetFailed ∷ []) (Refuses (Io device))) stage.new) }
+    ensures done { IfNone result (Continues S.ready S.led (left (Writing (range_in part)) (straight_writing part (place ∷ []) place) Finished) stage.old (left (Writing (range_in part)) (straight_written part place) Finished) stage.new) }
+    ensures failed { IfSome result (λ device. Continues S.ready S.led (left (Writing (range_in part)) (straight_writing part (place ∷ []) place) Finished) stage.old (left (Writing (range_in part)) (Cell SetFailed ∷ []) (Refuses (Io device))) stage.new) }
 {
     let (device, extent) = route(part, place);
     if !transfer(stage, DeviceStep::Write(device, extent)) {

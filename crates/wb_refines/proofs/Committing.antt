@@ -7,7 +7,7 @@ use Rattle.wb_types.specs.declared.refusal.Refusal.TheVariants.{Busy, Memory, Ge
 use Rattle.wb_disk.specs.Device.{Content}
 use Rattle.wb_contents.specs.Acts.{partly_synced}
 use Rattle.wb_words.specs.declared.word.Word.TheVariants.{Fail, Seal as SealWord}
-use Rattle.wb_words.specs.declared.step.CellStep.TheVariants.{Look, SetFailed, SetSuspended}
+use Rattle.wb_words.specs.declared.step.CellStep.TheVariants.{Look, SetSuspended}
 use Rattle.wb_words.specs.SharedWords.{flag}
 use Rattle.wb_tasks.specs.Plan.{Plan, after, failed_commit, lets_go_unless_failed, commit_steps, node_writes, root_steps, release_orders}
 use Rattle.wb_tasks.specs.declared.step.Answer.{Answer}
@@ -18,7 +18,7 @@ use Rattle.wb_tasks.specs.declared.step.DeskStep.{DeskStep}
 use Rattle.wb_tasks.specs.declared.step.DeskStep.TheVariants.{Arrive, Ask, BeginCommit, EndCommit, BreakCommit}
 use Rattle.wb_tasks.specs.declared.step.Want.{Want}
 use Rattle.wb_tasks.specs.declared.step.Want.TheVariants.{Cell, Device, Desk}
-use Rattle.wb_tasks.specs.declared.step.Got.TheVariants.{Done, Word, Fault, Refused, Began, Ticket, Served as ServedHere}
+use Rattle.wb_tasks.specs.declared.step.Got.TheVariants.{Done, Word, Fault, Refused, Began, Ticket}
 use Rattle.wb_link.specs.Tables.{Flag, Short, Broken, Served, Ticket as TicketThere, Begin, Begin_clean, Flushing as FlushingFor, Suspending as SuspendingThere, Done as DoneThere, Fault as FaultThere, Job as JobThere, Want as AbstractWant, Sync_cache_device, Sync_origin_device, Answer as AnswerThere, Failed as AnsweredFailed, abstract_acquire}
 use Rattle.wb_link.specs.World.{Shared, Nothing, AbstractActor, Serves, Unserved, effect}
 use Rattle.wb_refines.specs.Translation.{wants_of, answer_for, job_for, script_for, with_ticket}

@@ -21,7 +21,7 @@ use Rattle.wb_tasks.specs.declared.step.Want.{Want}
 use Rattle.wb_tasks.specs.declared.step.Want.TheVariants.{Cell, Device, Desk}
 use Rattle.wb_tasks.specs.declared.step.Got.{Got as GotHere}
 use Rattle.wb_tasks.specs.declared.step.Got.TheVariants.{Done, Word, Fault, Refused, Began, Ticket, Served as ServedHere}
-use Rattle.wb_link.specs.Tables.{Got, Done as DoneThere, Begin, Begin_clean, End_running, Job as AbstractJob, Flushing as FlushingFor, Suspending as SuspendingThere, Want as AbstractWant}
+use Rattle.wb_link.specs.Tables.{Got, Done as DoneThere, Begin, Begin_clean, End_running, Job as AbstractJob, Flushing as FlushingFor, Suspending as SuspendingThere}
 use Rattle.wb_link.specs.World.{Shared, Nothing, AbstractActor, Serves, Unserved, effect}
 use Rattle.wb_refines.specs.Translation.{script_for, with_ticket}
 use Rattle.wb_refines.specs.Going.{AreQuiet, shared_after, gone, MayGo}

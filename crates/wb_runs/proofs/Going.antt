@@ -4,7 +4,7 @@ use Rattle.std.proofs.lemmas.Option.{slice_get_cases, slice_get_past}
 use Rattle.wb_types.specs.declared.mode.Mode.{Mode}
 use Rattle.wb_types.specs.declared.mode.Dev.TheVariants.{Metadata, Cache, Origin}
 use Rattle.wb_types.specs.declared.refusal.Refusal.{Refusal}
-use Rattle.wb_types.specs.declared.refusal.Refusal.TheVariants.{Busy, Failed, NotClean, Io}
+use Rattle.wb_types.specs.declared.refusal.Refusal.TheVariants.{Failed, NotClean, Io}
 use Rattle.wb_disk.specs.Device.{Content as Bytes, History}
 use Rattle.wb_disk.specs.Crash.{Choice}
 use Rattle.wb_types.specs.declared.number.OBlock.{OBlock}
@@ -39,7 +39,7 @@ use Rattle.wb_tasks.specs.Points.{OpenPoint, AtFirst, AtCache, AtOrigin, AtRead,
 use Rattle.wb_runs.proofs.Points.{Runs, CommitJob, Flushes, Suspends, task_of, doing_of, begin_of, first_looks, following, FlushPoint, ToLook, ToBegin, ToSyncCache, ToSyncOrigin, ToWriteNodes, ToWriteRoot, ToSyncRoot, ToEnd, ToSetSuspended, ToSetFailed, ToRelease, commit_left, IsOf, AtFlush, IsLeading, FlushAt, FlushTask, AtOpen, OpenAt, ask_of, ToAsk, ToBreak}
 use Rattle.std.proofs.lemmas.List.{append_assoc}
 use Rattle.wb_words.specs.declared.step.CellStep.TheVariants.{SetFailed, SetSuspended, Look}
-use Rattle.wb_tasks.specs.declared.step.DeskStep.TheVariants.{Arrive, Ask, BeginCommit, BreakCommit}
+use Rattle.wb_tasks.specs.declared.step.DeskStep.TheVariants.{Arrive, Ask, BeginCommit}
 use Rattle.wb_tasks.specs.declared.step.DeviceStep.{DeviceStep}
 use Rattle.wb_tasks.specs.declared.step.DeviceStep.TheVariants.{Sync, WriteNode, WriteRoot}
 use Rattle.wb_runs.proofs.Stepping.{node_fact, root_fact}

@@ -10,7 +10,6 @@ use Rattle.std.specs.List.{count_by}
 use Rattle.std.specs.Prelude.{is_some}
 use Rattle.wb_tree.specs.Mapping.{Mapping, IsMapping, IsSound, AreInside, used_places}
 use Rattle.wb_tree.specs.Edits.{IsEdited}
-use Rattle.wb_tree.specs.declared.image.Image.{Image}
 use Rattle.wb_tree.proofs.Stored.Edited.{edited-none}
 use Rattle.wb_space.specs.Places.{noted, unused, place_count}
 use Rattle.wb_format.specs.declared.root.Root.{Root}

@@ -18,17 +18,15 @@ use Rattle.wb_words.specs.declared.card.Card.{Card}
 use Rattle.wb_words.specs.SharedWords.{Words, place_in}
 use Rattle.wb_words.specs.Effects.{result_of}
 use Rattle.wb_tasks.specs.Tables.{BlockJob, BlockRange, TaskJob, OnBlock, Reading as ReadingPart, Writing, Displacing, Invalidating, Migrating, Flushing, Suspending, Opening}
-use Rattle.wb_tasks.specs.Plan.{Plan, want, after, after_look, after_fault, after_refusal, after_more, first_step, may_take, exchange, is_worn, gives_back, IsStep, onward, refused, deferring, answer_seeing, got_of}
+use Rattle.wb_tasks.specs.Plan.{Plan, want, after, after_look, after_fault, first_step, may_take, exchange, is_worn, gives_back, IsStep, onward, refused, deferring, answer_seeing, got_of}
 use Rattle.wb_tasks.specs.Ready.{Has}
 use Rattle.wb_tasks.specs.declared.step.Answer.{Answer}
 use Rattle.wb_tasks.specs.declared.step.Answer.TheVariants.{Done as Finished}
 use Rattle.wb_tasks.specs.declared.step.DeviceStep.{DeviceStep}
-use Rattle.wb_tasks.specs.declared.step.DeviceStep.TheVariants.{Read as ReadExtent, Write as WriteExtent, Sync, ReadMetadata, WriteNode, WriteRoot}
-use Rattle.wb_tasks.specs.declared.step.DeskStep.TheVariants.{Map, Unmap, ReleaseOrder, Arrive, Ask, BeginCommit, EndCommit, BreakCommit}
 use Rattle.wb_tasks.specs.declared.step.Want.{Want}
 use Rattle.wb_tasks.specs.declared.step.Want.TheVariants.{Cell, Device, Desk, End}
 use Rattle.wb_tasks.specs.declared.step.Got.{Got}
-use Rattle.wb_tasks.specs.declared.step.Got.TheVariants.{Begin, Done, Word, Lost, Fault, Refused as GotRefused, Began, Ticket, Served, More}
+use Rattle.wb_tasks.specs.declared.step.Got.TheVariants.{Done, Word, Lost, Fault}
 use Rattle.wb_promise.specs.States.{Shape}
 use Rattle.wb_promise.specs.Happenings.{block_range}
 use Rattle.wb_promise.specs.Clerk.{Reading, Position, Entering, enter, enter_each, readings_from}

@@ -1,5 +1,5 @@
 -- One actor goes on, and all others are as they were.
-use Rattle.std.proofs.Common.{Contains, ◌≢◌, zero, suc, [], ◌∷◌, bit_or, ◌≡◌, ◌+◌, ◌==◌, ◌∙◌, inl, inr, cond, if◌then◌else◌, ℕ, Bool, true, false, List, Option, Some, refl, sym, ap, subst, arith, slice_get, slice_set}
+use Rattle.std.proofs.Common.{Contains, ◌≢◌, zero, suc, [], ◌∷◌, ◌≡◌, ◌==◌, ◌∙◌, inl, inr, if◌then◌else◌, ℕ, Bool, true, false, List, Option, Some, refl, sym, ap, subst, arith, slice_get, slice_set}
 use Rattle.std.proofs.lemmas.List.{length-set}
 use Rattle.std.proofs.lemmas.Option.{slice_get_within}
 use Rattle.wb_disk.specs.Device.{History}

@@ -40,7 +40,7 @@ use Rattle.wb_simulation.specs.Telling.{Telling, Quietly, IsTold}
 use Rattle.wb_simulation.specs.Worlds.{Situation, Agrees, WorldFollows}
 use Rattle.wb_simulation.specs.Laws.{CellStepsFollowed, IsRequestJob, stepped_actor}
 use Rattle.wb_simulation.proofs.Telling.{quiet_are_unnoted}
-use Rattle.wb_simulation.proofs.Steps.{read_of_block, write_of_block, after_cell, written_of_block, invalidating_of_block}
+use Rattle.wb_simulation.proofs.Steps.{read_of_block, after_cell, written_of_block, invalidating_of_block}
 use Rattle.wb_simulation.proofs.Cells.{Acted, acts_in_role, acts_over, tells, StoppedAs}
 use Rattle.wb_simulation.proofs.Orders.{MigratesNot, IsDone, does_none}
 use Rattle.wb_simulation.proofs.Among.{card_there, own_there, takes, failed_stays, goes_on}

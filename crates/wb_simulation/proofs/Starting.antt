@@ -8,7 +8,7 @@ use Rattle.wb_simulation.proofs.Written.{job_written}
 use Rattle.wb_refines.proofs.Tables.{tables_agree}
 use Rattle.wb_words.specs.SharedWords.{Words, flag}
 use Rattle.wb_policy.specs.declared.order.Order.{Order}
-use Rattle.wb_tasks.specs.Tables.{BlockRange, Reading, Writing, OnBlock, Flushing, Suspending, Invalidating}
+use Rattle.wb_tasks.specs.Tables.{BlockRange, Reading, OnBlock, Flushing, Suspending, Invalidating}
 use Rattle.wb_types.specs.declared.number.OBlock.{OBlock}
 use Rattle.wb_tasks.specs.Plan.{Plan, table, seal_looks}
 use Rattle.wb_tasks.specs.declared.step.DeskStep.TheVariants.{BeginCommit}

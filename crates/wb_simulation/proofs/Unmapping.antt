@@ -1,29 +1,24 @@
 -- The desk's unmap of a write or an invalidation is followed.
-use Rattle.std.proofs.Common.{◌≡◌, ◌≢◌, ◌∙◌, ◌⊎◌, inl, inr, ℕ, Bool, true, false, List, [], ◌∷◌, Option, Some, None, refl, sym, ap, subst, slice_get, slice_set}
+use Rattle.std.proofs.Common.{◌≡◌, ◌∙◌, ◌⊎◌, inl, inr, ℕ, Bool, true, false, List, [], ◌∷◌, Option, Some, None, refl, sym, ap, subst, slice_get, slice_set}
 use Rattle.wb_simulation.proofs.Cells.{Leading}
 use Rattle.wb_refines.proofs.Followed.{rest_plain}
 use Rattle.wb_refines.proofs.Cells.{IsPlain, held_plain, saw_plain}
 use Rattle.wb_tasks.specs.Ready.{Suits}
-use Rattle.wb_policy.specs.declared.order.Order.TheVariants.{Promote, Demote, Clean, Replace}
-use Rattle.std.proofs.lemmas.Bool.{cases_eq}
 use Rattle.wb_types.specs.declared.number.CBlock.{CBlock}
 use Rattle.wb_types.specs.declared.number.OBlock.{OBlock}
 use Rattle.wb_disk.specs.Device.{Content}
-use Rattle.wb_words.specs.declared.card.Card.{Card}
-use Rattle.wb_words.specs.declared.step.CellStep.TheVariants.{Look}
-use Rattle.wb_words.specs.declared.word.Word.TheVariants.{Fail}
 use Rattle.wb_policy.specs.declared.order.Order.{Order}
-use Rattle.wb_tasks.specs.Tables.{BlockRange, BlockJob, Reading, Invalidating, OnBlock}
-use Rattle.wb_tasks.specs.Plan.{Plan, want, after, first_step}
+use Rattle.wb_tasks.specs.Tables.{BlockRange, BlockJob, Reading, Invalidating}
+use Rattle.wb_tasks.specs.Plan.{Plan, want, first_step}
 use Rattle.wb_tasks.specs.declared.step.Answer.{Answer}
 use Rattle.wb_tasks.specs.declared.step.DeskStep.TheVariants.{Unmap}
 use Rattle.wb_tasks.specs.declared.step.Want.{Want}
 use Rattle.wb_tasks.specs.declared.step.Want.TheVariants.{Desk}
 use Rattle.wb_tasks.specs.declared.step.Got.TheVariants.{Done}
-use Rattle.wb_contents.specs.Volume.{Locations, changed}
-use Rattle.wb_link.specs.Tables.{Script, Job as AbstractJob, Want as AbstractWant, Order as AbstractOrder, Unmap_plain, Done as DoneThere}
-use Rattle.wb_link.specs.World.{World, Shared, Quarantined, AbstractActor, is_alone, MayStep}
-use Rattle.wb_refines.specs.Going.{records, shared_after, gone, MayGo}
+use Rattle.wb_contents.specs.Volume.{changed}
+use Rattle.wb_link.specs.Tables.{Script, Order as AbstractOrder, Done as DoneThere}
+use Rattle.wb_link.specs.World.{World, Shared, Quarantined, AbstractActor, is_alone}
+use Rattle.wb_refines.specs.Going.{shared_after, gone, MayGo}
 use Rattle.wb_refines.specs.Translation.{script_for}
 use Rattle.wb_refines.specs.Models.{IsAt, HasStopped, plan_of, MayUnmap, held_of}
 use Rattle.wb_refines.proofs.Locks.{has_no_more}
@@ -32,11 +27,11 @@ use Rattle.wb_promise.specs.declared.job.Job.{Job}
 use Rattle.wb_promise.specs.declared.job.Job.TheVariants.{Read, Write, Invalidate}
 use Rattle.wb_promise.specs.States.{Actor}
 use Rattle.wb_simulation.specs.Steps.{AreOfBlock}
-use Rattle.wb_simulation.specs.Carried.{live_there, order_there, is_at, replacement_there}
+use Rattle.wb_simulation.specs.Carried.{live_there, order_there}
 use Rattle.wb_simulation.specs.Actors.{write_of, IsLate, IsRequestAt, IsDoing, IsAmongOthers, StandsFor}
 use Rattle.wb_simulation.specs.Telling.{Quietly, AreUnnoted}
 use Rattle.wb_simulation.specs.Worlds.{Situation, Agrees, OrdersAgree, OrderIsThere, Unmaps, WorldFollowsBy}
-use Rattle.wb_simulation.specs.Laws.{HasNoOrder, UnmapFollowed, UnmapsFollowed, IsRequestJob, WantsNext, after_step}
+use Rattle.wb_simulation.specs.Laws.{HasNoOrder, UnmapFollowed, UnmapsFollowed, IsRequestJob, after_step}
 use Rattle.wb_simulation.proofs.Orders.{IsDone, MigratesNot, by_pair, cache_there, does_none, who}
 use Rattle.wb_simulation.proofs.Among.{own_there, goes_with}
 use Rattle.wb_simulation.proofs.Followed.{doing_of, begins_by}

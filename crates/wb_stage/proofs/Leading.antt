@@ -1,5 +1,5 @@
 -- A commit that a flush leads, and what comes of a flush that asks without a ticket.
-use Rattle.std.proofs.Common.{◌≡◌, ℕ, List, Option, Some, None, Bool, length, sym, subst, ap}
+use Rattle.std.proofs.Common.{◌≡◌, ℕ, Option, Some, None, length, sym, subst, ap}
 use Rattle.wb_tree.specs.declared.image.Image.{Image}
 use Rattle.wb_meta.specs.declared.commit_steps.CommitSteps.TheVariants.{NodesWritten}
 use Rattle.wb_desk.specs.Desks.{DeskState}
@@ -14,7 +14,6 @@ use Rattle.wb_devices.specs.declared.running.RunningCommit.{RunningCommit}
 use Rattle.wb_stage.specs.Sharing.{IsCovered, MustWait, share_then}
 use Rattle.wb_stage.specs.Stages.{DidArrive, DidAskWith, DidBeginSo, DidLead}
 use Rattle.wb_stage.specs.declared.share.Share.{Share}
-use Rattle.wb_stage.specs.declared.share.Share.TheVariants.{Nothing}
 
 -- one that runs now
 abbrev pub IsNew : Image → Option RunningCommit → Type 0

@@ -1,7 +1,7 @@
 -- What a flush has of the commits that others lead, when it has to wait, and what it has after a step.
 use Rattle.std.specs.Prelude.{◌≡◌, ◌+◌, true, false}
 use Rattle.wb_desk.specs.Desks.{DeskState}
-use Rattle.wb_desk.specs.Sharing.{IsServed as HasEnded}
+use Rattle.wb_desk.specs.Sharing.{CommitCovers}
 use Rattle.wb_tasks.specs.declared.step.DeskStep.{DeskStep}
 use Rattle.wb_tasks.specs.declared.step.DeskStep.TheVariants.{Arrive, Ask}
 use Rattle.wb_tasks.specs.declared.step.Got.{Got}
@@ -11,7 +11,7 @@ use Rattle.wb_stage.specs.declared.share.Share.TheVariants.{Nothing, Waiting, Co
 
 -- a commit has ended that covers who waits with this
 abbrev pub IsCovered : {P : Type 0} → DeskState P → Share → Type 0
-IsCovered d (Waiting number) = HasEnded d number
+IsCovered d (Waiting number) = CommitCovers d number
 IsCovered d share = ⊥
 
 -- Who asks with this has to wait: no commit is broken, one runs, and none has ended that covers it.

@@ -17,7 +17,7 @@ use Rattle.wb_tasks.specs.Plan.{Plan, table, want}
 use Rattle.wb_tasks.specs.Ready.{AreBelow, AreFirst, IsOwnStep, IsSuspends, Suits, left_by}
 use Rattle.wb_tasks.specs.Run.{IsRunOf, Leads}
 use Rattle.wb_tasks.specs.declared.step.Want.{Want}
-use Rattle.wb_tasks.specs.declared.step.Want.TheVariants.{Cell, Desk}
+use Rattle.wb_tasks.specs.declared.step.Want.TheVariants.{Cell}
 use Rattle.wb_tasks.specs.declared.step.Got.{Got}
 use Rattle.wb_tasks.specs.declared.step.Got.TheVariants.{Word, Began, Refused}
 use Rattle.wb_tasks.proofs.Readiness.{suspend_begins, is_ready, is_own_step}
@@ -27,8 +27,8 @@ use Rattle.wb_tasks.specs.declared.step.DeskStep.{DeskStep}
 use Rattle.wb_tasks.specs.declared.step.DeskStep.TheVariants.{BeginCommit, EndCommit, BreakCommit}
 use Rattle.wb_stage.specs.declared.share.Share.TheVariants.{Nothing as Unshared}
 use Rattle.wb_target.proofs.Asking.{commit_asked}
-use Rattle.wb_stage.specs.Stages.{DidAsk, DidBeginWith, EndsWith, is_all_done}
-use Rattle.wb_target.specs.Works.{DidAskDesk, EndsIf}
+use Rattle.wb_stage.specs.Stages.{DidAsk, DidBeginWith}
+use Rattle.wb_target.specs.Works.{DidAskDesk}
 use Rattle.wb_stage.specs.Seen.{seen_at, seen_after}
 use Rattle.wb_stage.proofs.Readying.{same_job}
 use Rattle.wb_port.specs.Kinds.{LeavesHolds}

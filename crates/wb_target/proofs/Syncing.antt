@@ -8,7 +8,7 @@ use Rattle.wb_types.specs.declared.refusal.Refusal.{Refusal}
 use Rattle.wb_types.specs.declared.refusal.Refusal.TheVariants.{Busy, Failed, Memory, GenerationEnd, Io}
 use Rattle.wb_disk.specs.Device.{History, Content as Bytes, newest, only, synced}
 use Rattle.wb_words.specs.declared.word.Word.TheVariants.{Seal as SealWord, Fail}
-use Rattle.wb_words.specs.declared.step.CellStep.TheVariants.{Look, SetFailed, SetSuspended}
+use Rattle.wb_words.specs.declared.step.CellStep.TheVariants.{Look, SetSuspended}
 use Rattle.wb_tasks.specs.Tables.{TaskJob, Flushing, Suspending}
 use Rattle.wb_tasks.specs.Plan.{Plan, table, after, after_look, after_fault_of, device_of, failed_commit, refused, release_orders, seal_looks, node_writes, root_steps, commit_steps, Fits}
 use Rattle.wb_tasks.specs.Run.{IsRunOf, Leads}

@@ -1,6 +1,6 @@
 //! Opening a target over what three devices hold.
 
-ghost use Rattle.std.specs.Prelude.{◌≡◌, ◌≤◌, ◌<◌, ◌⊎◌, IfOk, IfErr, OnOk, length};
+ghost use Rattle.std.specs.Prelude.{◌≡◌, ◌<◌, ◌⊎◌, IfOk, IfErr, OnOk, length};
 ghost use Rattle.wb_tasks.specs.declared.step.Answer.{Answer as AnswerTerm};
 ghost use Rattle.wb_target.specs.Making.{IsMade, WasRun};
 ghost use Rattle.wb_words.specs.declared.card.Hold.TheVariants.{Nothing};

@@ -1,5 +1,5 @@
 -- A read, write or migration takes no more steps than its sectors allow, however they are cut.
-use Rattle.std.proofs.Common.{◌≡◌, ◌+◌, ◌*◌, ◌≤◌, ◌++◌, true, ℕ, List, [], ◌∷◌, length, max, arith}
+use Rattle.std.proofs.Common.{◌≡◌, ◌+◌, ◌*◌, ◌≤◌, ◌++◌, ℕ, List, [], ◌∷◌, length, max, arith}
 use Rattle.wb_tasks.specs.declared.step.DeskStep.TheVariants.{BeginCommit}
 use Rattle.wb_tasks.specs.declared.step.Want.{Want}
 use Rattle.wb_tasks.specs.declared.step.Want.TheVariants.{Desk}

@@ -16,7 +16,7 @@ use Rattle.wb_words.specs.declared.step.CellStep.TheVariants.{Look, Take, Releas
 use Rattle.wb_words.specs.SharedWords.{Words, word_at, value_of, place_in, dirty_in, seal_word}
 use Rattle.wb_words.specs.Cards.{is_own_seal, looked}
 use Rattle.wb_words.specs.Effects.{result_of, card_after}
-use Rattle.wb_tasks.specs.Tables.{BlockJob, Reading, Writing, Displacing, Invalidating, Migrating, OnBlock, TaskJob, access_of, work}
+use Rattle.wb_tasks.specs.Tables.{BlockJob, Displacing, Invalidating, Migrating, OnBlock, TaskJob, access_of, work}
 use Rattle.wb_tasks.specs.Plan.{Plan, table, want, after, after_fault_of, refused, got_of, exchange, gives_back, gives_up, may_take, is_worn, first_step, Fits}
 use Rattle.wb_tasks.specs.Run.{Leads}
 use Rattle.wb_tasks.specs.Ready.{AreFirst, Has, HasBlock, Suits, SuitsJob, IsOwnStep, IsAsked, MayMake, block_of, left_by}

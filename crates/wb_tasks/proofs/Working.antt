@@ -1,5 +1,5 @@
 -- What holds of all that a job does once it has seen its block's seal, shown of each of its steps once.
-use Rattle.std.proofs.Common.{◌≡◌, ◌≢◌, ◌∙◌, ◌++◌, Bool, true, false, List, [], ◌∷◌, map, Option, Some, None, Contains, refl, sym, ap, subst, append_assoc}
+use Rattle.std.proofs.Common.{◌≡◌, ◌≢◌, ◌∙◌, ◌++◌, Bool, true, false, List, [], ◌∷◌, map, Option, Some, None, Contains, refl, sym, subst, append_assoc}
 use Rattle.wb_types.proofs.Lists.{Contains-first, Contains-behind}
 use Rattle.wb_types.specs.declared.extent.Extent.{Extent}
 use Rattle.wb_types.specs.declared.mode.Mode.{Mode}
@@ -8,7 +8,7 @@ use Rattle.wb_types.specs.declared.number.CBlock.{CBlock}
 use Rattle.wb_types.specs.declared.number.OBlock.{OBlock}
 use Rattle.wb_words.specs.declared.word.Access.TheVariants.{Shared, Owned}
 use Rattle.wb_words.specs.declared.step.CellStep.TheVariants.{Release, Seal, Finish}
-use Rattle.wb_tasks.specs.Tables.{BlockRange, BlockJob, Reading, Writing, Displacing, Invalidating, Migrating, place_read, dirtying, read_step, write_step, read_count, write_count, writes, writing, copies, ending, work}
+use Rattle.wb_tasks.specs.Tables.{BlockRange, BlockJob, Reading, Writing, Displacing, Invalidating, Migrating, place_read, read_step, write_step, read_count, write_count, writes, writing, copies, ending, work}
 use Rattle.wb_tasks.specs.Plan.{gives_up}
 use Rattle.wb_tasks.specs.declared.step.DeskStep.TheVariants.{Unmap, ReleaseOrder}
 use Rattle.wb_tasks.specs.declared.step.Migration.{Migration}
@@ -123,20 +123,6 @@ work_has R (Migrating Demote part) w (Some c) true = copied_on (R (Some c) true)
 work_has R (Migrating Clean part) w None dirty = w.last None dirty
 work_has R (Migrating Clean part) w (Some c) false = w.last (Some c) false
 work_has R (Migrating Clean part) w (Some c) true = copied_on (R (Some c) true) part.extents part (Some c) None part.extents _ (λ e m. m) (w.each c) (w.last (Some c) true)
-
--- In write-back a read takes each extent from where its block stands, and a write puts each there.
-writes_back : (part : BlockRange) (place : Option CBlock) (es : List Extent) → writes part (place ∷ []) es ≡ map (write_step part place) es
-writes_back part place [] = refl
-writes_back part place (e ∷ es) = ap (λ (ws : List Want). write_step part place e ∷ ws) (writes_back part place es)
-
-pub read_work_back : (part : BlockRange) → part.mode ≡ Writeback → (place : Option CBlock) (dirty : Bool) → work (Reading part) place dirty ≡ map (read_step part place) part.extents ++ read_count place ∷ Cell (Release Shared part.block) ∷ []
-read_work_back part back place dirty = ap (λ (mode : Mode). map (read_step part (place_read mode place)) part.extents ++ read_count (place_read mode place) ∷ Cell (Release Shared part.block) ∷ []) back
-
-pub write_work_back : (part : BlockRange) → part.mode ≡ Writeback → (place : Option CBlock) (dirty : Bool) →
-    work (Writing part) place dirty ≡ dirtying Writeback part.block place dirty ++ map (write_step part place) part.extents ++ Cell (Finish part.block) ∷ write_count place ∷ Cell (Release Owned part.block) ∷ []
-write_work_back part back place dirty =
-    ap (λ (mode : Mode). writing mode part place dirty) back
-    ∙ ap (λ (ws : List Want). dirtying Writeback part.block place dirty ++ ws ++ Cell (Finish part.block) ∷ write_count place ∷ Cell (Release Owned part.block) ∷ []) (writes_back part place part.extents)
 
 -- what holds of nothing, and of giving up an order, holds of what a job gives up
 pub parting_has : (Q : List Want → Type 0) (job : BlockJob) → Q [] → ((block : OBlock) → Q (Desk (ReleaseOrder block) ∷ [])) → Q (gives_up job)

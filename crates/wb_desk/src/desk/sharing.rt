@@ -3,7 +3,7 @@
 ghost use Rattle.std.specs.Prelude.{◌≡◌, IfOk, IfErr, OnErr};
 ghost use Rattle.std.specs.Bool.{OnTrue, OnFalse};
 ghost use Rattle.wb_desk.specs.Commits.{commit_broken};
-ghost use Rattle.wb_desk.specs.Sharing.{HasArrived, HasAsked, HasLed, IsLeadRefused, IsServed};
+ghost use Rattle.wb_desk.specs.Sharing.{HasArrived, HasAsked, HasLed, IsLeadRefused, CommitCovers};
 
 use super::Desk;
 use std::alloc::Global;
@@ -101,7 +101,7 @@ impl<P: Policy> Desk<P> {
     pub fn ask(&mut self, alloc: Global, ticket: &Ticket) -> Result<Asked, Refusal>
         ensures ok { IfOk result (λ asked. HasAsked P.hint_of self.old ticket.now asked self.new) }
         ensures err { OnErr result (self.new ≡ self.old) }
-        ensures refused { IfErr result (λ refusal. (¬ IsServed self.old ticket.now) × IsLeadRefused self.old refusal) }
+        ensures refused { IfErr result (λ refusal. (¬ CommitCovers self.old ticket.now) × IsLeadRefused self.old refusal) }
     {
         if ticket.after < self.ended {
             return Ok(Asked::Served(Receipt { number: self.ended }));
@@ -122,8 +122,8 @@ impl<P: Policy> Desk<P> {
 
     /// Whether a commit has ended that covers who waits with this.
     pub fn covers(&self, ticket: &Ticket) -> bool
-        ensures covered { OnTrue result (IsServed self.now ticket.now) }
-        ensures other { OnFalse result (¬ IsServed self.now ticket.now) }
+        ensures covered { OnTrue result (CommitCovers self.now ticket.now) }
+        ensures other { OnFalse result (¬ CommitCovers self.now ticket.now) }
     {
         ticket.after < self.ended
     }

@@ -1,6 +1,4 @@
-use Rattle.std.proofs.Common.{ℕ, List, Some, sym, subst}
-use Rattle.wb_tree.specs.declared.image.Image.{Image}
-use Rattle.wb_desk.specs.Desks.{DeskState}
+use Rattle.std.proofs.Common.{Some, sym, subst}
 use Rattle.wb_desk.specs.Commits.{HasBegun}
 use Rattle.wb_tasks.specs.declared.step.Got.{Got}
 use Rattle.wb_stage.specs.Stages.{DidBeginWith}
