@@ -2,21 +2,24 @@
 
     every_opening.py WBCACHE
 
-Behind the mixed run of every_step.py, whole and without its last two tasks, so that a dirty block is there, comes a suspend, and then an opening in each
-mode that is not refused. Before and after each of their steps on a device there is a stop that leaves each sector its oldest content, one that leaves
-each its newest, and one for each other content of each single sector; and each step fails, lost or landed, behind which the devices are opened as they
-are, or there is a stop. Then an opening in write-back has to be answered, and each sector has to show what the model allows, which is that of
-every_step.py. It prints what failed, how many replays there were, and at the end 'N passed, N failed': a check for each way to stop or fail of each task.
+Behind the mixed run of every_step.py, whole, without its last two tasks and with one more write, so that a dirty block is there, comes a suspend, and
+then an opening in each mode that is not refused. Before and after each of their steps on a device there is a stop that leaves each sector its oldest content, one
+that leaves each its newest, and one for each other content of each single sector; and each step fails, lost or landed, behind which the devices are
+opened as they are, or there is a stop. Then an opening in write-back has to be answered, each sector has to show what the model allows, which is that
+of every_step.py, and the same once all blocks have left the cache. It prints what failed, how many replays there were, and at the end
+'N passed, N failed': a check for each way to stop or fail of each task.
 """
 import collections
 import copy
 import multiprocessing
 import os
+import re
+import subprocess
 import sys
 
-from every_step import BLOCK, DEVICES, RUN, SETUP, WATCHED, Model, Step, fault_of, whole
+from every_step import BLOCK, DEVICES, RUN, SETUP, WATCHED, Model, Step, whole
 
-RUNS = {"whole run": RUN, "run with a dirty block": RUN[:-2]}
+RUNS = {"whole run": RUN, "run with a new dirty block": RUN[:-2], "run with a block that is dirty again": RUN + ["w 320 1 55"]}
 MODES = ("writeback", "writethrough", "passthrough")
 
 
@@ -142,6 +145,25 @@ def replays():
                 yield f"{name}: refused", before + [f"open {mode}"], printed + ["0 refused 13 NotClean"], WATCHED, model.allowed()
             else:
                 yield from stopped(copy.deepcopy(model), name, before, printed, f"open {mode}")
+
+
+def fault_of(work):
+    """What is wrong with a replay: nothing, mostly. What is shown stays where the blocks leave the cache."""
+    program, name, lines, printed, looks, shown = work
+    views = [f"view {first} {many}" for first, many in looks]
+    lines = lines + ["open writeback"] + views + whole("demote 0") + whole("demote 5") + views
+    done = subprocess.run([program, "replay"], input="\n".join(lines) + "\n", capture_output=True, text=True, timeout=60)
+    told, count = done.stdout.splitlines(), len(printed)
+    wanted = [sector for first, many in looks for sector in range(first, first + many)]
+    views = [line.split() for line in told[count + 1:] if re.fullmatch("[0-9]+ ([0-9a-f]{2}|mixed)", line)]
+    if done.returncode != 0 or told[:count] != printed or [int(sector) for sector, _ in views] != 2 * wanted or not told[count].startswith("open "):
+        return name, f"status {done.returncode}, it printed {told[:count + 3]}, and was to print {printed} and then an opening\n  {' / '.join(lines)}"
+    for sector, content in views:
+        if content not in shown.get(int(sector), {"00"}):
+            return name, f"sector {sector} shows {content}, and may have {sorted(shown.get(int(sector), {'00'}))}\n  {' / '.join(lines)}"
+    if views[:len(wanted)] != views[len(wanted):]:
+        return name, f"it shows another content once the blocks have left the cache\n  {' / '.join(lines)}"
+    return name, None
 
 
 def main():
