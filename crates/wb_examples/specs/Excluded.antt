@@ -26,7 +26,7 @@ use Rattle.wb_promise.specs.declared.job.Job.TheVariants.{Read, Write, Flush, Su
 use Rattle.wb_promise.specs.declared.event.Event.TheVariants.{Start, Step}
 use Rattle.wb_promise.specs.declared.event.What.TheVariants.{Skipped, Started, Stepped, Refused}
 use Rattle.wb_promise.specs.States.{Shape, State, Actor}
-use Rattle.wb_promise.specs.Happenings.{Chosen, Plain, Commits, HasTask, IsSuspending, IsWaiting, DoesBegin, Gives, StartsAs, MayBe}
+use Rattle.wb_promise.specs.Happenings.{Chosen, Plain, Commits, HasTask, IsSuspending, WaitsForCommit, DoesBegin, Gives, StartsAs, MayBe}
 use Rattle.wb_promise.specs.Clerk.{Notes, Doing, Reading, Position, noted_what}
 use Rattle.wb_promise.specs.Headline.{AnswersRightly, SkipsRightly}
 use Rattle.wb_examples.specs.Possible.{first_sector, first_block}
@@ -108,7 +108,7 @@ pub record ExcludesWrongAnswers (P A : Type 0) : Type 0 where
   pub not_since : (shape : Shape) → floors_after Flush shape 0 Finished ≡ 0 ∷ []
   pub not_refused : (shape : Shape) → floors_after Flush shape 1 (Refuses Memory) ≡ 0 ∷ []
   -- whoever has a task is not skipped, but a flush that waits
-  pub skipped : (w : State P A) (a : ℕ) → HasTask w a → ¬ IsWaiting w a → ¬ SkipsRightly w (Step a) Skipped
+  pub skipped : (w : State P A) (a : ℕ) → HasTask w a → ¬ WaitsForCommit w a → ¬ SkipsRightly w (Step a) Skipped
 
 -- A commit that stores the first block's entry so, over a desk that maps this block alone, once a suspend has seen its copy dirty.
 pub record StoresSeen (P A : Type 0) (desk : DeskState P) (entry : Entry) : Type 0 where

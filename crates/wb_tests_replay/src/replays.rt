@@ -35,7 +35,7 @@ const FAILED_WRITES: [Row; 3] = [
 ];
 
 /// What was flushed survives, what was not may be lost, sector by sector.
-const FLUSHES: [Row; 4] = [
+const FLUSHES: [Row; 2] = [
     Row {
         name: "a write, a flush, a read by another, and a crash",
         lines: "setup writeback 64 4 10 4\nstart 0 w 0 2 22\nend 0\nstart 0 flush\nend 0\nstart 1 r 0 3\nend 1\nstop old\nopen writeback\nview 0 3\n",
@@ -48,6 +48,10 @@ const FLUSHES: [Row; 4] = [
         prints: "5 done\nopen 2 0 0\n70 00\n71 aa\n",
         ends: Ended::Played,
     },
+];
+
+/// Flushes that come while a commit runs wait for it.
+const SHARED: [Row; 6] = [
     Row {
         name: "two flushes that come while a commit runs wait for it, and share the next one",
         lines: "setup writeback 64 4 10 4\nstart 0 w 0 1 11\nend 0\nstart 0 promote 0 0\nend 0\nstart 0 flush\nend 0\nstart 1 flush\nstep 1 2\nstart 2 flush\nstep 2 2\nstart 3 flush\nstep 3 2\nstep 2\nend 1\nend 2\nend 3\nstop old\nopen writeback\n",
@@ -58,6 +62,30 @@ const FLUSHES: [Row; 4] = [
         name: "one that waits stops where it is, and is refused once the commit that runs has failed",
         lines: "setup writeback 64 4 10 4\nstart 1 flush\nstep 1 2\nstart 2 flush\nend 2\nstep 2 3\nfault 2 old\nfault 1 old\nend 2\nend 1\nend 2\nopen writeback\n",
         prints: "skipped\nskipped\nskipped\nskipped\n1 refused 5 Io cache\n2 refused 6 Failed\nopen 2 0 0\n",
+        ends: Ended::Played,
+    },
+    Row {
+        name: "what is written while a commit runs may be lost behind it, as the flush that waits is not done",
+        lines: "setup writeback 64 4 10 4\nstart 0 promote 0 0\nend 0\nstart 1 flush\nstep 1 3\nstart 0 w 0 1 22\nend 0\nstart 2 flush\nstep 2 2\nend 1\nstop old\nopen writeback\nview 0 1\n",
+        prints: "0 done\n0 done\n1 done\nopen 3 1 1\n0 00\n",
+        ends: Ended::Played,
+    },
+    Row {
+        name: "it is kept once the next commit has ended, by which both that wait are done",
+        lines: "setup writeback 64 4 10 4\nstart 0 promote 0 0\nend 0\nstart 1 flush\nstep 1 3\nstart 0 w 0 1 22\nend 0\nstart 2 flush\nstep 2 2\nstart 3 flush\nstep 3 2\nend 1\nend 3\nend 2\nstop old\nopen writeback\nview 0 1\n",
+        prints: "0 done\n0 done\n1 done\n3 done\n2 done\nopen 4 1 1\n0 22\n",
+        ends: Ended::Played,
+    },
+    Row {
+        name: "who waits is refused where the next commit breaks, though its root landed and the commit before it has ended",
+        lines: "setup writeback 64 4 10 4\nstart 1 flush\nstep 1 2\nstart 2 flush\nstep 2 2\nstart 3 flush\nstep 3 2\nend 1\nstep 2 4\nfault 2 new\nend 3\nend 2\nend 3\nopen writeback\n",
+        prints: "1 done\nskipped\n2 refused 5 Io metadata\n3 refused 6 Failed\nopen 4 0 0\n",
+        ends: Ended::Played,
+    },
+    Row {
+        name: "a replacement goes on whose flush another's commit serves",
+        lines: "setup writeback 64 4 10 4\nstart 0 promote 0 0\nend 0\nstart 1 flush\nstep 1 2\nstart 0 replace 0 5\nend 0\nstart 0 flush\nstep 0 2\nstart 2 flush\nstep 2 2\nend 1\nend 2\nend 0\nstart 0 promote 5 0\nend 0\nstart 0 flush\nend 0\nstop old\nopen writeback\n",
+        prints: "0 done\n0 done\n1 done\n2 done\n0 done\n0 done\n0 done\nopen 5 1 1\n",
         ends: Ended::Played,
     },
 ];
@@ -349,6 +377,11 @@ fn compare(alloc: Global, rows: &[Row]) -> Result<(), Fail> {
 #[test]
 fn failed_writes_land_or_do_not(rt: HostRuntime) -> Result<(), Fail> {
     compare(rt.alloc(), &FAILED_WRITES)
+}
+
+#[test]
+fn flushes_that_come_while_a_commit_runs_share_the_next(rt: HostRuntime) -> Result<(), Fail> {
+    compare(rt.alloc(), &SHARED)
 }
 
 #[test]

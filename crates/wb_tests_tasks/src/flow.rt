@@ -3,7 +3,7 @@
 mod rows;
 mod stage;
 
-use self::rows::{ROWS, Row, SUSPENDS};
+use self::rows::{BREAK, ROWS, Row, SUSPENDS, TICKETS};
 use self::stage::{Noted, Task};
 use std::alloc::{AllocError, Global};
 use std::test::Fail;
@@ -52,14 +52,15 @@ fn has_noted(noted: &Noted, row: &Row) -> bool {
         && wants.get(last..) == Some(row.last)
 }
 
-/// Whether a row's task ends at the step that fails; a flush or suspend that does fails the target.
+/// Whether a row's task ends at the step that fails; a flush or suspend that does fails the target, and then breaks its commit.
 fn ends_at(alloc: Global, noted: &mut Noted, row: &Row, fails: u32) -> Result<bool, AllocError> {
     let answer = play(alloc, noted, row)?;
     let sets = matches!(row.task, Task::Flush | Task::Suspend);
     Ok(
         matches!(answer, Answer::Refused(Refusal::Io(_)))
             && noted.moved == fails.saturating_add(1)
-            && noted.fail == u64::from(sets),
+            && noted.fail == u64::from(sets)
+            && (noted.wants.as_slice().last() == Some(&BREAK)) == sets,
     )
 }
 
@@ -108,6 +109,11 @@ fn flushes_and_openings_take_the_steps_of_their_tables(rt: HostRuntime) -> Resul
 }
 
 #[test]
+fn flushes_that_meet_a_commit_take_the_steps_of_their_table(rt: HostRuntime) -> Result<(), Fail> {
+    compare(rt.alloc(), &TICKETS)
+}
+
+#[test]
 fn suspends_take_the_steps_of_their_table(rt: HostRuntime) -> Result<(), Fail> {
     compare(rt.alloc(), &SUSPENDS)
 }
@@ -115,6 +121,11 @@ fn suspends_take_the_steps_of_their_table(rt: HostRuntime) -> Result<(), Fail> {
 #[test]
 fn each_fault_ends_a_flush_or_an_opening(rt: HostRuntime) -> Result<(), Fail> {
     compare_faults(rt.alloc(), &ROWS)
+}
+
+#[test]
+fn each_fault_ends_a_flush_that_met_a_commit(rt: HostRuntime) -> Result<(), Fail> {
+    compare_faults(rt.alloc(), &TICKETS)
 }
 
 #[test]

@@ -13,10 +13,10 @@ mod suspends;
 mod views;
 
 use self::demotions::DEMOTIONS;
-use self::flushes::FLUSHES;
+use self::flushes::{FLUSHES, SHARED};
 use self::line::{
-    Act, FIRST_SECTOR, LOOK_FAIL, LOOK_LOCK, LOOK_NUMBER, LOOK_SEAL, Line, OPEN, OPENING, OWN,
-    READING, Row, Task, WRITING,
+    ARRIVE, Act, FIRST_SECTOR, LOOK_FAIL, LOOK_LOCK, LOOK_NUMBER, LOOK_SEAL, Line, OPEN, OPENING,
+    OWN, READING, Row, Task, WRITING,
 };
 use self::openings::{CRASHES, FAILURES, OPENINGS, ROOTS};
 use self::passthrough::PASSTHROUGH;
@@ -220,6 +220,13 @@ fn begins(world: &mut World, actor: usize, task: Task, count: usize) -> bool {
     does(world, start, What::Started) && steps_as(world, actor, task, count)
 }
 
+/// Whether a flush of an actor starts, gets a ticket, and has to wait.
+fn waits(world: &mut World, actor: usize) -> bool {
+    begins(world, actor, Task::Flush, 1)
+        && stepped(world, actor, ARRIVE, Got::Ticket)
+        && does(world, Event::Step(actor), What::Skipped)
+}
+
 /// More steps than any task of a small world has.
 const MOST_STEPS: usize = 200;
 
@@ -271,6 +278,7 @@ fn goes(world: &mut World, alloc: Global, line: &Line) -> Result<bool, Refusal> 
         Line::Sees(actor, words) => Ok(sees(world, *actor, words)),
         Line::Takes(actor, wants) => Ok(takes(world, *actor, wants)),
         Line::Owns(actor, seal, number) => Ok(owns(world, *actor, *seal, *number)),
+        Line::Waits(actor) => Ok(waits(world, *actor)),
         Line::Finishes(acts) => all_finish(world, alloc, acts),
         Line::OpensAfter(crash) => opens_after(world, alloc, *crash),
         Line::Gives(byte) => Ok(has_read(world, *byte)),
@@ -354,6 +362,11 @@ fn a_read_is_given_what_was_written(rt: HostRuntime) -> Result<(), Fail> {
 #[test]
 fn flushes_go_as_their_rows_say(rt: HostRuntime) -> Result<(), Fail> {
     compare(rt.alloc(), &FLUSHES)
+}
+
+#[test]
+fn flushes_that_share_commits_go_as_their_rows_say(rt: HostRuntime) -> Result<(), Fail> {
+    compare(rt.alloc(), &SHARED)
 }
 
 #[test]

@@ -5,6 +5,17 @@ use wb_tasks::{Answer, CellStep, DeskStep, DeviceStep, Want};
 use wb_types::{Dev, OBlock, Refusal};
 use wb_words::Word;
 
+/// What a flush meets at the desk as it comes.
+#[derive(Clone, Copy)]
+pub enum Meets {
+    /// No commit runs.
+    Nothing,
+    /// One runs; it gets a ticket, and once it asks none runs, and none has ended that covers it.
+    Commit,
+    /// One runs; it gets a ticket, and once it asks one has ended that covers it.
+    TwoCommits,
+}
+
 #[derive(Clone, Copy)]
 pub struct Row {
     pub name: &'static str,
@@ -13,8 +24,10 @@ pub struct Row {
     pub serves: &'static [OBlock],
     /// The image's nodes, or those that an opening reads.
     pub nodes: u32,
-    /// What the desk, or what was read, refuses.
+    /// What the desk, or what was read, refuses: to lead a commit, once a flush has a ticket, if it gets one.
     pub refuses: Option<Refusal>,
+    /// What a flush meets at the desk.
+    pub meets: Meets,
     pub fails: Option<u32>,
     pub answer: Answer,
     /// The wants from this one on, then the steps of a commit that has begun, if any, and what comes last.
@@ -34,6 +47,7 @@ const FLUSH: Row = Row {
     serves: &[OBlock(5), OBlock(7)],
     nodes: 0,
     refuses: None,
+    meets: Meets::Nothing,
     fails: None,
     answer: Answer::Done,
     from: 0,
@@ -55,6 +69,7 @@ const OPEN: Row = Row {
     serves: &[],
     nodes: 0,
     refuses: None,
+    meets: Meets::Nothing,
     fails: None,
     answer: Answer::Done,
     from: 0,
@@ -67,9 +82,11 @@ const OPEN: Row = Row {
 
 const LOOK: Want = Want::Cell(CellStep::Look(Word::Fail));
 
-const BEGIN: Want = Want::Desk(DeskStep::BeginCommit(false, 3));
+const ARRIVE: Want = Want::Desk(DeskStep::Arrive(3));
 
-const BEGIN_CLEAN: Want = Want::Desk(DeskStep::BeginCommit(true, 3));
+const ASK: Want = Want::Desk(DeskStep::Ask(3));
+
+const BEGIN_CLEAN: Want = Want::Desk(DeskStep::BeginCommit(3));
 
 const SET_SUSPENDED: Want = Want::Cell(CellStep::SetSuspended);
 
@@ -82,6 +99,8 @@ const SYNC_METADATA: Want = Want::Device(DeviceStep::Sync(Dev::Metadata));
 const WRITE_ROOT: Want = Want::Device(DeviceStep::WriteRoot);
 
 const END: Want = Want::Desk(DeskStep::EndCommit);
+
+pub const BREAK: Want = Want::Desk(DeskStep::BreakCommit);
 
 const GIVE_UP: [Want; 2] = [
     Want::Desk(DeskStep::ReleaseOrder(OBlock(5))),
@@ -112,7 +131,7 @@ pub const ROWS: [Row; 9] = [
     Row {
         name: "a flush of one node writes its root at the seventh step and syncs it at the eighth",
         nodes: 1,
-        wants: &[LOOK, BEGIN],
+        wants: &[LOOK, ARRIVE],
         commit: &COMMIT_OF_ONE,
         device_steps: 6,
         ..FLUSH
@@ -148,10 +167,10 @@ pub const ROWS: [Row; 9] = [
         ..FLUSH
     },
     Row {
-        name: "a flush that meets a commit keeps the orders that it serves",
-        refuses: Some(Refusal::Busy),
-        answer: Answer::Refused(Refusal::Busy),
-        wants: &[LOOK, BEGIN],
+        name: "a flush where commits are broken keeps the orders that it serves",
+        refuses: Some(Refusal::Failed),
+        answer: Answer::Refused(Refusal::Failed),
+        wants: &[LOOK, ARRIVE],
         ..FLUSH
     },
     Row {
@@ -197,6 +216,54 @@ pub const ROWS: [Row; 9] = [
         ],
         device_steps: 5,
         ..OPEN
+    },
+];
+
+/// Flushes that come while a commit runs. They do nothing but ask until they lead one, or are served.
+pub const TICKETS: [Row; 5] = [
+    Row {
+        name: "a flush that gets a ticket asks with it, and is answered where it is served",
+        nodes: 1,
+        meets: Meets::TwoCommits,
+        wants: &[LOOK, ARRIVE, ASK],
+        ..FLUSH
+    },
+    Row {
+        name: "or leads the next commit, whole",
+        nodes: 1,
+        meets: Meets::Commit,
+        wants: &[LOOK, ARRIVE, ASK],
+        commit: &COMMIT_OF_ONE,
+        device_steps: 6,
+        ..FLUSH
+    },
+    Row {
+        name: "where the commit that runs is broken then, it keeps the orders that it serves",
+        refuses: Some(Refusal::Failed),
+        meets: Meets::Commit,
+        answer: Answer::Refused(Refusal::Failed),
+        wants: &[LOOK, ARRIVE, ASK],
+        ..FLUSH
+    },
+    Row {
+        name: "without memory to lead one then it gives each order up",
+        refuses: Some(Refusal::Memory),
+        meets: Meets::Commit,
+        answer: Answer::Refused(Refusal::Memory),
+        from: 2,
+        wants: &[ASK],
+        last: &GIVE_UP,
+        ..FLUSH
+    },
+    Row {
+        name: "and so it does after the last generation",
+        refuses: Some(Refusal::GenerationEnd),
+        meets: Meets::Commit,
+        answer: Answer::Refused(Refusal::GenerationEnd),
+        from: 2,
+        wants: &[ASK],
+        last: &GIVE_UP,
+        ..FLUSH
     },
 ];
 

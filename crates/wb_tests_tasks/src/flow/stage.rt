@@ -3,8 +3,9 @@
 ghost use Rattle.wb_tasks.specs.Plan.{Fits};
 ghost use Rattle.wb_tasks.specs.declared.step.Want.TheVariants.{Desk, Device};
 ghost use Rattle.wb_tasks.specs.declared.step.DeviceStep.TheVariants.{ReadMetadata};
+ghost use Rattle.wb_tasks.specs.declared.step.DeskStep.TheVariants.{Arrive, Ask, BeginCommit};
 
-use super::rows::Row;
+use super::rows::{Meets, Row};
 use std::alloc::Global;
 use wb_tasks::{CellStep, DeskStep, DeviceStep, Got, Stage, Want};
 use wb_types::Refusal;
@@ -28,6 +29,7 @@ pub struct Noted {
     nodes: u32,
     /// What the desk, or what was read, refuses.
     refuses: Option<Refusal>,
+    meets: Meets,
 }
 
 impl Noted {
@@ -39,6 +41,7 @@ impl Noted {
             fails: row.fails,
             nodes: row.nodes,
             refuses: row.refuses,
+            meets: row.meets,
         })
     }
 
@@ -72,14 +75,37 @@ impl Noted {
     fn desk(&mut self, step: DeskStep) -> Got
         ensures { Fits (Desk step) result }
     {
-        match step {
-            DeskStep::BeginCommit(_, most) => match self.refuses {
-                Some(Refusal::Busy) => Got::Refused(Refusal::Busy),
-                Some(Refusal::Memory) => Got::Refused(Refusal::Memory),
-                Some(Refusal::GenerationEnd) => Got::Refused(Refusal::GenerationEnd),
-                _ => Got::Began(self.nodes.min(most)),
-            },
+        match (step, self.meets) {
+            (DeskStep::Arrive(_), Meets::Commit | Meets::TwoCommits) => Got::Ticket,
+            (DeskStep::Ask(_), Meets::TwoCommits) => Got::Served,
+            (DeskStep::Arrive(most) | DeskStep::Ask(most), _) => self.lead(most),
+            (DeskStep::BeginCommit(most), _) => self.begin(most),
             _ => Got::Done,
+        }
+    }
+
+    /// A flush leads a commit, or is refused that.
+    fn lead(&self, most: u32) -> Got
+        ensures arriving { Fits (Desk (Arrive most)) result }
+        ensures asking { Fits (Desk (Ask most)) result }
+    {
+        match self.refuses {
+            Some(Refusal::Failed) => Got::Refused(Refusal::Failed),
+            Some(Refusal::Memory) => Got::Refused(Refusal::Memory),
+            Some(Refusal::GenerationEnd) => Got::Refused(Refusal::GenerationEnd),
+            _ => Got::Began(self.nodes.min(most)),
+        }
+    }
+
+    /// So it is with the commit of a suspend, but for what it is refused.
+    fn begin(&self, most: u32) -> Got
+        ensures { Fits (Desk (BeginCommit most)) result }
+    {
+        match self.refuses {
+            Some(Refusal::Busy) => Got::Refused(Refusal::Busy),
+            Some(Refusal::Memory) => Got::Refused(Refusal::Memory),
+            Some(Refusal::GenerationEnd) => Got::Refused(Refusal::GenerationEnd),
+            _ => Got::Began(self.nodes.min(most)),
         }
     }
 }

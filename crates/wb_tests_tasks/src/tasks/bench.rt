@@ -179,8 +179,10 @@ impl Bench {
                 self.has_order = false;
             }
             DeskStep::ReleaseOrder(_) => self.has_order = false,
-            DeskStep::BeginCommit(_, _) => return Got::Began(0),
-            DeskStep::EndCommit => {}
+            DeskStep::Arrive(_) | DeskStep::Ask(_) | DeskStep::BeginCommit(_) => {
+                return Got::Began(0);
+            }
+            DeskStep::EndCommit | DeskStep::BreakCommit => {}
         }
         Got::Done
     }

@@ -64,6 +64,8 @@ pub enum Line {
     Takes(usize, &'static [Want]),
     /// Its next steps own the first block, which is free, and see this seal and this number of it.
     Owns(usize, u64, u64),
+    /// A flush of it starts, gets a ticket, and has to wait.
+    Waits(usize),
     /// These start one after the other, and the steps of each lead to an answer that says done.
     Finishes(&'static [Act]),
     /// This stops all, and an opening in write-back mode by actor 0 then leads to an answer that says done.
