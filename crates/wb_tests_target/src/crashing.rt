@@ -104,9 +104,9 @@ fn all_of_them<'a>(
     ended: &'a AtomicU64,
 ) -> Result<Vec<Sent<Filmed<'a, HostRuntime>, Beside<'a, HostRuntime>>>, Fail> {
     let mut sent = Vec::new(rt.alloc());
-    for (client, progress) in (0u64..).zip(camera.progress) {
+    for (client, progress) in camera.progress.iter().enumerate() {
         let devices = with_hook(images(rt, names)?, camera);
-        let errand = Beside::Flushes(own_sector(client), progress, ended);
+        let errand = Beside::Flushes(own_sector(client as u64), progress, ended);
         sent.push(Sent { devices, errand })?;
     }
     let devices = with_hook(images(rt, names)?, camera);

@@ -147,7 +147,7 @@ fn photograph(
 /// All that a file holds.
 fn copy(alloc: Global, disk: &mut FileDisk) -> Result<Vec<Content>, Refusal> {
     let mut all = vec![in alloc; [0; SECTOR_BYTES]; disk.sectors() as usize]?;
-    if disk.read_extent(0, all.as_mut_slice()).is_err() {
+    if disk.sectors() < all.len() as u64 || disk.read_extent(0, all.as_mut_slice()).is_err() {
         return Err(Refusal::Memory);
     }
     Ok(all)
@@ -178,6 +178,9 @@ fn stands_all_crashes(
 /// A disk that holds this.
 fn restored(alloc: Global, copy: &[Content]) -> Result<MemDisk, Refusal> {
     let mut disk = MemDisk::new(alloc, copy.len() as u64)?;
+    if disk.sectors() < copy.len() as u64 {
+        return Err(Refusal::Memory);
+    }
     if disk.write_extent(0, copy).is_err() || disk.sync().is_err() {
         return Err(Refusal::Memory);
     }
@@ -202,8 +205,8 @@ fn is_found_by(
     reached: &[Reached],
 ) -> Result<bool, Refusal> {
     let mut client = client_of(rt, target, devices)?;
-    let mut numbered = (0u64..).zip(reached);
-    Ok(numbered.all(|one| finds(rt, &mut client, own_sector(one.0), one.1)))
+    let mut numbered = reached.iter().enumerate();
+    Ok(numbered.all(|one| finds(rt, &mut client, own_sector(one.0 as u64), one.1)))
 }
 
 /// Whether a client's sector shows a round that it began, and none before the last whose flush was answered.

@@ -154,7 +154,7 @@ where
     Ok(
         all.served >= 1
             && all.led == commits
-            && all.led.saturating_add(all.served) == FLUSHERS * u64::from(TURNS),
+            && all.led.saturating_add(all.served) == FLUSHERS.wrapping_mul(u64::from(TURNS)),
     )
 }
 
