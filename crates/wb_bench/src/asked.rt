@@ -87,6 +87,9 @@ fn read_call(word: &str) -> Option<Call> {
     if word == "read" {
         return Some(Call::Read);
     }
+    if word == "flush" {
+        return Some(Call::Flush);
+    }
     (word == "write").then_some(Call::Write)
 }
 
@@ -165,6 +168,7 @@ fn read_crowd(word: &str) -> Option<Crowd> {
         1 => Some(Crowd::One),
         2 => Some(Crowd::Two),
         4 => Some(Crowd::Four),
+        16 => Some(Crowd::Sixteen),
         _ => None,
     }
 }

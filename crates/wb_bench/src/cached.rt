@@ -26,6 +26,8 @@ pub enum Call {
     TryWrite,
     Read,
     Write,
+    /// A write, and then a flush.
+    Flush,
 }
 
 /// The table of a formatted cache, and the requests over it.
@@ -115,6 +117,10 @@ fn ask<R: Wait, S: Served>(
         Call::TryWrite => client.try_write(at, contents).ok(),
         Call::Read => client.read(rt, at, contents).ok(),
         Call::Write => client.write(rt, at, contents).ok(),
+        Call::Flush => {
+            client.write(rt, at, contents).ok()?;
+            client.flush(rt).ok()
+        }
     }
 }
 

@@ -5,9 +5,9 @@
 //! such a request: a multiple of 64 sectors.
 //! `wb_bench settles CACHE_BLOCKS ACCESSES` settles accesses by Zipf's law over a cache that TinyLfu fills, and prints
 //! how many were hits; `wb_bench ticks CACHE_BLOCKS TICKS` ticks over a full cache, and prints how often one was ordered.
-//! `wb_bench TABLE try_read|try_write|read|write SECTORS REQUESTS 1|2|4` opens a formatted cache with blocks of 64 sectors by its
+//! `wb_bench TABLE try_read|try_write|read|write|flush SECTORS REQUESTS 1|2|4|16` opens a formatted cache with blocks of 64 sectors by its
 //! table, promotes a block of the origin for each of its own, where the mode promotes any, and makes so many requests by each of so
-//! many clients, on threads and blocks of their own; it prints how many promotions there were and their nanoseconds, and so of the
+//! many clients, on threads and blocks of their own, a flush behind each write where `flush` is asked for; it prints how many promotions there were and their nanoseconds, and so of the
 //! requests, by the client that took longest.
 //! `wb_bench FILE mapping CACHE_BLOCKS` makes the file a metadata device that holds a full mapping of so many cache
 //! blocks, and `wb_bench FILE state` reads what it stands for; both print the number of nodes. `wb_bench FILE images` prints of each
@@ -44,7 +44,7 @@ const STREAM_FAILED: u8 = 4;
 const USAGE: &str = "usage: wb_bench FILE read|write SECTORS REQUESTS
        wb_bench settles CACHE_BLOCKS ACCESSES
        wb_bench ticks CACHE_BLOCKS TICKS
-       wb_bench TABLE try_read|try_write|read|write SECTORS REQUESTS 1|2|4
+       wb_bench TABLE try_read|try_write|read|write|flush SECTORS REQUESTS 1|2|4|16
        wb_bench FILE mapping CACHE_BLOCKS
        wb_bench FILE state
        wb_bench FILE images";

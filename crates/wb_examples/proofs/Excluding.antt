@@ -17,7 +17,7 @@ use Rattle.wb_tasks.specs.declared.step.Want.{Want}
 use Rattle.wb_tasks.specs.declared.step.Want.TheVariants.{Desk}
 use Rattle.wb_tasks.specs.declared.step.Got.{Got}
 use Rattle.wb_tasks.specs.declared.step.Got.TheVariants.{Began, Served, Refused as GotRefused}
-use Rattle.wb_stage.specs.Sharing.{IsCovered, MustWait}
+use Rattle.wb_stage.specs.Sharing.{ShareIsCovered, MustWait}
 use Rattle.wb_stage.specs.declared.share.Share.{Share}
 use Rattle.wb_stage.specs.declared.share.Share.TheVariants.{Nothing as Unshared, Waiting, Covered}
 use Rattle.wb_devices.specs.declared.running.RunningCommit.{RunningCommit}
@@ -26,7 +26,7 @@ use Rattle.wb_promise.specs.declared.job.Job.TheVariants.{Flush, Suspend}
 use Rattle.wb_promise.specs.declared.event.What.TheVariants.{Started}
 use Rattle.wb_promise.specs.States.{Shape, State, Actor, Target, Phase, Stands, Gone, Opens, OfTarget}
 use Rattle.wb_tasks.specs.declared.step.DeskStep.TheVariants.{Arrive, Ask, BeginCommit}
-use Rattle.wb_promise.specs.Happenings.{Chosen, Plain, Looks, Commits, HasTask, OfSome, IsWaiting, Awaits, SuspendStarts, DoesArrive, DoesAsk, DoesBegin, DoesLead}
+use Rattle.wb_promise.specs.Happenings.{Chosen, Plain, Looks, Commits, HasTask, OfSome, WaitsForCommit, Awaits, SuspendStarts, DoesArrive, DoesAsk, DoesBegin, DoesLead}
 use Rattle.wb_examples.specs.Possible.{first_block, TargetHas}
 use Rattle.wb_examples.specs.Excluded.{ExcludesWrongAnswers, ExcludesWrongSuspends, ExcludesWrongSharing, IsServedThere, StoresSeen, BeginsCommit, older, newer, foreign, given_reading, with_floor, opening}
 use Rattle.wb_promise.specs.Headline.{IsAllowedAt, IsLatest, ShowsAllowed}
@@ -161,22 +161,22 @@ module _ (P A : Type 0) where
   both_over (Opens mode reading) Q R q r = absurd q
 
   -- who is served has a ticket that a commit covers
-  is_covered : (share : Share) (most : ℕ) (desk : DeskState P) (chosen : Chosen P A) → DoesAsk share most desk Served chosen → IsCovered desk share
+  is_covered : (share : Share) (most : ℕ) (desk : DeskState P) (chosen : Chosen P A) → DoesAsk share most desk Served chosen → ShareIsCovered desk share
   is_covered share most desk Plain d = d
   is_covered share most desk chosen d = absurd d.1
 
-  served_there : (shape : Shape) (w : State P A) (x : Actor) (Q : DeskState P → Type 0) → OfTarget w.phase (λ t. Q t.desk) → IsServedThere shape w x → (desk : DeskState P) × Q desk × IsCovered desk x.share
+  served_there : (shape : Shape) (w : State P A) (x : Actor) (Q : DeskState P → Type 0) → OfTarget w.phase (λ t. Q t.desk) → IsServedThere shape w x → (desk : DeskState P) × Q desk × ShareIsCovered desk x.share
   served_there shape w x Q q s =
       let b = both_over w.phase Q (λ desk. DoesAsk {P = P} {A = A} x.share s.most desk Served s.chosen) q s.gives.1 in
       (b.0, b.1, is_covered x.share s.most b.0 s.chosen b.2)
 
-  is_somewhere : (shape : Shape) (w : State P A) (x : Actor) → IsServedThere shape w x → (desk : DeskState P) × IsCovered desk x.share
+  is_somewhere : (shape : Shape) (w : State P A) (x : Actor) → IsServedThere shape w x → (desk : DeskState P) × ShareIsCovered desk x.share
   is_somewhere shape w x s =
       let d = over_target P A w.phase (λ desk. DoesAsk {P = P} {A = A} x.share s.most desk Served s.chosen) s.gives.1 in
       (d.0, is_covered x.share s.most d.0 s.chosen d.1)
 
-  covers : (desk : DeskState P) (share : Share) (number : ℕ) → share ≡ Waiting number → IsCovered desk share → number ≤ desk.ended
-  covers desk share number e c = subst (λ (o : Share). IsCovered desk o) e c
+  covers : (desk : DeskState P) (share : Share) (number : ℕ) → share ≡ Waiting number → ShareIsCovered desk share → number ≤ desk.ended
+  covers desk share number e c = subst (λ (o : Share). ShareIsCovered desk o) e c
 
   unended : (shape : Shape) (w : State P A) (x : Actor) (number : ℕ) → x.share ≡ Waiting number → TargetHas w (λ t. t.desk.ended < number) → IsServedThere shape w x → ⊥
   unended shape w x number e before s =
@@ -188,8 +188,8 @@ module _ (P A : Type 0) where
       let b = served_there shape w x (λ desk. desk.ended ≡ came.desk.ended + 1) one s in
       omega (arith, b.1, covers b.0 x.share (came.desk.ended + 2) e b.2)
 
-  uncovered : (shape : Shape) (w : State P A) (x : Actor) (share : Share) → ((desk : DeskState P) → IsCovered desk share → ⊥) → x.share ≡ share → IsServedThere shape w x → ⊥
-  uncovered shape w x share never e s = let d = is_somewhere shape w x s in never d.0 (subst (λ (o : Share). IsCovered d.0 o) e d.1)
+  uncovered : (shape : Shape) (w : State P A) (x : Actor) (share : Share) → ((desk : DeskState P) → ShareIsCovered desk share → ⊥) → x.share ≡ share → IsServedThere shape w x → ⊥
+  uncovered shape w x share never e s = let d = is_somewhere shape w x s in never d.0 (subst (λ (o : Share). ShareIsCovered d.0 o) e d.1)
 
   -- ---- a commit that broke
 
@@ -210,7 +210,7 @@ module _ (P A : Type 0) where
   awaits_none desk share (Desk (Ask most)) broken m = absurd (let both : true ≡ false = sym broken ∙ m.whole in cc)
   awaits_none desk share next broken m = absurd m
 
-  woken : (w : State P A) (a : ℕ) → TargetHas w (λ t. t.desk.broken ≡ true) → IsWaiting w a → ⊥
+  woken : (w : State P A) (a : ℕ) → TargetHas w (λ t. t.desk.broken ≡ true) → WaitsForCommit w a → ⊥
   woken w a broken waits = by_actor (slice_get w.actors a) waits
     where
       by_task : (x : Actor) (task : Option (Job × Plan)) → OfSome task (λ doing. OfTarget w.phase (λ t. Awaits t.desk x.share (want doing.1))) → ⊥

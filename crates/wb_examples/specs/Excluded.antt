@@ -31,7 +31,7 @@ use Rattle.wb_promise.specs.declared.event.Event.TheVariants.{Start, Step}
 use Rattle.wb_promise.specs.declared.event.What.TheVariants.{Skipped, Started, Stepped, Refused}
 use Rattle.wb_promise.specs.States.{Shape, State, Actor, Target, Stands}
 use Rattle.wb_promise.specs.Effects.{share_by}
-use Rattle.wb_promise.specs.Happenings.{Chosen, Plain, Commits, HasTask, IsSuspending, IsWaiting, DoesBegin, Gives, StartsAs, MayBe}
+use Rattle.wb_promise.specs.Happenings.{Chosen, Plain, Commits, HasTask, IsSuspending, WaitsForCommit, DoesBegin, Gives, StartsAs, MayBe}
 use Rattle.wb_promise.specs.Clerk.{Notes, Doing, Reading, Position, noted_what}
 use Rattle.wb_promise.specs.Headline.{AnswersRightly, SkipsRightly}
 use Rattle.wb_examples.specs.Possible.{first_sector, first_block, TargetHas}
@@ -113,7 +113,7 @@ pub record ExcludesWrongAnswers (P A : Type 0) : Type 0 where
   pub not_since : (shape : Shape) → floors_after Flush shape 0 Finished ≡ 0 ∷ []
   pub not_refused : (shape : Shape) → floors_after Flush shape 1 (Refuses Memory) ≡ 0 ∷ []
   -- whoever has a task is not skipped, but a flush that waits
-  pub skipped : (w : State P A) (a : ℕ) → HasTask w a → ¬ IsWaiting w a → ¬ SkipsRightly w (Step a) Skipped
+  pub skipped : (w : State P A) (a : ℕ) → HasTask w a → ¬ WaitsForCommit w a → ¬ SkipsRightly w (Step a) Skipped
 
 -- A commit that stores the first block's entry so, over a desk that maps this block alone, once a suspend has seen its copy dirty.
 pub record StoresSeen (P A : Type 0) (desk : DeskState P) (entry : Entry) : Type 0 where
@@ -174,7 +174,7 @@ pub record ExcludesWrongSharing (P A : Type 0) : Type 0 where
   -- after a commit that broke no flush begins one, and none waits
   pub after_broken : (shape : Shape) (w : State P A) (x : Actor) (most : ℕ) (commit : RunningCommit) → TargetHas w (λ t. t.desk.broken ≡ true) → ¬ BeginsCommit shape w x Flush (Arrive most) commit
   pub after_broken_asked : (shape : Shape) (w : State P A) (x : Actor) (most : ℕ) (commit : RunningCommit) → TargetHas w (λ t. t.desk.broken ≡ true) → ¬ BeginsCommit shape w x Flush (Ask most) commit
-  pub woken : (w : State P A) (a : ℕ) → TargetHas w (λ t. t.desk.broken ≡ true) → ¬ IsWaiting w a
+  pub woken : (w : State P A) (a : ℕ) → TargetHas w (λ t. t.desk.broken ≡ true) → ¬ WaitsForCommit w a
   -- one that waits is skipped, and its step is not taken
-  pub waits : (shape : Shape) (w : State P A) (a : ℕ) → IsWaiting w a → MayBe shape w (Step a) Skipped [] Plain
+  pub waits : (shape : Shape) (w : State P A) (a : ℕ) → WaitsForCommit w a → MayBe shape w (Step a) Skipped [] Plain
   pub goes_not : (shape : Shape) (t : Target P) (w : State P A) (x : Actor) (most : ℕ) (got : Got) (read : List Bytes) (chosen : Chosen P A) → MustWait t.desk x.share → ¬ Gives shape (record w { phase = Stands t }) x Flush (Desk (Ask most)) got read chosen

@@ -31,7 +31,7 @@ use Rattle.wb_promise.specs.declared.job.Job.TheVariants.{Read, Write, Flush, Su
 use Rattle.wb_promise.specs.States.{Shape, State, Target, Gone, OfTarget, start}
 use Rattle.wb_stage.specs.declared.share.Share.{Share}
 use Rattle.wb_stage.specs.declared.share.Share.TheVariants.{Waiting, Covered}
-use Rattle.wb_promise.specs.Happenings.{Happening, AtWork, OnTask, OfSome, IsWaiting, May}
+use Rattle.wb_promise.specs.Happenings.{Happening, AtWork, OnTask, OfSome, WaitsForCommit, May}
 use Rattle.wb_promise.specs.Effects.{after_happening, after_all, IsRun}
 use Rattle.wb_promise.specs.Clerk.{Notes, Doing, formatted}
 use Rattle.wb_promise.specs.Headline.{place_of, shown, noted}
@@ -152,7 +152,7 @@ AreTwo shape = 2 ≤ shape.actors
 
 -- the second actor has to wait with its flush, so many commits have ended, and the first is at a flush, whose commit runs
 abbrev pub IsWaitedBeside : {P A : Type 0} → ℕ → State P A → Type 0
-IsWaitedBeside count w = FirstIsAt Flush w × IsWaiting w 1 × HaveEnded count w
+IsWaitedBeside count w = FirstIsAt Flush w × WaitsForCommit w 1 × HaveEnded count w
 
 abbrev pub AreDoneTogether : {P A : Type 0} → State P A → Type 0
 AreDoneTogether w = AboutToAnswer Flush w × SecondFlushes (Covered 2) (End Finished) w × HaveEnded 2 w

@@ -51,7 +51,7 @@ use Rattle.wb_devices.specs.Committing.{is_coming, is_committed}
 use Rattle.wb_desk.specs.Sharing.{IsLeadRefused}
 use Rattle.wb_stage.specs.declared.share.Share.{Share}
 use Rattle.wb_stage.specs.declared.share.Share.TheVariants.{Waiting}
-use Rattle.wb_stage.specs.Sharing.{IsCovered, share_then}
+use Rattle.wb_stage.specs.Sharing.{ShareIsCovered, share_then}
 use Rattle.wb_stage.specs.Asking.{DidRelease, IsGivenUp, ended}
 use Rattle.wb_meta.specs.Roots.{MayBeReadAs, Commit}
 use Rattle.wb_meta.proofs.Leading.{after_failure, after_failed_node}
@@ -76,7 +76,7 @@ use Rattle.wb_simulation.specs.Noting.{NotesAgree}
 use Rattle.wb_simulation.specs.Noted.{told}
 use Rattle.wb_simulation.specs.Sites.{ImagesAgree, IsRunning, locations, StateTakesClean}
 use Rattle.wb_simulation.specs.Telling.{Quietly, Releases, Answers}
-use Rattle.wb_simulation.specs.Worlds.{Commits as DeskCommits, Situation, TurnedTo, DeskTurnedTo, Turn, Stays, Begins, Puts, Ends, GivesUp, WorldFollowsBy, WorldFollows, one_begun, IsLeftOut, IsTakenIn}
+use Rattle.wb_simulation.specs.Worlds.{Commits as DeskCommits, Situation, TurnedTo, DeskTurnedTo, Turn, Stays, Begins, Puts, Ends, GivesUp, WorldFollowsBy, WorldFollows, one_begun, IsLeftOut, TakesIn}
 use Rattle.wb_simulation.specs.Laws.{WantsNext, AsksToLead, flush_or_suspend, stepped_actor, after_step, turn_of}
 use Rattle.wb_simulation.proofs.Commits.{commit_steps_followed}
 use Rattle.wb_simulation.proofs.Noted.{notes_followed}
@@ -451,7 +451,7 @@ module _ (P A : Type 0) (shape : Shape) (images : Images) (t : Target P) (commit
       by (inr idle) = answered refusal (commit_steps_followed.is_not_led now refusal step (share_then t.desk x.share step (GotRefused refusal)) a x plan f.site.world asks (no_begin refusal idle.2) (wants_as false flushes next) out)
 
   -- it is served by a commit of another, or gets a ticket
-  is_served : (step : DeskStep) (asks : AsksToLead step) → Desk step ≡ want plan → clean ≡ false → IsTakenIn now.commits (ticket_in (Desk step) x.share) → Goes P A shape (then_is t commit devices (Desk step) Served) n
+  is_served : (step : DeskStep) (asks : AsksToLead step) → Desk step ≡ want plan → clean ≡ false → TakesIn now.commits (ticket_in (Desk step) x.share) → Goes P A shape (then_is t commit devices (Desk step) Served) n
   is_served step asks next flushes taken = desk_says step Served _ (asked_then step Served asks flushes)
       (as_it_is false flushes (λ job. WorldFollows Quietly a f.site.world now (record (after_step job plan Served x) { share = share_then t.desk x.share step Served }))
       (commit_steps_followed.is_served now step (share_then t.desk x.share step Served) a x plan f.site.world asks (wants_as false flushes next) taken))
@@ -705,7 +705,7 @@ module _ (P A : Type 0) (shape : Shape) (images : Images) (t : Target P) (commit
       (commit_steps_followed.leads (situation shape t devices actors) nodes step (share_then t.desk x.share step (Began nodes)) a x plan f.site.world asks (record { here = ex; task = xt; asks = sym e; agrees = f.phase.agrees }) begun.may.idle whole out)
 
   -- one that asks with a ticket is served, or not, as the desk says
-  left_out : (allowed : ℕ) (share : Share) → ¬ IsCovered t.desk share → IsLeftOut (commits_of t.desk) (ticket_in (Desk (Ask allowed)) share)
+  left_out : (allowed : ℕ) (share : Share) → ¬ ShareIsCovered t.desk share → IsLeftOut (commits_of t.desk) (ticket_in (Desk (Ask allowed)) share)
   left_out allowed (Waiting number) uncovered = not_covered (compare number t.desk.ended)
     where
       not_covered : (number ≤ t.desk.ended) ⊎ (t.desk.ended < number) → t.desk.ended < number
@@ -718,7 +718,7 @@ module _ (P A : Type 0) (shape : Shape) (images : Images) (t : Target P) (commit
       compare (suc n) (suc m) = elim (compare n m) [ inl l ↦ inl (omega (arith, l)) | inr g ↦ inr (omega (arith, g)) ]
   left_out allowed share uncovered = tt
 
-  taken_in : (allowed : ℕ) (share : Share) → IsCovered t.desk share → IsTakenIn (commits_of t.desk) (ticket_in (Desk (Ask allowed)) share)
+  taken_in : (allowed : ℕ) (share : Share) → ShareIsCovered t.desk share → TakesIn (commits_of t.desk) (ticket_in (Desk (Ask allowed)) share)
   taken_in allowed (Waiting number) covered = covered
   taken_in allowed share covered = absurd covered
 

@@ -38,7 +38,7 @@ use Rattle.wb_devices.specs.declared.running.RunningCommit.{RunningCommit}
 use Rattle.wb_devices.specs.Committing.{is_coming}
 use Rattle.wb_devices.specs.Moving.{device_in}
 use Rattle.wb_stage.specs.Asking.{DidMap, DidUnmap, ended, DidRelease}
-use Rattle.wb_stage.specs.Sharing.{IsCovered, MayGoOn}
+use Rattle.wb_stage.specs.Sharing.{ShareIsCovered, MayAskNow}
 use Rattle.wb_stage.specs.Stages.{DidArrive, DidAsk, DidAskWith, DidBeginWith, EndsWith, IsServed, is_all_done}
 use Rattle.wb_stage.specs.declared.share.Share.{Share}
 use Rattle.wb_promise.specs.declared.job.Job.{Job}
@@ -231,7 +231,7 @@ served EndCommit n = tt
 served BreakCommit n = tt
 
 -- who has not to wait goes on
-pub going : (desk : DeskState Quiet) (share : Share) (step : DeskStep) → (Awaits desk share (Desk step) → ⊥) → MayGoOn desk share step
+pub going : (desk : DeskState Quiet) (share : Share) (step : DeskStep) → (Awaits desk share (Desk step) → ⊥) → MayAskNow desk share step
 going desk share (Map block place) n = tt
 going desk share (Unmap block) n = tt
 going desk share (ReleaseOrder block) n = tt
@@ -330,7 +330,7 @@ module _ (desk : DeskState Quiet) (commit : Option RunningCommit) (desk' : DeskS
   did_ask_again : (job : Job) (most : ℕ) (got : Got) → node_count desk.geometry.cache_blocks ≤ most → Fits (Desk (Ask most)) got → BeginsWhole got → DidAskWith share most got desk commit desk' commit' → Asked (Ask most) job got
   did_ask_again job most Served enough fits whole did = record {
     chosen = Plain;
-    gives = λ shape devices words actors x own. gives_asking shape devices words actors x job most Served Plain (subst (λ (s : Share). IsCovered desk s) (sym own.2) did.0);
+    gives = λ shape devices words actors x own. gives_asking shape devices words actors x job most Served Plain (subst (λ (s : Share). ShareIsCovered desk s) (sym own.2) did.0);
     desk_is = did.1;
     commit_is = did.2;
   }
@@ -338,13 +338,13 @@ module _ (desk : DeskState Quiet) (commit : Option RunningCommit) (desk' : DeskS
       let does = begins None most nodes did.1.1.0 fits did.1.1.2 did.1.1.3 did.1.1.4.0 did.1.1.4.1 (whole nodes did.1.1.0 refl did.1.1.1) in
       record {
         chosen = Commits did.1.1.0 desk'.tree;
-        gives = λ shape devices words actors x own. gives_asking shape devices words actors x job most (Began nodes) (Commits did.1.1.0 desk'.tree) (subst (λ (s : Share). ¬ IsCovered desk s) (sym own.2) did.0, (did.1.0, does));
+        gives = λ shape devices words actors x own. gives_asking shape devices words actors x job most (Began nodes) (Commits did.1.1.0 desk'.tree) (subst (λ (s : Share). ¬ ShareIsCovered desk s) (sym own.2) did.0, (did.1.0, does));
         desk_is = did.1.1.4.1.state;
         commit_is = did.1.1.1;
       }
   did_ask_again job most (GotRefused refusal) enough fits whole did = record {
     chosen = Plain;
-    gives = λ shape devices words actors x own. gives_asking shape devices words actors x job most (GotRefused refusal) Plain (subst (λ (s : Share). ¬ IsCovered desk s) (sym own.2) (did.2 enough).0, (did.2 enough).1);
+    gives = λ shape devices words actors x own. gives_asking shape devices words actors x job most (GotRefused refusal) Plain (subst (λ (s : Share). ¬ ShareIsCovered desk s) (sym own.2) (did.2 enough).0, (did.2 enough).1);
     desk_is = did.1;
     commit_is = did.0;
   }

@@ -6,7 +6,7 @@ ghost use Rattle.wb_format.specs.declared.node.Node.{Node as NodeValue};
 ghost use Rattle.wb_tasks.specs.Plan.{Fits};
 ghost use Rattle.wb_tasks.specs.declared.step.Want.TheVariants.{Desk as OnDesk};
 ghost use Rattle.std.specs.Bool.{OnTrue, OnFalse};
-ghost use Rattle.wb_stage.specs.Sharing.{MayGoOn, share_then};
+ghost use Rattle.wb_stage.specs.Sharing.{MayAskNow, share_then};
 ghost use Rattle.wb_promise.specs.declared.job.Job.{Job};
 ghost use Rattle.wb_promise.specs.Happenings.{AreWhole, Awaits};
 ghost use Rattle.wb_machine.specs.Serving.{Allows, DidAskFor, IsAskable, DeskWasAsked};
@@ -32,7 +32,7 @@ pub(crate) fn ask(
     step: DeskStep,
 ) -> Got
     requires enough { Allows desk.old.geometry.cache_blocks seen.now (OnDesk step) }
-    requires goes_on { MayGoOn desk.old share.old step }
+    requires goes_on { MayAskNow desk.old share.old step }
     ensures asked { (job : Job) → IsAskable commit.old job step → DeskWasAsked desk.old commit.old job held.now seen.now share.old step result desk.new commit.new }
     ensures kind { Fits (OnDesk step) result }
     ensures share { share.new ≡ share_then desk.old share.old step result }
@@ -56,7 +56,7 @@ fn ask_for(
     step: DeskStep,
 ) -> Got
     requires enough { Allows desk.old.geometry.cache_blocks seen.now (OnDesk step) }
-    requires goes_on { MayGoOn desk.old share.old step }
+    requires goes_on { MayAskNow desk.old share.old step }
     ensures did { DidAskFor held.now seen.now share.old step result desk.old commit.old desk.new commit.new }
     ensures kind { Fits (OnDesk step) result }
     ensures share { share.new ≡ share_then desk.old share.old step result }

@@ -56,7 +56,7 @@ use Rattle.wb_devices.specs.Moving.{device_in}
 use Rattle.wb_stage.specs.Asking.{DidRelease, DidUnmap}
 use Rattle.wb_devices.specs.Committing.{goes_on}
 use Rattle.wb_stage.specs.Stages.{is_all_done}
-use Rattle.wb_stage.specs.Sharing.{IsCovered, MustWait}
+use Rattle.wb_stage.specs.Sharing.{ShareIsCovered, MustWait}
 use Rattle.wb_stage.specs.declared.share.Share.{Share}
 use Rattle.wb_devices.specs.Opened.{got_of_refusal}
 use Rattle.wb_devices.specs.Clean.{HasComeIn}
@@ -222,13 +222,13 @@ Awaits desk share (Desk (Ask most)) = MustWait desk share
 Awaits desk share next = ⊥
 
 -- the actor is at a flush that has to wait for a commit which another one leads
-abbrev pub IsWaiting : {P A : Type 0} → State P A → ℕ → Type 0
-IsWaiting w a = OnTask w a (λ x job s. OfTarget w.phase (λ t. Awaits t.desk x.share (want s)))
+abbrev pub WaitsForCommit : {P A : Type 0} → State P A → ℕ → Type 0
+WaitsForCommit w a = OnTask w a (λ x job s. OfTarget w.phase (λ t. Awaits t.desk x.share (want s)))
 
 -- An event that doesn't apply. It is skipped, and no other is. Before a suspend has answered nothing starts.
 abbrev pub DoesNotApply : {P A : Type 0} → State P A → Event → Type 0
 DoesNotApply w (Start a job) = (slice_get w.actors a ≡ None) ⊎ HasTask w a ⊎ IsSuspending w ⊎ IsOutOfPlace w.phase job
-DoesNotApply w (Step a) = (¬ HasTask w a) ⊎ IsWaiting w a
+DoesNotApply w (Step a) = (¬ HasTask w a) ⊎ WaitsForCommit w a
 DoesNotApply w (FaultStep a choice) = ¬ AtWork w a (λ job s. MayFailAt w.devices choice (want s))
 DoesNotApply w (Stop choice) = ¬ MayStop choice w.devices
 
@@ -300,8 +300,8 @@ DoesArrive most desk got chosen = DoesLead most desk got chosen
 
 -- One that asks with a ticket is served where a commit has ended that covers it, and else leads one.
 abbrev pub DoesAsk : {P A : Type 0} → Share → ℕ → DeskState P → Got → Chosen P A → Type 0
-DoesAsk share most desk Served Plain = IsCovered desk share
-DoesAsk share most desk got chosen = (¬ IsCovered desk share) × DoesLead most desk got chosen
+DoesAsk share most desk Served Plain = ShareIsCovered desk share
+DoesAsk share most desk got chosen = (¬ ShareIsCovered desk share) × DoesLead most desk got chosen
 
 -- A block that an order brings gets its entry; or the desk has no memory for that, and stays.
 abbrev pub DoesMap : {P A : Type 0} → OBlock → CBlock → DeskState P → Got → Chosen P A → Type 0

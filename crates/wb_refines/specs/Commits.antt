@@ -94,8 +94,8 @@ GoesBy clean leads steps got then_shared then_leads = (size : ℕ) (blocks : Lis
     CanGoOn size content actors a s y (then_shared s) (after (committing clean blocks most steps answer) got) None then_leads
 
 -- So does a flush that asks to lead a commit, where this holds of what is shared and of its ticket.
-abbrev pub AsksFor : (Shared → Option ℕ → Type 0) → GotHere → (Shared → Shared) → (then_leads : Bool) → Type 0
-AsksFor Holds got then_shared then_leads = (size : ℕ) (blocks : List OBlock) (most : ℕ) (content : Content) (actors : List AbstractActor) (a : ℕ) (s : Shared) (y : AbstractActor) (ticket : Option ℕ) (step : DeskStep) (answer : Answer) → IsToLead most step → Holds s ticket → IsCommitting size content (committing false blocks most (Desk step ∷ []) answer) ticket false y →
+abbrev pub AsksForCommit : (Shared → Option ℕ → Type 0) → GotHere → (Shared → Shared) → (then_leads : Bool) → Type 0
+AsksForCommit Holds got then_shared then_leads = (size : ℕ) (blocks : List OBlock) (most : ℕ) (content : Content) (actors : List AbstractActor) (a : ℕ) (s : Shared) (y : AbstractActor) (ticket : Option ℕ) (step : DeskStep) (answer : Answer) → IsToLead most step → Holds s ticket → IsCommitting size content (committing false blocks most (Desk step ∷ []) answer) ticket false y →
     CanGoOn size content actors a s y (then_shared s) (after (committing false blocks most (Desk step ∷ []) answer) got) None then_leads
 
 -- Each step of a flush or of a suspend, with each result that it may have.
@@ -110,10 +110,10 @@ pub record CommitStepsRefined : Type 0 where
       CanGoOn size content actors a s y (effect s SuspendingThere (λ o. []) Begin_clean DoneThere) (after (committing true blocks most (Desk (BeginCommit allowed) ∷ []) answer) (Began nodes)) None true
   pub is_refused : (allowed : ℕ) (refusal : Refusal) → IsNoBegin refusal → GoesBy true false (Desk (BeginCommit allowed) ∷ []) (Refused refusal) (λ s. s) false
   -- A flush leads one, or is refused that; it gets a ticket of the commit that comes after the one that runs, or is served.
-  pub leads : (nodes : ℕ) → AsksFor (λ s ticket. (s.committing ≡ false) × (s.broken ≡ false) × Unserved s ticket) (Began nodes) (λ s. effect s (FlushingFor None) (λ o. []) (Begin None) DoneThere) true
-  pub is_not_led : (refusal : Refusal) → IsNoBegin refusal → AsksFor Unserved (Refused refusal) (λ s. s) false
-  pub is_broken : AsksFor (λ s ticket. (s.broken ≡ true) × Unserved s ticket) (Refused Failed) (λ s. s) false
-  pub is_served : AsksFor Serves ServedHere (λ s. s) false
+  pub leads : (nodes : ℕ) → AsksForCommit (λ s ticket. (s.committing ≡ false) × (s.broken ≡ false) × Unserved s ticket) (Began nodes) (λ s. effect s (FlushingFor None) (λ o. []) (Begin None) DoneThere) true
+  pub is_not_led : (refusal : Refusal) → IsNoBegin refusal → AsksForCommit Unserved (Refused refusal) (λ s. s) false
+  pub is_broken : AsksForCommit (λ s ticket. (s.broken ≡ true) × Unserved s ticket) (Refused Failed) (λ s. s) false
+  pub is_served : AsksForCommit Serves ServedHere (λ s. s) false
   pub gets_ticket : (most size : ℕ) (blocks : List OBlock) (content : Content) (actors : List AbstractActor) (a : ℕ) (s : Shared) (y : AbstractActor) (answer : Answer) → s.committing ≡ true → s.broken ≡ false → IsCommitting size content (committing false blocks most (Desk (Arrive most) ∷ []) answer) None false y →
       CanGoOn size content actors a s y s (after (committing false blocks most (Desk (Arrive most) ∷ []) answer) Ticket) (Some (s.began + 1)) false
   pub syncs_cache : (clean : Bool) (later : List Want) → GoesBy clean true (Device (Sync Cache) ∷ later) Done (λ s. record s { cache = all_synced s.cache }) true

@@ -35,7 +35,7 @@ use Rattle.wb_promise.specs.declared.event.Event.TheVariants.{Start, Step, Fault
 use Rattle.wb_promise.specs.declared.event.What.{What}
 use Rattle.wb_promise.specs.declared.event.What.TheVariants.{Skipped, Refused, Started, Stepped, Stopped}
 use Rattle.wb_promise.specs.States.{Shape, State, Actor, Target, Phase, Stands, Gone, Opens, OfTarget, mode_of, block_size, start}
-use Rattle.wb_promise.specs.Happenings.{Chosen, Plain, Cut, Orders, Happening, OfSome, OnTask, MayFailAt, DoesNotApply, Gives, Falters, KeepsMigration, KeepsReplacement, MayOrder, MigrationStarts, job_refusal, extent_refusal, block_range, write_job, orders_in, order_for, StartsAs, Looks, AreMapped, NoTaskRuns, Awaits, IsWaiting}
+use Rattle.wb_promise.specs.Happenings.{Chosen, Plain, Cut, Orders, Happening, OfSome, OnTask, MayFailAt, DoesNotApply, Gives, Falters, KeepsMigration, KeepsReplacement, MayOrder, MigrationStarts, job_refusal, extent_refusal, block_range, write_job, orders_in, order_for, StartsAs, Looks, AreMapped, NoTaskRuns, Awaits, WaitsForCommit}
 use Rattle.wb_promise.specs.Effects.{after_all, IsRun}
 use Rattle.wb_runs.specs.Progress.{GivesSomething}
 use Rattle.wb_runs.specs.Holding.{TaskSuits}
@@ -276,7 +276,7 @@ module _ (P A : Type 0) (shape : Shape) (policy : P) (first : ReadSteps A) (begi
   heap_of (AllRead state) e = absurd (omega (arith, e))
 
   -- whether it has to wait
-  waits : (w : State P A) (a : ℕ) (k : Tasked w a) → IsWaiting w a ⊎ ((¬ IsWaiting w a) × (¬ OfTarget w.phase (λ t. Awaits t.desk k.actor.share (want k.plan))))
+  waits : (w : State P A) (a : ℕ) (k : Tasked w a) → WaitsForCommit w a ⊎ ((¬ WaitsForCommit w a) × (¬ OfTarget w.phase (λ t. Awaits t.desk k.actor.share (want k.plan))))
   waits w a k = elim (by_phase w.phase) [
     | inl h ↦ inl (is_at P A w a k (λ x job s. OfTarget w.phase (λ t. Awaits t.desk x.share (want s))) h)
     | inr n ↦ inr ((λ h. n (was_at P A w a k (λ x job s. OfTarget w.phase (λ t. Awaits t.desk x.share (want s))) h)), n)

@@ -2,7 +2,7 @@
 use Rattle.wb_types.specs.declared.refusal.Refusal.{Refusal}
 use Rattle.wb_stage.specs.declared.share.Share.TheVariants.{Nothing, Waiting, Covered}
 use Rattle.wb_stage.specs.declared.share.Share.{Share}
-use Rattle.wb_stage.specs.Sharing.{IsCovered, MustWait}
+use Rattle.wb_stage.specs.Sharing.{ShareIsCovered, MustWait}
 use Rattle.wb_desk.specs.Sharing.{IsLeadRefused}
 use Rattle.std.proofs.Common.{◌≡◌, ◌∙◌, ◌⊎◌, ◌≤◌, ◌<◌, ◌+◌, ◌^◌, ◌&&◌, ◌==◌, inl, inr, ℕ, zero, suc, Bool, true, false, List, [], ◌∷◌, Option, Some, None, refl, sym, ap, subst, arith, length, slice_get, is_none, is_some}
 use Rattle.wb_tree.specs.Mapping.{IsSound}
@@ -125,7 +125,7 @@ node_does : (image : Image) (k : ℕ) (device : List History) (n : NodeAt image 
 node_does image k device n small = subst (λ (o : Option (Place × Node)). NodeOrSync o device (noded n.node device)) (sym n.there) (record { content = node_spelling n.node.1; spelled = spelled_node n.node.1 (small.nodes k n.node n.there); wrote = refl })
 
 -- whether a commit has ended that covers a flush
-pub is_covered : {P : Type 0} (desk : DeskState P) (share : Share) → IsCovered desk share ⊎ (¬ IsCovered desk share)
+pub is_covered : {P : Type 0} (desk : DeskState P) (share : Share) → ShareIsCovered desk share ⊎ (¬ ShareIsCovered desk share)
 is_covered desk (Waiting number) = elim (cases_lt desk.ended number) [
   | inl before ↦ inr (λ covered. absurd (omega (arith, before, covered)))
   | inr ended ↦ inl ended

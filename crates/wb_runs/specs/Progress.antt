@@ -15,7 +15,7 @@ use Rattle.wb_promise.specs.declared.event.Event.TheVariants.{Step}
 use Rattle.wb_promise.specs.declared.event.What.{What}
 use Rattle.wb_promise.specs.declared.event.What.TheVariants.{Stepped}
 use Rattle.wb_promise.specs.States.{Shape, State, Target, Stands, start}
-use Rattle.wb_promise.specs.Happenings.{Chosen, HasTask, IsWaiting, DoesBegin, MayBe}
+use Rattle.wb_promise.specs.Happenings.{Chosen, HasTask, WaitsForCommit, DoesBegin, MayBe}
 use Rattle.wb_promise.specs.Effects.{after_all}
 use Rattle.wb_promise.specs.Headline.{InEveryRun}
 
@@ -42,7 +42,7 @@ pub record GivesSomething {P A : Type 0} (shape : Shape) (w : State P A) (a : �
 -- allows as many nodes as a tree of this size may have, as all of a run do, if no node of the tree is known twice.
 pub record IsFree {P A : Type 0} (shape : Shape) (w : State P A) : Type 0 where
   pub events : (event : Event) → HasHappening shape w event
-  pub steps : (a : ℕ) → HasTask w a → ¬ IsWaiting w a → GivesSomething shape w a
+  pub steps : (a : ℕ) → HasTask w a → ¬ WaitsForCommit w a → GivesSomething shape w a
   pub commits : (target : Target P) (most : ℕ) → w.phase ≡ Stands target → AreApart target.desk.tree.known → node_count shape.geometry.cache_blocks ≤ most → MayBegin target.desk → CanBegin P A most target.desk
 
 -- So it is after every run, where there is a policy to open with, and a reading that has read nothing.

@@ -41,7 +41,7 @@ use Rattle.wb_promise.specs.declared.job.Job.TheVariants.{Flush, Suspend}
 use Rattle.wb_promise.specs.States.{Actor, with_device}
 use Rattle.wb_simulation.specs.Actors.{IsLate, IsOfCommit, IsEnding, LeadsAt, StandsFor, AreReleases, AreAmongOthers, ticket_in}
 use Rattle.wb_simulation.specs.Telling.{Quietly, Releases}
-use Rattle.wb_simulation.specs.Worlds.{Situation, zeros, Agrees, Turn, Stays, Begins, Puts, Ends, GivesUp, TurnedTo, DeskTurnedTo, WorldFollowsBy, WorldFollows, IsUnfinished, KeepsNumbers, one_begun, one_ended, last_begun, IsTakenIn, IsLeftOut}
+use Rattle.wb_simulation.specs.Worlds.{Situation, zeros, Agrees, Turn, Stays, Begins, Puts, Ends, GivesUp, TurnedTo, DeskTurnedTo, WorldFollowsBy, WorldFollows, IsUnfinished, KeepsNumbers, one_begun, one_ended, last_begun, TakesIn, IsLeftOut}
 use Rattle.wb_simulation.specs.Laws.{turn_of, flush_or_suspend, stepped_actor, IsOnlyOf}
 use Rattle.wb_simulation.proofs.Telling.{unnoted_none, quiet_are_unnoted}
 use Rattle.wb_types.specs.declared.number.OBlock.{OBlock}
@@ -338,10 +338,10 @@ module _ (now : Situation) (blocks : List OBlock) (a : ℕ) (x : Actor) (s : Wor
       by_ticket None l = tt
       by_ticket (Some k) l = let e = g.commits.ended in omega (arith, l, e)
 
-  taken_in : IsTakenIn now.commits ticket → Serves s.shared ticket
+  taken_in : TakesIn now.commits ticket → Serves s.shared ticket
   taken_in l = by_ticket ticket l
     where
-      by_ticket : (ticket : Option ℕ) → IsTakenIn now.commits ticket → Serves s.shared ticket
+      by_ticket : (ticket : Option ℕ) → TakesIn now.commits ticket → Serves s.shared ticket
       by_ticket None l = l
       by_ticket (Some k) l = let e = g.commits.ended in omega (arith, l, e)
 
@@ -386,7 +386,7 @@ module _ (now : Situation) (blocks : List OBlock) (a : ℕ) (x : Actor) (s : Wor
       by_step (Ask nodes) l = (refl, tt, tt, refl)
       by_step step l = absurd l
 
-  pub is_served : IsTakenIn now.commits ticket → WorldFollows Quietly a s now (record x { task = Some (Flush, after p Served); share = share' })
+  pub is_served : TakesIn now.commits ticket → WorldFollows Quietly a s now (record x { task = Some (Flush, after p Served); share = share' })
   is_served taken = follows_alone now false blocks a x s y ex ey g x.seen share' (after p Served) x.card None refl tt tt refl
       (followed_alone.is_served now.size blocks now.most [] s.actors a s.shared y ticket step answer asks (taken_in taken) is) (ap (λ (v : AbstractActor). v.order) is.is)
 

@@ -48,7 +48,7 @@ use Rattle.wb_simulation.specs.Opened.{AreAtRest}
 use Rattle.wb_simulation.specs.Carried.{held}
 use Rattle.wb_simulation.specs.Steps.{IsPart}
 use Rattle.wb_simulation.specs.Telling.{Telling, Quietly, Reads, Writes, Answers, Starts, Releases}
-use Rattle.wb_simulation.specs.Worlds.{zeros, Situation, Agrees, Turn, Stays, Begins, Puts, Ends, Unmaps, GivesUp, WorldFollowsBy, WorldFollows, none_yet, one_begun, one_ended, IsTakenIn, IsLeftOut}
+use Rattle.wb_simulation.specs.Worlds.{zeros, Situation, Agrees, Turn, Stays, Begins, Puts, Ends, Unmaps, GivesUp, WorldFollowsBy, WorldFollows, none_yet, one_begun, one_ended, TakesIn, IsLeftOut}
 
 -- This actor, which is at this task, wants this next, and the run stands where the world does.
 pub record WantsNext (now : Situation) (a : ℕ) (x : Actor) (s : World) (job : Job) (plan : Plan) (next : Want) : Type 0 where
@@ -196,7 +196,7 @@ pub record CommitStepsFollowed : Type 0 where
       WantsNext now a x s Flush plan (Desk step) → now.commits.broken ≡ true → IsLeftOut now.commits (ticket_in (Desk step) x.share) →
       WorldFollows Quietly a s now (record (after_step Flush plan (Refused Failed) x) { share = share })
   pub is_served : (now : Situation) (step : DeskStep) (share : Share) (a : ℕ) (x : Actor) (plan : Plan) (s : World) → AsksToLead step →
-      WantsNext now a x s Flush plan (Desk step) → IsTakenIn now.commits (ticket_in (Desk step) x.share) →
+      WantsNext now a x s Flush plan (Desk step) → TakesIn now.commits (ticket_in (Desk step) x.share) →
       WorldFollows Quietly a s now (record (after_step Flush plan Served x) { share = share })
   pub gets_ticket : (now : Situation) (allowed : ℕ) (a : ℕ) (x : Actor) (plan : Plan) (s : World) →
       WantsNext now a x s Flush plan (Desk (Arrive allowed)) → now.commits.committing ≡ true → now.commits.broken ≡ false →

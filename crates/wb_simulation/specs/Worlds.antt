@@ -74,9 +74,9 @@ abbrev pub one_ended : Commits → Commits
 one_ended commits = record { committing = false; broken = commits.broken; ended = commits.ended + 1 }
 
 -- a commit of the ticket's number or a later one has ended, or none has
-abbrev pub IsTakenIn : Commits → Option ℕ → Type 0
-IsTakenIn commits None = ⊥
-IsTakenIn commits (Some number) = number ≤ commits.ended
+abbrev pub TakesIn : Commits → Option ℕ → Type 0
+TakesIn commits None = ⊥
+TakesIn commits (Some number) = number ≤ commits.ended
 
 abbrev pub IsLeftOut : Commits → Option ℕ → Type 0
 IsLeftOut commits None = Unit {0}

@@ -11,7 +11,7 @@ use Rattle.wb_tasks.specs.Plan.{Fits}
 use Rattle.wb_tasks.specs.declared.step.Want.TheVariants.{Desk}
 use Rattle.wb_tasks.specs.declared.step.DeskStep.TheVariants.{Arrive, Ask}
 use Rattle.wb_devices.specs.declared.running.RunningCommit.{RunningCommit}
-use Rattle.wb_stage.specs.Sharing.{IsCovered, MustWait, share_then}
+use Rattle.wb_stage.specs.Sharing.{ShareIsCovered, MustWait, share_then}
 use Rattle.wb_stage.specs.Stages.{DidArrive, DidAskWith, DidBeginSo, DidLead}
 use Rattle.wb_stage.specs.declared.share.Share.{Share}
 
@@ -26,7 +26,7 @@ pub led : {P : Type 0} (hint_of : P → ℕ → ℕ) (most : ℕ) (d d' : DeskSt
 led {P} hint_of most d d' commit commit' image l new = (l.whole, begun (λ old i now. (hint_of : P → ℕ → ℕ) × HasBegun hint_of None old i now) most d d' commit commit' image (hint_of, l.begun) new)
 
 -- who has no ticket gets none, where it has not to wait
-module _ {P : Type 0} (most : ℕ) (share : Share) (d d' : DeskState P) (commit commit' : Option RunningCommit) (uncovered : ¬ IsCovered d share) (goes_on : ¬ MustWait d share) where
+module _ {P : Type 0} (most : ℕ) (share : Share) (d d' : DeskState P) (commit commit' : Option RunningCommit) (uncovered : ¬ ShareIsCovered d share) (goes_on : ¬ MustWait d share) where
   pub asked_kind : (got : Got) → Fits (Desk (Arrive most)) got → DidArrive most got d commit d' commit' → Fits (Desk (Ask most)) got
   asked_kind (Began nodes) f a = f
   asked_kind (Refused refusal) f a = f

@@ -10,20 +10,20 @@ use Rattle.wb_stage.specs.declared.share.Share.{Share}
 use Rattle.wb_stage.specs.declared.share.Share.TheVariants.{Nothing, Waiting, Covered}
 
 -- a commit has ended that covers who waits with this
-abbrev pub IsCovered : {P : Type 0} → DeskState P → Share → Type 0
-IsCovered d (Waiting number) = CommitCovers d number
-IsCovered d share = ⊥
+abbrev pub ShareIsCovered : {P : Type 0} → DeskState P → Share → Type 0
+ShareIsCovered d (Waiting number) = CommitCovers d number
+ShareIsCovered d share = ⊥
 
 -- Who asks with this has to wait: no commit is broken, one runs, and none has ended that covers it.
 pub record MustWait {P : Type 0} (d : DeskState P) (share : Share) : Type 0 where
   pub whole : d.broken ≡ false
   pub runs : d.space.committing ≡ true
-  pub uncovered : ¬ IsCovered d share
+  pub uncovered : ¬ ShareIsCovered d share
 
 -- who asks the desk for this step has not to wait
-abbrev pub MayGoOn : {P : Type 0} → DeskState P → Share → DeskStep → Type 0
-MayGoOn d share (Ask most) = ¬ MustWait d share
-MayGoOn d share step = Unit {0}
+abbrev pub MayAskNow : {P : Type 0} → DeskState P → Share → DeskStep → Type 0
+MayAskNow d share (Ask most) = ¬ MustWait d share
+MayAskNow d share step = Unit {0}
 
 -- A ticket is of the commit that comes after the one that runs; a receipt tells the last that has ended.
 abbrev pub share_then : {P : Type 0} → DeskState P → Share → DeskStep → Got → Share

@@ -17,7 +17,7 @@ use Rattle.wb_tasks.specs.declared.step.Got.TheVariants.{Began, Refused, Ticket,
 use Rattle.wb_devices.specs.declared.running.RunningCommit.{RunningCommit}
 use Rattle.wb_devices.specs.Committing.{is_committed}
 use Rattle.wb_stage.specs.Asking.{DidMap, DidUnmap, DidRelease, IsUnbegun, ended}
-use Rattle.wb_stage.specs.Sharing.{IsCovered}
+use Rattle.wb_stage.specs.Sharing.{ShareIsCovered}
 use Rattle.wb_stage.specs.declared.share.Share.{Share}
 
 -- a commit that was begun has done nothing yet, and so much is so of its image
@@ -48,9 +48,9 @@ DidArrive most got d commit d' commit' = DidLead most got d commit d' commit'
 
 -- who asks with a ticket is served where a commit has ended that covers it
 abbrev pub DidAskWith : {P : Type 0} → Share → ℕ → Got → DeskState P → Option RunningCommit → DeskState P → Option RunningCommit → Type 0
-DidAskWith share most Served d commit d' commit' = IsCovered d share × (d' ≡ d) × (commit' ≡ commit)
-DidAskWith share most (Began nodes) d commit d' commit' = (¬ IsCovered d share) × DidLead most (Began nodes) d commit d' commit'
-DidAskWith share most (Refused refusal) d commit d' commit' = (commit' ≡ commit) × (d' ≡ d) × (node_count d.geometry.cache_blocks ≤ most → (¬ IsCovered d share) × IsLeadRefused d refusal)
+DidAskWith share most Served d commit d' commit' = ShareIsCovered d share × (d' ≡ d) × (commit' ≡ commit)
+DidAskWith share most (Began nodes) d commit d' commit' = (¬ ShareIsCovered d share) × DidLead most (Began nodes) d commit d' commit'
+DidAskWith share most (Refused refusal) d commit d' commit' = (commit' ≡ commit) × (d' ≡ d) × (node_count d.geometry.cache_blocks ≤ most → (¬ ShareIsCovered d share) × IsLeadRefused d refusal)
 DidAskWith share most got d commit d' commit' = ⊥
 
 -- the commit ends where all of it was done

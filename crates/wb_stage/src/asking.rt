@@ -10,7 +10,7 @@ ghost use Rattle.wb_meta.specs.Placing.{HavePlaces};
 ghost use Rattle.wb_meta.specs.declared.commit_steps.CommitSteps.TheVariants.{NodesWritten};
 ghost use Rattle.wb_devices.specs.declared.running.RunningCommit.{RunningCommit as RunningCommitTerm};
 ghost use Rattle.wb_stage.specs.Asking.{DidMap, DidUnmap, DidRelease, is_of, order_of, ended};
-ghost use Rattle.wb_stage.specs.Sharing.{IsCovered, MustWait, MayGoOn, share_then};
+ghost use Rattle.wb_stage.specs.Sharing.{ShareIsCovered, MustWait, MayAskNow, share_then};
 ghost use Rattle.wb_stage.specs.Stages.{DidAsk, DidArrive, DidAskWith, DidBeginWith, EndsWith, IsServed, is_all_done};
 
 use crate::share::Share;
@@ -34,7 +34,7 @@ pub fn ask<P: Policy>(
     step: DeskStep,
 ) -> Got
     requires served { IsServed (AskDesk step) }
-    requires goes_on { MayGoOn desk.old share.old step }
+    requires goes_on { MayAskNow desk.old share.old step }
     ensures kind { Fits (AskDesk step) result }
     ensures did { DidAsk P.with_entry P.without_entry held.now step share.old result desk.old commit.old desk.new commit.new }
     ensures share { share.new ≡ share_then desk.old share.old step result }
@@ -74,8 +74,8 @@ pub fn must_wait<P: Policy>(desk: &Desk<P>, share: &Share) -> bool
 
 /// Whether a commit has ended that covers who waits with this.
 fn is_covered<P: Policy>(desk: &Desk<P>, share: &Share) -> bool
-    ensures covered { OnTrue result (IsCovered desk.now share.now) }
-    ensures other { OnFalse result (¬ IsCovered desk.now share.now) }
+    ensures covered { OnTrue result (ShareIsCovered desk.now share.now) }
+    ensures other { OnFalse result (¬ ShareIsCovered desk.now share.now) }
 {
     match share {
         Share::Waiting(ticket) => desk.covers(ticket),

@@ -10,7 +10,6 @@ use Rattle.std.specs.contracts.alloc.Global as Heap
 use Rattle.std.specs.contracts.impls.GlobalAllocator.TheImpl.{ghosts}
 use Rattle.wb_types.proofs.geometry.Geometry.TheSendSync as geometry
 use Rattle.wb_types.proofs.mode.Mode.TheSendSync as mode
-use Rattle.wb_types.proofs.mode.Mode.TheSendSync as mode
 use Rattle.wb_types.proofs.number.CBlock.TheSendSync as cache_block
 use Rattle.wb_bits.proofs.bit_set.BitSet.TheLaws.TheKnot.{crosses as bit_set}
 use Rattle.wb_tree.proofs.tree.node.Node.TheLaws.TheKnot.{crosses as node}

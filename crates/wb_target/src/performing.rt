@@ -6,7 +6,7 @@ ghost use Rattle.wb_tasks.specs.Plan.{Fits, device_of};
 ghost use Rattle.wb_tasks.specs.declared.step.Want.TheVariants.{Desk as AskDesk, Device as OnDevice};
 ghost use Rattle.wb_devices.specs.Moving.{IsOutcome, OthersStay, device_in};
 ghost use Rattle.wb_devices.specs.Stepping.{CommitGoes, DidStep, BufferStays};
-ghost use Rattle.wb_stage.specs.Sharing.{MayGoOn};
+ghost use Rattle.wb_stage.specs.Sharing.{MayAskNow};
 ghost use Rattle.wb_stage.specs.Stages.{IsServed};
 ghost use Rattle.wb_tasks.specs.declared.step.DeskStep.TheVariants.{Unmap as Unmapping};
 ghost use Rattle.wb_target.specs.Told.{WasGivenUp};
@@ -71,7 +71,7 @@ impl<P: Policy> Target<P> {
 
 /// Whether who asks for this step with this has to wait.
 fn has_to_wait<P: Policy>(desk: &Desk<P>, share: &Share, step: DeskStep) -> bool
-    ensures goes_on { OnFalse result (MayGoOn desk.now share.now step) }
+    ensures goes_on { OnFalse result (MayAskNow desk.now share.now step) }
 {
     match step {
         DeskStep::Ask(_) => asking::must_wait(desk, share),

@@ -2,15 +2,23 @@
 #![tactic(auto)]
 
 #[cfg(test)]
+mod bounds;
+#[cfg(test)]
+mod breaking;
+#[cfg(test)]
 mod caching;
 #[cfg(test)]
 mod clean;
+#[cfg(test)]
+mod crashing;
 #[cfg(test)]
 mod faults;
 #[cfg(test)]
 mod files;
 #[cfg(test)]
 mod fixture;
+#[cfg(test)]
+mod hooked;
 #[cfg(test)]
 mod memory;
 #[cfg(test)]
@@ -20,11 +28,15 @@ mod modes;
 #[cfg(test)]
 mod opening;
 #[cfg(test)]
+mod photos;
+#[cfg(test)]
 mod questions;
 #[cfg(test)]
 mod requests;
 #[cfg(test)]
 mod retiring;
+#[cfg(test)]
+mod sharing;
 #[cfg(test)]
 mod suspends;
 #[cfg(test)]

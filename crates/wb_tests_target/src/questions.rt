@@ -8,6 +8,7 @@ use crate::modes::{displaces, writes_durably, writes_through};
 use crate::opening::{caches_at_the_third, was_opened};
 use crate::requests::{defers, refuses, settles_all, settles_alone};
 use crate::retiring::writes_twice;
+use crate::sharing::leads_alone;
 use crate::suspends::is_kept;
 use crate::ticks::ticks;
 use crate::unclean::orders;
@@ -64,6 +65,8 @@ pub enum Question {
     IsKept,
     /// Whether so many blocks are dirty.
     CountsDirty(u32),
+    /// Whether it leads each of its flushes.
+    LeadsAlone,
 }
 
 /// The answer over new devices.
@@ -155,5 +158,6 @@ fn answer(
         Question::Orders(order) => orders(rt, client, order),
         Question::IsKept => is_kept(rt, target, client),
         Question::CountsDirty(blocks) => target.dirty(rt) == blocks,
+        Question::LeadsAlone => leads_alone(rt, target, client),
     }
 }
