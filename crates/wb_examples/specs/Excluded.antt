@@ -166,11 +166,11 @@ pub record ExcludesWrongSharing (P A : Type 0) : Type 0 where
   -- none is served before the commit has ended that covers it, whether that runs, broke, or never began
   pub unended : (shape : Shape) (w : State P A) (x : Actor) (number : ℕ) → x.share ≡ Waiting number → TargetHas w (λ t. t.desk.ended < number) → ¬ IsServedThere shape w x
   -- that is a commit which began after it came: one that came while a commit ran is not served once that one alone has ended
-  pub began_before : (shape : Shape) (w : State P A) (x : Actor) (came : Target P) (old : Share) (most : ℕ) → x.share ≡ share_by (Stands {A = A} came) old (Desk (Arrive most)) Ticket
+  pub began_before : (shape : Shape) (w : State P A) (x : Actor) (came : Target P) (old : Share) (most : ℕ) → x.share ≡ share_by {A = A} (Stands came) old (Desk (Arrive most)) Ticket
       → TargetHas w (λ t. t.desk.ended ≡ came.desk.ended + 1) → ¬ IsServedThere shape w x
   -- none is without a ticket, and none a second time
   pub unasked : (shape : Shape) (w : State P A) (x : Actor) → x.share ≡ Nothing → ¬ IsServedThere shape w x
-  pub twice : (shape : Shape) (w : State P A) (x : Actor) (served : Target P) (old : Share) (most : ℕ) → x.share ≡ share_by (Stands {A = A} served) old (Desk (Ask most)) Served → ¬ IsServedThere shape w x
+  pub twice : (shape : Shape) (w : State P A) (x : Actor) (served : Target P) (old : Share) (most : ℕ) → x.share ≡ share_by {A = A} (Stands served) old (Desk (Ask most)) Served → ¬ IsServedThere shape w x
   -- after a commit that broke no flush begins one, and none waits
   pub after_broken : (shape : Shape) (w : State P A) (x : Actor) (most : ℕ) (commit : RunningCommit) → TargetHas w (λ t. t.desk.broken ≡ true) → ¬ BeginsCommit shape w x Flush (Arrive most) commit
   pub after_broken_asked : (shape : Shape) (w : State P A) (x : Actor) (most : ℕ) (commit : RunningCommit) → TargetHas w (λ t. t.desk.broken ≡ true) → ¬ BeginsCommit shape w x Flush (Ask most) commit
