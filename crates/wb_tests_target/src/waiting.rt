@@ -1,9 +1,11 @@
 //! A flush beside a commit that runs: it waits for it, and is told where it fails.
 
+use crate::bounds::end_with;
 use crate::caching::order_replacement;
 use crate::files::{Images, Names, client_over, images, target_over};
 use crate::threads::all_tell;
 use crate::workers::{Holding, Signals, await_signal};
+use std::process::Abort;
 use std::sync::Wait;
 use std::sync::atomic::{AtomicU64, Ordering};
 use std::test::Fail;
@@ -23,11 +25,11 @@ enum Beside<'a, C> {
     Replaces(&'a C, &'a Signals),
     /// Flushes once that commit runs.
     Flushes(&'a C, &'a Signals, &'a AtomicU64),
-    /// Lets the commit go on after a while, if the flush is not answered by then.
+    /// Lets the commit go on after a while, if the flush is not answered by then, and ends the test if it never is.
     Watches(&'a C, &'a Signals, &'a AtomicU64),
 }
 
-impl<'a, C: Clock> Errand for Beside<'a, C> {
+impl<'a, C: Clock + Abort> Errand for Beside<'a, C> {
     type Told = Result<(), Refusal>;
 
     ghost tells = { λ beside told. Unit {0} };
@@ -54,6 +56,7 @@ impl<'a, C: Clock> Errand for Beside<'a, C> {
                 thread::sleep(clock, Duration::from_millis(200));
                 let waits = answered.load(Ordering::SeqCst) == 0;
                 signals.goes.store(1, Ordering::SeqCst);
+                end_with(clock, answered, 1);
                 if stands && waits {
                     Ok(())
                 } else {
