@@ -3,12 +3,12 @@
     lives_files.py WBCACHE WBNBD [LIVES [SEED [PROCESSES]]]
 
 So many lives of `wbcache run` (with clients beside the first, writes, durable writes, flushes, ticks and orders) and as many of `wbnbd` (with up to
-twelve requests in flight), in sequences of 25, each over files of its own, in any mode. Each life begins with a read of every sector that is used. What
-a flush covered that was answered has to be there, or a write to the same sector that was sent later. A killed process loses nothing that the system's
-cache of files has: so where the mapping did not change since the last flush, each write that was answered has to be there, flushed or not. (Where
-a block came into the cache or left it since, the next opening goes by the mapping before, and finds what stood there.) Reads show the last write, and no
-sector is torn. A suspend at the end of some lives leaves the cache clean for passthrough. It prints what failed, what was tried, and at the end
-'N passed, N failed': a check for each sequence.
+twelve requests in flight), in sequences of 25, each over files of its own, in any mode. Each life begins with a read of every sector that is used.
+What a flush covered that was answered has to be there, or a write to the same sector that was sent later. A killed process loses nothing that the
+system's cache of files has: so where the mapping did not change since the last flush, each write that was answered has to be there, flushed or not.
+(Where a block came into the cache or left it since, the next opening goes by the mapping before, and finds what stood there.) Reads show the last
+write, and no sector is torn. A suspend at the end of some lives leaves the cache clean for passthrough. It prints what failed, what was tried, and
+at the end 'N passed, N failed': a check for each sequence.
 """
 import collections
 import multiprocessing
