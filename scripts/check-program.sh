@@ -40,11 +40,14 @@ call "$top/scripts/check-replays.sh" "$cache"
 call "$top/scripts/check-clients.sh" "$cache"
 if command -v python3 >/dev/null; then
   call "$top/scripts/every_step.py" "$cache"
+  call "$top/scripts/every_opening.py" "$cache"
+  call "$top/scripts/lives.py" "$cache"
+  call "$top/scripts/lives_files.py" "$cache" "$server"
   call "$top/scripts/images.py" "$bench"
   call "$top/scripts/twin.py" "$cache"
   call "$top/scripts/weather.py" "$cache" "$server"
 else
-  echo 'not tried: there is no python3, by which stops, faults, images and bad weather are played'
+  echo 'not tried: there is no python3, by which stops, faults, lives, images and bad weather are played'
 fi
 cd "$work" || exit 1
 blank() { # files of zeros

@@ -2,12 +2,12 @@
 
     every_opening.py WBCACHE
 
-Behind the mixed run of every_step.py, whole, without its last two tasks and with one more write, so that a dirty block is there, comes a suspend, and
-then an opening in each mode that is not refused. Before and after each of their steps on a device there is a stop that leaves each sector its oldest content, one
-that leaves each its newest, and one for each other content of each single sector; and each step fails, lost or landed, behind which the devices are
-opened as they are, or there is a stop. Then an opening in write-back has to be answered, each sector has to show what the model allows, which is that
-of every_step.py, and the same once all blocks have left the cache. It prints what failed, how many replays there were, and at the end
-'N passed, N failed': a check for each way to stop or fail of each task.
+Behind the mixed run of every_step.py, whole, without its last two tasks and with one more write, so that a dirty block is there, comes a suspend,
+and then an opening in each mode that is not refused. Before and after each of their steps on a device there is a stop that leaves each sector its
+oldest content, one that leaves each its newest, and one for each other content of each single sector; and each step fails, lost or landed, behind
+which the devices are opened as they are, or there is a stop. Then an opening in write-back has to be answered, each sector has to show what the
+model allows, which is that of every_step.py, and the same once all blocks have left the cache. It prints what failed, how many replays there were,
+and at the end 'N passed, N failed': a check for each way to stop or fail of each task.
 """
 import collections
 import copy

@@ -3,13 +3,13 @@
     lives.py WBCACHE [COUNT [SEED [PROCESSES]]]
 
 Each replay has a number, from SEED on, and goes by it alone: several actors read, write, flush, promote, demote, clean, replace and suspend, whole
-or a few steps at a time; devices fail; power is lost anywhere, within openings and suspends too; and openings follow, after a stop or of a failed or
-suspended target as it is. `wbcache replay` is asked one line at a time, so what comes next may hang on what it answered.
+or a few steps at a time; devices fail; power is lost anywhere, within openings and suspends too; and openings follow, after a stop or of a failed
+or suspended target as it is. `wbcache replay` is asked one line at a time, so what comes next may hang on what it answered.
 
 The model (lives_model.py) knows of no cache: of each sector it has what was written since the opening, in the order in which it was, and a floor,
-which an answered flush or suspend raises to what was finished before it began. A read has to give the last write before it; what an opening shows has
-to stand at the floor or behind it; and then the history begins anew with what is shown. It prints what failed and how to play it again, the seeds,
-what was tried, and at the end 'N passed, N failed': a check for each hundred replays.
+which an answered flush or suspend raises to what was finished before it began. A read has to give the last write before it; what an opening shows
+has to stand at the floor or behind it; and then the history begins anew with what is shown. It prints what failed and how to play it again, the
+seeds, what was tried, and at the end 'N passed, N failed': a check for each hundred replays.
 """
 import collections
 import multiprocessing

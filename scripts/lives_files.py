@@ -3,12 +3,12 @@
     lives_files.py WBCACHE WBNBD [LIVES [SEED [PROCESSES]]]
 
 So many lives of `wbcache run` (with clients beside the first, writes, durable writes, flushes, ticks and orders) and as many of `wbnbd` (with up to
-twelve requests in flight), in sequences of 25, each over files of its own, in any mode. Each life begins with a read of every sector that is used. What
-a flush covered that was answered has to be there, or a write to the same sector that was sent later. A killed process loses nothing that the system's
-cache of files has: so where the mapping did not change since the last flush, each write that was answered has to be there, flushed or not. (Where
-a block came into the cache or left it since, the next opening goes by the mapping before, and finds what stood there.) Reads show the last write, and no
-sector is torn. A suspend at the end of some lives leaves the cache clean for passthrough. It prints what failed, what was tried, and at the end
-'N passed, N failed': a check for each sequence.
+twelve requests in flight), in sequences of 25, each over files of its own, in any mode. Each life begins with a read of every sector that is used.
+What a flush covered that was answered has to be there, or a write to the same sector that was sent later. A killed process loses nothing that the
+system's cache of files has: so where the mapping did not change since the last flush, each write that was answered has to be there, flushed or not.
+(Where a block came into the cache or left it since, the next opening goes by the mapping before, and finds what stood there.) Reads show the last
+write, and no sector is torn. A suspend at the end of some lives leaves the cache clean for passthrough. It prints what failed, what was tried, and
+at the end 'N passed, N failed': a check for each sequence.
 """
 import collections
 import multiprocessing
@@ -81,10 +81,15 @@ class Book:
 
 
 class Program:
-    """A program that is killed at a moment, if it is still there."""
+    """A program that is killed at a moment, if it is still there: after some time, or soon after some answers."""
 
-    def __init__(self, words, seconds):
+    def __init__(self, words, dice=None):
         self.process = subprocess.Popen(words, stdin=subprocess.PIPE, stdout=subprocess.PIPE, stderr=subprocess.DEVNULL, bufsize=0)
+        seconds, self.answers, self.soon = 30, -1, 0
+        if dice and dice.randrange(3) == 0:
+            seconds = dice.choice((0.03, 0.2, 0.6)) * dice.random()
+        elif dice:
+            self.answers, self.soon = dice.randrange(600), dice.choice((0, 0.001, 0.01)) * dice.random()
         self.ends_at, self.was_killed, self.data = time.monotonic() + seconds, False, b""
 
     def send(self, data):
@@ -108,13 +113,21 @@ class Program:
         else:
             need(not self.was_killed, "a killed program is not gone")
 
+    def count(self):
+        """One answer more is taken in."""
+        self.answers -= 1
+        if self.answers == 0:
+            self.ends_at = time.monotonic() + self.soon
+
     def take(self, count):
+        self.count()
         while len(self.data) < count:
             self.more()
         taken, self.data = self.data[:count], self.data[count:]
         return taken
 
     def line(self):
+        self.count()
         while b"\n" not in self.data:
             self.more()
         line, self.data = self.data.split(b"\n", 1)
@@ -229,12 +242,12 @@ def find(program, book):
     return None
 
 
-def life_of_run(dice, book, counts, seconds):
-    """A life of `wbcache run`, killed after so many seconds if it is still there; some end with a suspend."""
+def life_of_run(dice, book, counts):
+    """A life of `wbcache run`, killed at some moment if it is still there; some end with a suspend."""
     kind, mode = dice.randrange(10), dice.choice(("writeback", *MODES))
     policy = "cleaner" if kind == 0 else "tinylfu"
     mode = "writeback" if kind == 0 else mode
-    program = Program([PROGRAMS.cache, "run", f"cache m.img c.img o.img 64 1 {mode} {policy} 0"], seconds)
+    program = Program([PROGRAMS.cache, "run", f"cache m.img c.img o.img 64 1 {mode} {policy} 0"], dice)
     try:
         refusal = find(program, book)
         if refusal:
@@ -335,12 +348,12 @@ class Client:
             self.ask(WRITE, run, 1 if kind == 4 and self.flushes else 0)
 
 
-def life_of_server(dice, book, counts, seconds):
-    """A life of `wbnbd`, killed after so many seconds; some clients leave before."""
+def life_of_server(dice, book, counts):
+    """A life of `wbnbd`, killed at some moment; some clients leave before."""
     mode = dice.choice(("writeback", "writeback", "writethrough"))
     # In some lives nothing is promoted: no estimate is 17.
     keys = dice.choice(("0", "2 promote_min 17"))
-    program = Program([PROGRAMS.server, "-q", "--wait", "10", f"cache m.img c.img o.img 64 1 {mode} tinylfu {keys}"], seconds)
+    program = Program([PROGRAMS.server, "-q", "--wait", "10", f"cache m.img c.img o.img 64 1 {mode} tinylfu {keys}"], dice)
     client, depth, status = Client(dice, book, program, counts), dice.choice((1, 4, 12)), None
     requests = dice.randrange(200) if dice.randrange(10) == 0 else 100000
     try:
@@ -380,9 +393,8 @@ def sequence(work):
                     file.truncate(size)
             need(weather.run(cache, ["format", weather.table("writeback")])[:2] == (0, "formatted 4 10\n"), "formatting")
             for life in range(lives):
-                seconds = dice.choice((0.03, 0.2, 0.6)) * dice.random()
-                (life_of_run if kind == "wbcache run" else life_of_server)(dice, book, counts, seconds)
-            program = Program([cache, "run", weather.table("writeback")], 30)
+                (life_of_run if kind == "wbcache run" else life_of_server)(dice, book, counts)
+            program = Program([cache, "run", weather.table("writeback")])
             need(find(program, book) is None and program.end() == 0, "the last run")
             counts["program"] += lives
             return kind, counts, None

@@ -225,7 +225,7 @@ module _ (P A : Type 0) (s : Setting P 1 Writeback) where
     refusing_leads own = goes_to P A 1 Writeback s _ _ _ ((s.idle, tt) ⨟ (refl, inr (refl, refl, record { idle = refl; next = omega (arith, s.later) })) ⨟ tt) refl
 
     abbrev idle_there : Own → Idle P
-    idle_there own = record { global = global; shape = shape1; words = words 0 0 1 0; desk = claimed P 1 Writeback s; devices = d; actor = record { task = None; card = own.card; orders = []; awaiting = replacement ∷ []; buffer = buffer; seen = own.seen; share = own.share }; rest = s.rest; others = s.idle }
+    idle_there own = record { global = global; shape = shape1; words = words 0 0 1 0; desk = claimed P 1 Writeback s; devices = d; actor = record { task = None; card = own.card; orders = []; awaiting = replacement ∷ []; buffer = buffer; seen = own.seen; share = own.share }; rest = s.rest }
 
     abbrev flush : List (Move P A)
     flush = goes 1 (flushing P A (idle_there nothing_known))
@@ -234,7 +234,7 @@ module _ (P A : Type 0) (s : Setting P 1 Writeback) where
     durable = record { metadata = synced (rooted (bare_commit global shape1.geometry (s.generation + 1)) (synced d.metadata)); cache = synced d.cache; origin = synced d.origin }
 
     flush_leads : (own : Own) → IsKnown P A shape1 (state (left d buffer) own) → Leads P A 1 Writeback s (state (left d buffer) own) flush (served durable buffer)
-    flush_leads own known = goes_to P A 1 Writeback s _ _ _ (flushing_may P A (idle_there own) (record { images = known.images; known = known.known; entries = refl }) (record { idle = refl; next = omega (arith, s.later) }) refl) refl
+    flush_leads own known = goes_to P A 1 Writeback s _ _ _ (flushing_may P A (idle_there own) (record { images = known.images; known = known.known; entries = refl }) (record { idle = refl; next = omega (arith, s.later) }) refl s.idle) refl
 
     answering_leads : (own : Own) → Leads P A 1 Writeback s (state (served d buffer) own) answering (begun d buffer)
     answering_leads own = goes_to P A 1 Writeback s _ _ _ ((s.idle, (uncut next_whole (omega arith), inr (first_block, (0, omega arith, refl), refl))) ⨟ tt) refl

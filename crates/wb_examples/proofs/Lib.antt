@@ -6,6 +6,7 @@ mod Playing
 mod Opening
 mod Desks
 mod Runs
+mod Sharing
 mod Scenes
 mod Blocks
 mod Reopening

@@ -37,7 +37,7 @@ use Rattle.wb_examples.proofs.Bare.{BareDesk}
 use Rattle.wb_examples.proofs.Beginning.{bare_commit, begins_bare}
 use Rattle.wb_examples.proofs.Completing.{stored, next_commit, all_read}
 use Rattle.wb_examples.proofs.Shown.{no_seals}
-use Rattle.wb_examples.proofs.Playing.{Move, Gets, Does, goes, ends, played, AreIdle, MayGo, goes_on, ◌⨟◌}
+use Rattle.wb_examples.proofs.Playing.{Move, Gets, Does, goes, then, ends, played, AreIdle, Needs, MayGo, goes_on, ◌⨟◌}
 
 -- openings start in write-back
 pub write_back_starts : Writeback ≢ Passthrough
@@ -146,7 +146,7 @@ module _ (P A : Type 0) (d : Down P A) where
 
 -- ---- a flush
 
--- Where a target stands that has not failed, and nobody is at anything.
+-- Where a target stands that has not failed, no commit runs, and the first actor is at nothing.
 pub record Idle (P : Type 0) : Type 0 where
   pub global : Global
   pub shape : Shape
@@ -155,7 +155,6 @@ pub record Idle (P : Type 0) : Type 0 where
   pub devices : Devices (List History)
   pub actor : Actor
   pub rest : List Actor
-  pub others : AreIdle rest
 
 module _ (P A : Type 0) (i : Idle P) where
   open i use {global, shape, desk}
@@ -169,15 +168,22 @@ module _ (P A : Type 0) (i : Idle P) where
   abbrev root_commit : RunningCommit
   root_commit = bare_commit global shape.geometry (desk.generation + 1)
 
+  -- it leads a commit, the steps of that, and what comes behind them
+  abbrev pub leading : Move P A
+  leading = Does (Began 0) (Commits root_commit desk.tree)
+
+  abbrev pub committing : List (Move P A) → List (Move P A)
+  committing behind = goes 2 (Does Done Plain ∷ Does Done (Puts (rooted root_commit (synced m))) ∷ Does Done Plain ∷ Does Done Plain ∷ behind)
+
   abbrev pub flushing : List (Move P A)
-  flushing =
-      Gets Flush Plain
-      ∷ goes 1 (Does (Began 0) (Commits root_commit desk.tree)
-      ∷ goes 2 (Does Done Plain
-      ∷ Does Done (Puts (rooted root_commit (synced m)))
-      ∷ Does Done Plain
-      ∷ Does Done Plain
-      ∷ []))
+  flushing = Gets Flush Plain ∷ goes 1 (leading ∷ committing [])
+
+  -- it comes to the desk with a flush, and leads its commit
+  abbrev pub at_desk : State P A
+  at_desk = ends global shape idle (Gets Flush Plain ∷ goes 1 [])
+
+  abbrev pub led : State P A
+  led = then global shape at_desk leading
 
   module _ (bare : BareDesk P shape.geometry desk m) (may : MayBegin desk) (whole : desk.broken ≡ false) where
     quiet : Quiet shape.geometry bare.images desk m
@@ -192,12 +198,16 @@ module _ (P A : Type 0) (i : Idle P) where
     fits_rooted : Fits root_commit (rooted root_commit (synced m))
     fits_rooted = length_grown (slice_get (synced m) (slot_of root_commit.image.root).0) (synced m) (slot_of root_commit.image.root).0 _ ∙ fits_synced
 
-    pub flushing_may : MayGo global shape idle flushing
-    flushing_may =
-        (i.others, tt)
-        ⨟ (refl, (whole, begins_bare global P A shape.geometry desk m bare (node_count shape.geometry.cache_blocks) may))
-        ⨟ (refl, refl, (comes_next root_commit m (NodesWritten 0) (Sync Metadata) fits_now refl refl, refl))
+    pub leading_may : Needs shape at_desk leading
+    leading_may = (refl, (whole, begins_bare global P A shape.geometry desk m bare (node_count shape.geometry.cache_blocks) may))
+
+    pub committing_may : MayGo global shape led (committing [])
+    committing_may =
+        (refl, refl, (comes_next root_commit m (NodesWritten 0) (Sync Metadata) fits_now refl refl, refl))
         ⨟ (refl, refl, (comes_next (record root_commit { steps = NodesSynced }) (synced m) NodesSynced WriteRoot fits_synced refl refl, root_does (record root_commit { steps = NodesSynced }) (synced m) may.next refl))
         ⨟ (refl, refl, (comes_next (record root_commit { steps = RootWritten }) (rooted root_commit (synced m)) RootWritten (Sync Metadata) fits_rooted refl refl, refl))
         ⨟ ((refl, refl), refl, refl)
         ⨟ tt
+
+    pub flushing_may : AreIdle i.rest → MayGo global shape idle flushing
+    flushing_may others = (others, tt) ⨟ leading_may ⨟ committing_may

@@ -148,7 +148,7 @@ module _ (P A : Type 0) (t : Tiny P A) (metadata cache sectors : List History) (
   -- ---- the flush, the crash and the opening behind them
 
   abbrev idle_there : Own → Idle P
-  idle_there own = record { global = t.global; shape = shape0; words = words 0 0 1; desk = desk_left; devices = wrote.devices; actor = record { task = None; card = own.card; orders = []; awaiting = []; buffer = []; seen = own.seen; share = own.share }; rest = s_then.rest; others = s_then.idle }
+  idle_there own = record { global = t.global; shape = shape0; words = words 0 0 1; desk = desk_left; devices = wrote.devices; actor = record { task = None; card = own.card; orders = []; awaiting = []; buffer = []; seen = own.seen; share = own.share }; rest = s_then.rest }
 
   abbrev flush : List (Move P A)
   flush = goes 1 (flushing P A (idle_there nothing_known))
@@ -160,7 +160,7 @@ module _ (P A : Type 0) (t : Tiny P A) (metadata cache sectors : List History) (
   durable = here (synced (rooted (bare_commit t.global shape0.geometry desk_then.generation) (synced metadata))) (synced cache) (only content ∷ synced sectors) (words 0 0 1) desk_then (over Flush (task_job shape0 Passthrough [] Flush [] []))
 
   flush_leads : (own : Own) → IsKnown P A shape0 (state wrote own) → Leads P A 0 Writeback s_then (state wrote own) flush durable
-  flush_leads own known = goes_to P A 0 Writeback s_then _ _ _ (flushing_may P A (idle_there own) (record { images = known.images; known = known.known; entries = refl }) (record { idle = refl; next = omega (arith, (s P A t).later) }) refl) refl
+  flush_leads own known = goes_to P A 0 Writeback s_then _ _ _ (flushing_may P A (idle_there own) (record { images = known.images; known = known.known; entries = refl }) (record { idle = refl; next = omega (arith, (s P A t).later) }) refl s_then.idle) refl
 
   abbrev crash : List (Move P A)
   crash = goes 1 (Stops nothing_lands ∷ [])

@@ -49,7 +49,7 @@ abbrev pub goes : {P A : Type 0} → ℕ → List (Move P A) → List (Move P A)
 goes zero moves = moves
 goes (suc n) moves = Goes ∷ goes n moves
 
-abbrev happened : {P A : Type 0} → Global → Event → What → Chosen P A → Happening P A
+abbrev pub happened : {P A : Type 0} → Global → Event → What → Chosen P A → Happening P A
 happened global event what chosen = record {
   record_is = record { event = event; what = what; read = record { ptr = null_ptr; len = 0; cap = 0; alloc = global; items = []; ok = (refl, omega arith); small = omega arith } };
   chosen = chosen;
@@ -111,7 +111,7 @@ is_free None = true
 is_free (Some doing) = false
 
 -- an actor is there, and has nothing to do
-abbrev is_idle : Option Actor → Bool
+abbrev pub is_idle : Option Actor → Bool
 is_idle None = false
 is_idle (Some x) = is_free x.task
 
@@ -152,7 +152,7 @@ IfMoves (Migrate migration block) (Device (ReadExtent device e)) on = on device 
 IfMoves (Migrate migration block) (Device (WriteExtent device e)) on = on device e
 IfMoves job next on = ⊥
 
-abbrev Needs : {P A : Type 0} → Shape → State P A → Move P A → Type 0
+abbrev pub Needs : {P A : Type 0} → Shape → State P A → Move P A → Type 0
 Needs shape w (Gets job chosen) = If (is_idle (slice_get w.actors 0) && is_in_place w.phase job) (OthersAreIdle w.actors × StartsAs shape w 0 job Started chosen)
 Needs shape w Goes = is_plain_task w.phase (task_of (slice_get w.actors 0)) ≡ true
 Needs shape w Moves = OnTask w 0 (λ x job s. IfMoves job (want s) (λ device e. HoldsBlocks device × (e.first + e.count ≤ length (device_in device w.devices))))
@@ -207,7 +207,7 @@ nobody_works (x ∷ actors) e o zero h = busy x.task e h
 nobody_works (x ∷ actors) e o (suc a) h = o a h
 
 -- whoever has a task of some kind has one
-has_any : (o : Option Actor) (Q : Job → Type 0) → OfSome o (λ x. OfSome x.task (λ d. Q d.0)) → OfSome o (λ x. OfSome x.task (λ d. Unit {0}))
+pub has_any : (o : Option Actor) (Q : Job → Type 0) → OfSome o (λ x. OfSome x.task (λ d. Q d.0)) → OfSome o (λ x. OfSome x.task (λ d. Unit {0}))
 has_any None Q h = h
 has_any (Some x) Q h = by_task x.task h
   where
@@ -215,7 +215,7 @@ has_any (Some x) Q h = by_task x.task h
     by_task None h = h
     by_task (Some d) h = tt
 
-there : (o : Option Actor) → is_idle o ≡ true → o ≡ None → ⊥
+pub there : (o : Option Actor) → is_idle o ≡ true → o ≡ None → ⊥
 there None e none = absurd (cc)
 there (Some x) e none = absurd (cc)
 

@@ -89,6 +89,6 @@ module _ (P A : Type 0) where
     where
       by_down : (d : Down P A) → PassesThrough d.shape (down P A d) (formatted d.shape) ((λ w n. AboutToAnswer Flush w) ∷ [])
       by_down d =
-          let i : Idle P = record { global = d.global; shape = d.shape; words = fresh_words d.shape.geometry.origin_blocks; desk = (target P A d).desk; devices = (opened P A d).devices; actor = resting; rest = all_resting d.rest; others = resting_idle d.rest } in
+          let i : Idle P = record { global = d.global; shape = d.shape; words = fresh_words d.shape.geometry.origin_blocks; desk = (target P A d).desk; devices = (opened P A d).devices; actor = resting; rest = all_resting d.rest } in
           along d.shape (down P A d) (opened P A d) (formatted d.shape) (played d.global d.shape (down P A d) (opening P A d)) ((λ w n. AboutToAnswer Flush w) ∷ []) (opened_is P A d) (goes_on d.global d.shape (down P A d) (opening P A d) (opening_may P A d))
-          (played d.global d.shape (idle P A i) (flushing P A i), goes_on d.global d.shape (idle P A i) (flushing P A i) (flushing_may P A i (bare P A d) (may_begin P A d) refl), (refl, refl), tt)
+          (played d.global d.shape (idle P A i) (flushing P A i), goes_on d.global d.shape (idle P A i) (flushing P A i) (flushing_may P A i (bare P A d) (may_begin P A d) refl (resting_idle d.rest)), (refl, refl), tt)

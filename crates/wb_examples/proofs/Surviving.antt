@@ -115,7 +115,7 @@ module _ (P A : Type 0) (policy : P) (alloc : A) (s : Setting P 0 Writeback) (me
   reading = goes 1 (starting (Read first_sector) (Reads content ∷ goes 2 []))
 
   abbrev idle_there : Own → Idle P
-  idle_there own = record { global = global; shape = shape0; words = words 1 1 1; desk = desk P 0 Writeback s; devices = was_read.devices; actor = record { task = None; card = own.card; orders = []; awaiting = []; buffer = []; seen = own.seen; share = own.share }; rest = s.rest; others = s.idle }
+  idle_there own = record { global = global; shape = shape0; words = words 1 1 1; desk = desk P 0 Writeback s; devices = was_read.devices; actor = record { task = None; card = own.card; orders = []; awaiting = []; buffer = []; seen = own.seen; share = own.share }; rest = s.rest }
 
   abbrev flush : List (Move P A)
   flush = goes 1 (flushing P A (idle_there nothing_known))
@@ -133,7 +133,7 @@ module _ (P A : Type 0) (policy : P) (alloc : A) (s : Setting P 0 Writeback) (me
   reading_leads own = goes_to P A 0 Writeback s _ _ _ ((s.idle, (refl, uncut first_sector (omega arith))) ⨟ (tt, refl, refl, refl, ((_, refl, refl), tt)) ⨟ tt) refl
 
   flush_leads : (own : Own) → IsKnown P A shape0 (at P A 0 Writeback s was_read own) → Leads P A 0 Writeback s (at P A 0 Writeback s was_read own) flush durable
-  flush_leads own known = goes_to P A 0 Writeback s _ _ _ (flushing_may P A (idle_there own) (record { images = known.images; known = known.known; entries = refl }) (record { idle = refl; next = omega (arith, s.later) }) refl) refl
+  flush_leads own known = goes_to P A 0 Writeback s _ _ _ (flushing_may P A (idle_there own) (record { images = known.images; known = known.known; entries = refl }) (record { idle = refl; next = omega (arith, s.later) }) refl s.idle) refl
 
   failing_may : (own : Own) → MayGo global shape0 (at P A 0 Writeback s durable own) failing
   failing_may own = (s.idle, (refl, uncut first_sector (omega arith))) ⨟ (may_fail _, (refl, tt)) ⨟ tt

@@ -1,6 +1,6 @@
 -- What the promises exclude: answers that are right and ones that are not, on one sector to which two contents were written. A definition that
 -- were always true, or never, would be caught by one of these.
-use Rattle.std.specs.Prelude.{true, false, ◌≡◌, ℕ, List, [], ◌∷◌, Some, None, map}
+use Rattle.std.specs.Prelude.{true, false, ◌≡◌, ◌<◌, ◌+◌, ℕ, List, [], ◌∷◌, Some, None, map}
 use Rattle.wb_types.specs.declared.entry.Entry.{Entry}
 use Rattle.wb_types.specs.declared.mode.Dev.{Dev}
 use Rattle.wb_types.specs.declared.mode.Dev.TheVariants.{Cache, Origin}
@@ -16,7 +16,11 @@ use Rattle.wb_tasks.specs.declared.step.DeskStep.{DeskStep}
 use Rattle.wb_tasks.specs.declared.step.DeskStep.TheVariants.{Arrive, Ask, BeginCommit}
 use Rattle.wb_tasks.specs.declared.step.DeviceStep.TheVariants.{Write as WriteExtent}
 use Rattle.wb_tasks.specs.declared.step.Want.TheVariants.{Device, Desk, End}
-use Rattle.wb_tasks.specs.declared.step.Got.TheVariants.{Done, Began}
+use Rattle.wb_tasks.specs.declared.step.Got.{Got}
+use Rattle.wb_tasks.specs.declared.step.Got.TheVariants.{Done, Began, Ticket, Served}
+use Rattle.wb_stage.specs.Sharing.{MustWait}
+use Rattle.wb_stage.specs.declared.share.Share.{Share}
+use Rattle.wb_stage.specs.declared.share.Share.TheVariants.{Nothing, Waiting}
 use Rattle.wb_devices.specs.declared.running.RunningCommit.{RunningCommit}
 use Rattle.wb_desk.specs.Desks.{DeskState}
 use Rattle.wb_desk.specs.Entries.{entry_of}
@@ -25,11 +29,12 @@ use Rattle.wb_promise.specs.declared.job.Job.{Job}
 use Rattle.wb_promise.specs.declared.job.Job.TheVariants.{Read, Write, Flush, Suspend, Open}
 use Rattle.wb_promise.specs.declared.event.Event.TheVariants.{Start, Step}
 use Rattle.wb_promise.specs.declared.event.What.TheVariants.{Skipped, Started, Stepped, Refused}
-use Rattle.wb_promise.specs.States.{Shape, State, Actor}
+use Rattle.wb_promise.specs.States.{Shape, State, Actor, Target, Stands}
+use Rattle.wb_promise.specs.Effects.{share_by}
 use Rattle.wb_promise.specs.Happenings.{Chosen, Plain, Commits, HasTask, IsSuspending, WaitsForCommit, DoesBegin, Gives, StartsAs, MayBe}
 use Rattle.wb_promise.specs.Clerk.{Notes, Doing, Reading, Position, noted_what}
 use Rattle.wb_promise.specs.Headline.{AnswersRightly, SkipsRightly}
-use Rattle.wb_examples.specs.Possible.{first_sector, first_block}
+use Rattle.wb_examples.specs.Possible.{first_sector, first_block, TargetHas}
 
 -- what was written first, and last, and something else
 abbrev pub older : Bytes
@@ -146,3 +151,30 @@ pub record ExcludesWrongSuspends (P A : Type 0) : Type 0 where
   pub raised : (shape : Shape) → floors_after Suspend shape 1 Finished ≡ 1 ∷ []
   pub not_since : (shape : Shape) → floors_after Suspend shape 0 Finished ≡ 0 ∷ []
   pub not_refused : (shape : Shape) → floors_after Suspend shape 1 (Refuses Memory) ≡ 0 ∷ []
+
+-- ---- flushes that share commits
+
+-- a flush of this actor that asks is served
+pub record IsServedThere {P A : Type 0} (shape : Shape) (w : State P A) (x : Actor) : Type 0 where
+  pub most : ℕ
+  pub read : List Bytes
+  pub chosen : Chosen P A
+  pub gives : Gives shape w x Flush (Desk (Ask most)) Served read chosen
+
+-- What sharing is not.
+pub record ExcludesWrongSharing (P A : Type 0) : Type 0 where
+  -- none is served before the commit has ended that covers it, whether that runs, broke, or never began
+  pub unended : (shape : Shape) (w : State P A) (x : Actor) (number : ℕ) → x.share ≡ Waiting number → TargetHas w (λ t. t.desk.ended < number) → ¬ IsServedThere shape w x
+  -- that is a commit which began after it came: one that came while a commit ran is not served once that one alone has ended
+  pub began_before : (shape : Shape) (w : State P A) (x : Actor) (came : Target P) (old : Share) (most : ℕ) → x.share ≡ share_by {A = A} (Stands came) old (Desk (Arrive most)) Ticket
+      → TargetHas w (λ t. t.desk.ended ≡ came.desk.ended + 1) → ¬ IsServedThere shape w x
+  -- none is without a ticket, and none a second time
+  pub unasked : (shape : Shape) (w : State P A) (x : Actor) → x.share ≡ Nothing → ¬ IsServedThere shape w x
+  pub twice : (shape : Shape) (w : State P A) (x : Actor) (served : Target P) (old : Share) (most : ℕ) → x.share ≡ share_by {A = A} (Stands served) old (Desk (Ask most)) Served → ¬ IsServedThere shape w x
+  -- after a commit that broke no flush begins one, and none waits
+  pub after_broken : (shape : Shape) (w : State P A) (x : Actor) (most : ℕ) (commit : RunningCommit) → TargetHas w (λ t. t.desk.broken ≡ true) → ¬ BeginsCommit shape w x Flush (Arrive most) commit
+  pub after_broken_asked : (shape : Shape) (w : State P A) (x : Actor) (most : ℕ) (commit : RunningCommit) → TargetHas w (λ t. t.desk.broken ≡ true) → ¬ BeginsCommit shape w x Flush (Ask most) commit
+  pub woken : (w : State P A) (a : ℕ) → TargetHas w (λ t. t.desk.broken ≡ true) → ¬ WaitsForCommit w a
+  -- one that waits is skipped, and its step is not taken
+  pub waits : (shape : Shape) (w : State P A) (a : ℕ) → WaitsForCommit w a → MayBe shape w (Step a) Skipped [] Plain
+  pub goes_not : (shape : Shape) (t : Target P) (w : State P A) (x : Actor) (most : ℕ) (got : Got) (read : List Bytes) (chosen : Chosen P A) → MustWait t.desk x.share → ¬ Gives shape (record w { phase = Stands t }) x Flush (Desk (Ask most)) got read chosen

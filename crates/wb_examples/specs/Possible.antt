@@ -29,7 +29,9 @@ use Rattle.wb_tasks.specs.declared.step.Want.TheVariants.{Device, Desk, End}
 use Rattle.wb_promise.specs.declared.job.Job.{Job}
 use Rattle.wb_promise.specs.declared.job.Job.TheVariants.{Read, Write, Flush, Suspend, Migrate, Open}
 use Rattle.wb_promise.specs.States.{Shape, State, Target, Gone, OfTarget, start}
-use Rattle.wb_promise.specs.Happenings.{Happening, AtWork, OfSome, May}
+use Rattle.wb_stage.specs.declared.share.Share.{Share}
+use Rattle.wb_stage.specs.declared.share.Share.TheVariants.{Waiting, Covered}
+use Rattle.wb_promise.specs.Happenings.{Happening, AtWork, OnTask, OfSome, WaitsForCommit, May}
 use Rattle.wb_promise.specs.Effects.{after_happening, after_all, IsRun}
 use Rattle.wb_promise.specs.Clerk.{Notes, Doing, formatted}
 use Rattle.wb_promise.specs.Headline.{place_of, shown, noted}
@@ -126,6 +128,14 @@ StandsCached block w = TargetHas w (λ target. place_of target.desk.tree.entries
 abbrev pub StandsNowhere : {P A : Type 0} → OBlock → State P A → Type 0
 StandsNowhere block w = TargetHas w (λ target. place_of target.desk.tree.entries block.0 ≡ None)
 
+-- the second actor is at a flush, has this of the commits that others lead, and wants this next
+abbrev pub SecondFlushes : {P A : Type 0} → Share → Want → State P A → Type 0
+SecondFlushes share next w = OnTask w 1 (λ x at s. (at ≡ Flush) × (x.share ≡ share) × (want s ≡ next))
+
+-- so many commits have ended since the opening
+abbrev pub HaveEnded : {P A : Type 0} → ℕ → State P A → Type 0
+HaveEnded count w = TargetHas w (λ target. target.desk.ended ≡ count)
+
 -- ---- what runs pass through, and that there are such runs
 
 -- an opening is answered done, and a target stands
@@ -135,6 +145,26 @@ CanOpen P A = CanPass P A HasActors (λ shape. (λ w n. TargetHas w (λ target. 
 -- a flush over it comes to its answer, which is done
 abbrev pub CanFlush : (P A : Type 0) → Type 0
 CanFlush P A = CanPass P A HasActors (λ shape. (λ w n. AboutToAnswer Flush w) ∷ [])
+
+-- somebody is there, and another one
+abbrev pub AreTwo : Shape → Type 0
+AreTwo shape = 2 ≤ shape.actors
+
+-- the second actor has to wait with its flush, so many commits have ended, and the first is at a flush, whose commit runs
+abbrev pub IsWaitedBeside : {P A : Type 0} → ℕ → State P A → Type 0
+IsWaitedBeside count w = FirstIsAt Flush w × WaitsForCommit w 1 × HaveEnded count w
+
+abbrev pub AreDoneTogether : {P A : Type 0} → State P A → Type 0
+AreDoneTogether w = AboutToAnswer Flush w × SecondFlushes (Covered 2) (End Finished) w × HaveEnded 2 w
+
+-- Three flushes by two commits. While the first actor leads one, the second comes with a flush, gets a ticket of the commit after that, and has to
+-- wait; so it has still where the first one leads that commit, too; and once this has ended, the second is given a receipt of it, and is about to be
+-- answered done.
+abbrev pub to_share : {P A : Type 0} → List (State P A → Notes → Type 0)
+to_share = (λ w n. IsWaitedBeside 0 w × OnTask w 1 (λ x at s. x.share ≡ Waiting 2)) ∷ (λ w n. IsWaitedBeside 1 w) ∷ (λ w n. AreDoneTogether w) ∷ []
+
+abbrev pub CanShare : (P A : Type 0) → Type 0
+CanShare P A = CanPass P A AreTwo (λ shape. to_share)
 
 -- After an opening a write comes to its answer; a read of it, which is given what was written, and that is the latest; a flush, by which it
 -- becomes durable; a write of something else fails; power is lost; and a second opening shows the first write.

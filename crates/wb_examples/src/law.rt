@@ -1,7 +1,7 @@
 //! Runs that there are, and answers that the promise refuses.
 
-ghost use Rattle.wb_examples.specs.Excluded.{ExcludesWrongAnswers, ExcludesWrongSuspends};
-ghost use Rattle.wb_examples.specs.Possible.{CanDemote, CanFlush, CanGiveUp, CanOpen, CanPassThrough, CanPromote, CanReplace, CanStartAgain, CanStayClean, CanSurvive, CanSuspend, CanWriteBack, CanWriteHalf, CanWriteThrough};
+ghost use Rattle.wb_examples.specs.Excluded.{ExcludesWrongAnswers, ExcludesWrongSharing, ExcludesWrongSuspends};
+ghost use Rattle.wb_examples.specs.Possible.{CanDemote, CanFlush, CanGiveUp, CanOpen, CanPassThrough, CanPromote, CanReplace, CanShare, CanStartAgain, CanStayClean, CanSurvive, CanSuspend, CanWriteBack, CanWriteHalf, CanWriteThrough};
 
 /// From any formatted metadata there is a run, over any policy, in which an opening is answered done and its target stands.
 pub fn a_target_can_be_opened<P, A>()
@@ -11,6 +11,12 @@ pub fn a_target_can_be_opened<P, A>()
 /// And one in which a flush over that target comes to its answer, which is done, its root written.
 pub fn a_flush_can_be_done<P, A>()
     ensures { CanFlush P A }
+{}
+
+/// And where there are two actors one in which a flush that waits for the commit of another is served by the next commit, which that one leads
+/// too: three flushes by two commits.
+pub fn a_commit_can_be_shared<P, A>()
+    ensures { CanShare P A }
 {}
 
 /// And over the smallest origin one that passes through a write that is answered done, a read that is given it, a flush that makes it
@@ -92,4 +98,10 @@ pub fn promises_exclude_wrong_answers<P, A>()
 /// no flush's is, and its answer raises the floor.
 pub fn promises_exclude_wrong_suspends<P, A>()
     ensures { ExcludesWrongSuspends P A }
+{}
+
+/// And of flushes that share commits: none is served by a commit that began before it came, or has not ended, nor without a ticket, nor twice; after
+/// one that broke none begins a commit, and none waits; and one that waits is skipped, and goes on by nothing.
+pub fn promises_exclude_wrong_sharing<P, A>()
+    ensures { ExcludesWrongSharing P A }
 {}
