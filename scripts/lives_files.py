@@ -1,14 +1,14 @@
 """Lives of programs over real files, each ended by a kill at a random moment, one after the other over the same files.
 
-    lives_files.py WBCACHE WBNBD [LIVES [SEED [PROCESSES]]]
+    lives_files.py WBCACHE WBNBD [KILLS [SEED [PROCESSES]]]
 
 So many lives of `wbcache run` (with clients beside the first, writes, durable writes, flushes, ticks and orders) and as many of `wbnbd` (with up to
-twelve requests in flight), in sequences of 25, each over files of its own, in any mode. Each life begins with a read of every sector that is used.
-What a flush covered that was answered has to be there, or a write to the same sector that was sent later. A killed process loses nothing that the
-system's cache of files has: so where the mapping did not change since the last flush, each write that was answered has to be there, flushed or not.
-(Where a block came into the cache or left it since, the next opening goes by the mapping before, and finds what stood there.) Reads show the last
-write, and no sector is torn. A suspend at the end of some lives leaves the cache clean for passthrough. It prints what failed, what was tried, and
-at the end 'N passed, N failed': a check for each sequence.
+twelve requests in flight) are ended by a kill, in sequences of 25 over files of their own, in any mode; a few lives between them end well, by a
+suspend or as a client leaves. Each life begins with a read of every sector that is used. What a flush covered that was answered has to be there, or
+a write to the same sector that was sent later. A killed process loses nothing that the system's cache of files has: so where the mapping did not
+change since the last flush, each write that was answered has to be there, flushed or not. (Where a block came into the cache or left it since, the
+next opening goes by the mapping before, and finds what stood there.) Reads show the last write, and no sector is torn. A suspend leaves the cache
+clean for passthrough, which is refused else. It prints what failed, what was tried, and at the end 'N passed, N failed': a check for each sequence.
 """
 import collections
 import multiprocessing
@@ -25,7 +25,7 @@ import weather_base as weather
 from weather_base import MODES, PROGRAMS, Wrong, need
 from weather_server import END, FLUSH, HELLO, READ, WRITE, request
 
-LIVES, BATCH = 50, 25
+KILLS, BATCH = 50, 25
 SECTORS = [64 * block + at for block in range(10) for at in (0, 1, 2, 63)]
 
 
@@ -381,7 +381,7 @@ def life_of_server(dice, book, counts):
 
 def sequence(work):
     """Lives one after the other over the same files: what they met, and what went wrong."""
-    (cache, server), kind, number, lives = work
+    (cache, server), kind, number, kills = work
     PROGRAMS.cache, PROGRAMS.server = cache, server
     dice, counts = random.Random(f"{kind} {number}"), collections.Counter()
     book, life = Book(counts), 0
@@ -392,11 +392,12 @@ def sequence(work):
                 with open(name, "wb") as file:
                     file.truncate(size)
             need(weather.run(cache, ["format", weather.table("writeback")])[:2] == (0, "formatted 4 10\n"), "formatting")
-            for life in range(lives):
+            while counts["kill"] < kills:
+                life += 1
                 (life_of_run if kind == "wbcache run" else life_of_server)(dice, book, counts)
             program = Program([cache, "run", weather.table("writeback")])
             need(find(program, book) is None and program.end() == 0, "the last run")
-            counts["program"] += lives
+            counts["program"] += life
             return kind, counts, None
         except (Wrong, Gone) as wrong:
             return kind, counts, f"{kind}, sequence {number}, life {life}: {wrong}"
@@ -406,9 +407,9 @@ def sequence(work):
 
 def main():
     programs = tuple(map(os.path.abspath, sys.argv[1:3]))
-    lives, seed, processes = (int(word) for word in (sys.argv[3:] + [LIVES, 1, 0][len(sys.argv) - 3:])[:3])
-    works = [(programs, kind, number, min(BATCH, lives - at)) for kind in ("wbcache run", "wbnbd")
-             for number, at in enumerate(range(0, lives, BATCH), seed)]
+    kills, seed, processes = (int(word) for word in (sys.argv[3:] + [KILLS, 1, 0][len(sys.argv) - 3:])[:3])
+    works = [(programs, kind, number, min(BATCH, kills - at)) for kind in ("wbcache run", "wbnbd")
+             for number, at in enumerate(range(0, kills, BATCH), seed)]
     counts, failed = {"wbcache run": collections.Counter(), "wbnbd": collections.Counter()}, 0
     with multiprocessing.get_context("fork").Pool(processes or None) as pool:
         for kind, more, wrong in pool.imap_unordered(sequence, works, 1):
