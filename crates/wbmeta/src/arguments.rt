@@ -1,0 +1,74 @@
+//! The arguments of the program.
+
+use clap::{Arg, ArgAction, Command, Error};
+use std::alloc::Global;
+
+/// The program's version, and the proof logic that it is proved with, as `rt version` names it behind the kit.
+const VERSION: &str = "0.1.0, proved with rattle logic dac8208d650f15bf";
+
+const ABOUT: &str =
+    "Reads the metadata of a write-back cache over three files, and writes nothing.";
+
+const TEXTS: &str = "\
+TABLE is one argument, words parted by spaces, as 'wbcache format' takes it:
+  cache <metadata> <cache> <origin> <block size> 0 tinylfu 0
+check prints 'ok <generation> <clean|unclean> <mapped> <dirty>', as an opening
+of the table would count it: what was not left clean is dirty. Or it prints
+the refusal that an opening would meet, as 'refused 11 Damaged 3', with the
+sector that is damaged.
+dump prints a line for each mapped block: '<cache block> <origin block>
+<clean|dirty> <hint>', and to a terminal how many blocks have each hint.
+All three files are locked meanwhile; what another program holds is refused.
+Status: 0 it can be opened, 1 it was refused, 2 the arguments, 3 a device
+failed or a file is held, 4 the output failed.";
+
+/// What the program is asked to do.
+#[derive(Clone, Copy)]
+pub enum Asked<'a> {
+    /// To tell whether the metadata over the files of a table can be opened.
+    Check(&'a str),
+    /// To list what they map.
+    Dump(&'a str),
+}
+
+/// Reads the words of the command line, the program's name first; none where they ask for nothing. The error's kind is `DisplayHelp` or
+/// `DisplayVersion` where that is asked for.
+pub fn read_arguments<'a>(alloc: Global, words: &'a [String]) -> Result<Option<Asked<'a>>, Error> {
+    let matches = command(alloc)?.try_get_matches_from(words)?;
+    Ok(match matches.subcommand() {
+        Some(("check", given)) => given.get_str("TABLE").map(|table| Asked::Check(table)),
+        Some(("dump", given)) => given.get_str("TABLE").map(|table| Asked::Dump(table)),
+        _ => None,
+    })
+}
+
+fn command<'a>(alloc: Global) -> Result<Command<'a>, Error> {
+    Ok(
+        Command::new(alloc, "wbmeta")
+            .about(ABOUT)
+            .version(VERSION)
+            .after_help(TEXTS)
+            .disable_help_subcommand(true)
+            .subcommand_required(true)
+            .subcommand(with_table(
+                alloc,
+                "check",
+                "Tell whether the cache can be opened, and how it stands",
+            )?)?
+            .subcommand(with_table(alloc, "dump", "List the blocks that are cached")?)?,
+    )
+}
+
+/// A subcommand that takes a table.
+fn with_table<'a>(alloc: Global, name: &'a str, about: &'a str) -> Result<Command<'a>, Error> {
+    let table = Arg::new(alloc, "TABLE")
+        .help("The three files and the size of a block, as below")
+        .required(true)
+        .action(ArgAction::Set);
+    Ok(
+        Command::new(alloc, name)
+            .about(about)
+            .after_help(TEXTS)
+            .arg(table)?,
+    )
+}
