@@ -89,7 +89,7 @@ class Program:
         if dice and dice.randrange(3) == 0:
             seconds = dice.choice((0.03, 0.2, 0.6)) * dice.random()
         elif dice:
-            self.answers, self.soon = dice.randrange(600), dice.choice((0, 0.001, 0.01)) * dice.random()
+            self.answers, self.soon = dice.randrange(1, 600), dice.choice((0, 0.001, 0.01)) * dice.random()
         self.ends_at, self.was_killed, self.data = time.monotonic() + seconds, False, b""
 
     def send(self, data):
