@@ -3,7 +3,7 @@
     lives_files.py WBCACHE WBNBD [KILLS [SEED [PROCESSES]]]
 
 So many lives of `wbcache run` (with clients beside the first, writes, durable writes, flushes, ticks and orders) and as many of `wbnbd` (with up to
-twelve requests in flight) are ended by a kill, in sequences of 25 over files of their own, in any mode; a few lives between them end well, by a
+twelve requests in flight) are ended by a kill, in sequences of 25 over files of their own, in any mode; some lives between them end well, by a
 suspend or as a client leaves. Each life begins with a read of every sector that is used. What a flush covered that was answered has to be there, or
 a write to the same sector that was sent later. A killed process loses nothing that the system's cache of files has: so where the mapping did not
 change since the last flush, each write that was answered has to be there, flushed or not. (Where a block came into the cache or left it since, the
