@@ -3,12 +3,13 @@
     lives_files.py WBCACHE WBNBD [KILLS [SEED [PROCESSES]]]
 
 So many lives of `wbcache run` (with clients beside the first, writes, durable writes, flushes, ticks and orders) and as many of `wbnbd` (with up to
-twelve requests in flight) are ended by a kill, in sequences of 25 over files of their own, in any mode; a few lives between them end well, by a
+twelve requests in flight) are ended by a kill, in sequences of 25 over files of their own, in any mode; some lives between them end well, by a
 suspend or as a client leaves. Each life begins with a read of every sector that is used. What a flush covered that was answered has to be there, or
 a write to the same sector that was sent later. A killed process loses nothing that the system's cache of files has: so where the mapping did not
 change since the last flush, each write that was answered has to be there, flushed or not. (Where a block came into the cache or left it since, the
 next opening goes by the mapping before, and finds what stood there.) Reads show the last write, and no sector is torn. A suspend leaves the cache
-clean for passthrough, which is refused else. It prints what failed, what was tried, and at the end 'N passed, N failed': a check for each sequence.
+clean for passthrough, which is refused else. With - in place of WBNBD the first half alone is tried. It prints what failed, what was tried, and at
+the end 'N passed, N failed': a check for each sequence.
 """
 import collections
 import multiprocessing
@@ -89,7 +90,7 @@ class Program:
         if dice and dice.randrange(3) == 0:
             seconds = dice.choice((0.03, 0.2, 0.6)) * dice.random()
         elif dice:
-            self.answers, self.soon = dice.randrange(600), dice.choice((0, 0.001, 0.01)) * dice.random()
+            self.answers, self.soon = dice.randrange(1, 600), dice.choice((0, 0.001, 0.01)) * dice.random()
         self.ends_at, self.was_killed, self.data = time.monotonic() + seconds, False, b""
 
     def send(self, data):
@@ -408,9 +409,10 @@ def sequence(work):
 def main():
     programs = tuple(map(os.path.abspath, sys.argv[1:3]))
     kills, seed, processes = (int(word) for word in (sys.argv[3:] + [KILLS, 1, 0][len(sys.argv) - 3:])[:3])
-    works = [(programs, kind, number, min(BATCH, kills - at)) for kind in ("wbcache run", "wbnbd")
+    kinds = ("wbcache run", "wbnbd")[:1 if sys.argv[2] == "-" else 2]
+    works = [(programs, kind, number, min(BATCH, kills - at)) for kind in kinds
              for number, at in enumerate(range(0, kills, BATCH), seed)]
-    counts, failed = {"wbcache run": collections.Counter(), "wbnbd": collections.Counter()}, 0
+    counts, failed = {kind: collections.Counter() for kind in kinds}, 0
     with multiprocessing.get_context("fork").Pool(processes or None) as pool:
         for kind, more, wrong in pool.imap_unordered(sequence, works, 1):
             counts[kind] += more

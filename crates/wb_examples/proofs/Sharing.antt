@@ -1,5 +1,5 @@
 -- A run in which a flush that waits is served by a commit that another actor leads.
-use Rattle.std.proofs.Common.{◌≡◌, ◌≢◌, ◌≤◌, ◌<◌, ◌+◌, ◌++◌, ◌^◌, ◌⊎◌, inl, inr, ℕ, zero, suc, true, false, List, [], ◌∷◌, Option, Some, None, Global, refl, ap, subst, arith, length, replicate, slice_get}
+use Rattle.std.proofs.Common.{◌≡◌, ◌≢◌, ◌≤◌, ◌<◌, ◌+◌, ◌++◌, ◌^◌, inl, inr, ℕ, zero, suc, true, false, List, [], ◌∷◌, Option, Some, None, Global, refl, ap, subst, arith, length, replicate, slice_get}
 use Rattle.std.specs.Prelude.{drop}
 use Rattle.wb_types.specs.declared.mode.Mode.TheVariants.{Writeback}
 use Rattle.wb_types.specs.declared.geometry.Geometry.{Geometry}
@@ -33,8 +33,8 @@ use Rattle.wb_runs.proofs.Rooted.{rooted}
 use Rattle.wb_runs.proofs.MetadataRuns.{IsKnown, known_always}
 use Rattle.wb_examples.proofs.Bare.{BareDesk}
 use Rattle.wb_examples.proofs.Beginning.{bare_commit}
-use Rattle.wb_examples.proofs.Playing.{Move, Gets, Goes, AreIdle, goes, goes_on, happened, has_any, is_idle, there, then, ends, played, replicated_idle, resting_idle, MayGo, ◌⨟◌}
-use Rattle.wb_examples.proofs.Opening.{write_back_starts, Down, down, opening, opening_may, opened, opened_is, known, bare, target, Idle, idle, leading, committing, at_desk, led, leading_may, committing_may}
+use Rattle.wb_examples.proofs.Playing.{Move, Gets, Goes, AreIdle, goes, goes_on, happened, has_any, is_idle, there, then, ends, played, resting_idle, MayGo, ◌⨟◌}
+use Rattle.wb_examples.proofs.Opening.{write_back_starts, Down, down, opening, opening_may, opened, opened_is, known, bare, target, Idle, idle, leading, committing, led, leading_may, committing_may}
 use Rattle.wb_examples.proofs.Runs.{along, stretched, can_pass, first_down}
 
 -- ---- a flush may start where another is at work
@@ -145,8 +145,8 @@ module _ (P A : Type 0) (i : Idle P) (others : List Actor) where
     comes_may : IsRun shape (led P A (beside resting)) comes
     comes_may =
         (refl, may_flush (led P A (beside resting)) _ _ others 1 free refl tt (λ e. cc) tt refl, tt)
-        ⨟ (refl, (refl, refl), refl)
-        ⨟ (refl, refl, (whole, refl))
+        ⨟ (refl, ((refl, refl), refl))
+        ⨟ (refl, (refl, (whole, refl)))
         ⨟ tt
 
     commits_may : MayGo global shape (led P A (beside waiting)) (committing P A (beside waiting) (Goes ∷ []))
@@ -171,11 +171,11 @@ module _ (P A : Type 0) (i : Idle P) (others : List Actor) where
       ends_may : MayGo global shape (led P A next) (committing P A next [])
       ends_may = committing_may P A next bare_then may_then whole
 
-      served_may : IsRun shape last is_served
-      served_may = ((refl, refl, omega arith), tt)
+    served_may : IsRun shape last is_served
+    served_may = ((refl, (refl, omega arith)), tt)
 
     pub shares : desk.ended ≡ 0 → IsKnown P A shape (idle P A (beside resting)) → (n : Notes) → PassesThrough shape (idle P A (beside resting)) n to_share
-    shares none_ended known n =
+    shares none_ended known0 n =
         let w0 : State P A = idle P A (beside resting) in
         let w1 : State P A = led P A (beside resting) in
         let w2 : State P A = led P A (beside waiting) in
@@ -189,7 +189,7 @@ module _ (P A : Type 0) (i : Idle P) (others : List Actor) where
         let n3 : Notes = noted shape w2 n2 to3 in
         let n4 : Notes = noted shape w3 n3 again in
         let n5 : Notes = noted shape w4 n4 to5 in
-        let known1 = known_always P A shape w0 to1 known (goes_on global shape w0 (flushes (beside resting)) flushes_may) in
+        let known1 = known_always P A shape w0 to1 known0 (goes_on global shape w0 (flushes (beside resting)) flushes_may) in
         let known2 = known_always P A shape w1 comes known1 comes_may in
         let known3 = known_then known2 in
         along shape w0 w1 n to1 to_share refl (goes_on global shape w0 (flushes (beside resting)) flushes_may) (
@@ -206,10 +206,10 @@ pub can_share : (P A : Type 0) → CanShare P A
 can_share P A = can_pass P A AreTwo (λ shape. to_share) (λ shape two. omega (arith, two)) (λ policy alloc global geometry threshold others metadata two f size. by_others policy alloc global geometry threshold others metadata two f size)
   where
     by_others : (policy : P) (alloc : A) (global : Global) (geometry : Geometry) (threshold others : ℕ) (metadata : List History) → 2 ≤ suc others → IsFormatted geometry metadata → length metadata ≡ geometry.meta_sectors →
-        let shape : Shape = record { geometry = geometry; threshold = threshold; actors = suc others } in PassesThrough shape (start shape metadata) (formatted shape) to_share
+        let shape : Shape = record { geometry = geometry; threshold = threshold; actors = suc others } in PassesThrough {P = P} {A = A} shape (start shape metadata) (formatted shape) to_share
     by_others policy alloc global geometry threshold zero metadata two f size = absurd (omega (arith, two))
     by_others policy alloc global geometry threshold (suc more) metadata two f size =
         let d : Down P A = first_down P A Writeback write_back_starts policy alloc global geometry threshold (suc more) metadata f size in
         let i : Idle P = record { global = global; shape = d.shape; words = fresh_words geometry.origin_blocks; desk = (target P A d).desk; devices = (opened P A d).devices; actor = resting; rest = [] } in
         along d.shape (down P A d) (opened P A d) (formatted d.shape) (played global d.shape (down P A d) (opening P A d)) to_share (opened_is P A d) (goes_on global d.shape (down P A d) (opening P A d) (opening_may P A d))
-        (shares P A i (all_resting (replicate more resting)) (resting_idle (replicate more resting)) refl refl (omega (arith, f.first.generation)) (bare P A d) refl (known P A d) _)
+        (shares P A i (all_resting (replicate more resting)) (resting_idle (replicate more resting)) refl refl (omega (arith, f.first.generation)) (bare P A d) refl (known P A d) (noted d.shape (down P A d) (formatted d.shape) (played global d.shape (down P A d) (opening P A d))))
