@@ -1,7 +1,7 @@
 #!/bin/sh
 # Proves a program of this repository with all crates that it stands on, crates side by side, builds it, and leaves it at bin/NAME.
 #
-#     sh scripts/build.sh [wbcache|wbnbd|wb_bench]
+#     sh scripts/build.sh [wbcache|wbnbd|wbmeta|wb_bench]
 #
 # wbcache where none is named. A program that was built from these very sources by this very kit is left as it is, and of its crates
 # only those are proved that changed, or that stand on one that did. Where the proof or the build fails, the crate is named after the last
@@ -23,8 +23,8 @@ trial_of() {
   esac
 }
 case $program in
-  wbcache | wbnbd | wb_bench) ;;
-  *) fail "no program is named $program: wbcache, wbnbd or wb_bench" ;;
+  wbcache | wbnbd | wbmeta | wb_bench) ;;
+  *) fail "no program is named $program: wbcache, wbnbd, wbmeta or wb_bench" ;;
 esac
 test -n "$(lines_of "$program")" || fail "crates.txt has no line for $program"
 look_at_machine 3000 5000

@@ -3,20 +3,22 @@
 # closed descriptors, files that another program holds, a limit of the file size, help and version. It prints what
 # failed, and at the end 'N passed, N failed'; its status is 0 where nothing failed.
 #
-#     sh scripts/check-program.sh [WBCACHE WB_BENCH WBNBD]
+#     sh scripts/check-program.sh [WBCACHE WB_BENCH WBNBD WBMETA]
 #
 # tries these programs, as the gate built them, or else those that scripts/build.sh leaves.
 set -u
 top=$(cd "$(dirname "$0")/.." && pwd)
 whole() { echo "$(cd "$(dirname "$1")" && pwd)/$(basename "$1")"; }
-if test $# = 3; then
+if test $# = 4; then
   cache=$(whole "$1")
   bench=$(whole "$2")
   server=$(whole "$3")
+  meta=$(whole "$4")
 else
   cache=$top/bin/wbcache
   bench=$top/bin/wb_bench
   server=$top/bin/wbnbd
+  meta=$top/bin/wbmeta
 fi
 . "$top/scripts/checks.sh"
 work=$(mktemp -d)
@@ -25,8 +27,8 @@ trap 'rm -rf "$work"' EXIT
 call "$top/scripts/check-build.sh"
 
 # --- The programs.
-if test $# != 3; then
-  for program in wbcache wb_bench wbnbd; do
+if test $# != 4; then
+  for program in wbcache wb_bench wbnbd wbmeta; do
     if ! sh "$top/scripts/build.sh" "$program"; then
       echo "failed: $program cannot be built"
       failed=$((failed + 1))
@@ -129,14 +131,26 @@ changed() { # a change of the metadata file: it is made
     size) truncate -s "$2" m.img ;;
   esac
 }
+told_of_metadata() { # what a run over the same files printed, and its exit status, once it has written the next root: what wbmeta says of them
+  case $1 in
+    refused*) echo "$1 $2" ;;
+    *) echo "$1" | awk -v next="$(newest_generation)" '{ split($4, mapped, "/"); print "ok", next - 1, "unclean", mapped[1], $11, 0 }' ;;
+  esac
+}
+newest_generation() { # the greater generation of the two slots
+  for at in 8 520; do tail -c +$((at + 1)) m.img | head -c 8 | od -An -tu8; done | sort -n | tail -n 1
+}
 rows foreign.txt >rows.txt
 while IFS='|' read -r changes printed status reason <&4; do
   for file in m c o; do cp $file.kept $file.img; done
   printf '%s\n' "$changes" | tr ',' '\n' >changes.txt
   while read -r one two three; do changed "$one" "$two" "$three"; done <changes.txt
   before=$(sums)
+  told=$("$meta" check "$table" 2>/dev/null)
+  told="$told $? $(sums)"
   echo status | "$cache" -v run "$table" >out.txt 2>reason.txt
   check "metadata after $changes" "$? $(cat out.txt) $(grep -v '^wbcache: opened' reason.txt)" "$status $printed ${reason:+wbcache: $reason}"
+  check "what wbmeta tells of metadata after $changes" "$told" "$(told_of_metadata "$printed" "$status") $before"
   if test "$status" != 0; then check "files after $changes" "$(sums)" "$before"; fi
 done 4<rows.txt
 

@@ -1,6 +1,23 @@
--- What an opening counts of the entries that it finds.
+-- What an opening finds and counts.
 use Rattle.std.specs.Prelude.{◌≡◌, ℕ, Bool, true, false, List, Option, Some, None, is_some, count_by}
 use Rattle.wb_types.specs.declared.entry.Entry.{Entry}
+use Rattle.wb_types.specs.declared.number.Place.{Place}
+use Rattle.wb_types.specs.declared.geometry.Geometry.{Geometry}
+use Rattle.wb_disk.specs.Device.{Content}
+use Rattle.wb_format.specs.declared.root.Root.{Root}
+use Rattle.wb_tree.specs.Mapping.{Mapping}
+use Rattle.wb_meta.specs.States.{RepresentsState}
+
+-- sectors with these contents represent a root of these sizes, of this generation and clean flag, and a tree with these entries
+pub record IsFound (sectors : List Content) (geometry : Geometry) (generation : ℕ) (clean : Bool) (entries : List (Option Entry)) : Type 0 where
+  pub root : Root
+  pub tree : Mapping
+  pub used : List Place
+  pub represents : RepresentsState sectors root tree used
+  pub geometry_is : root.geometry ≡ geometry
+  pub generation_is : root.generation ≡ generation
+  pub clean_is : root.clean ≡ clean
+  pub entries_are : tree.entries ≡ entries
 
 -- a mapped block counts as dirty where its entry says so, and without the clean flag in any case
 abbrev pub counts_as_dirty : (clean : Bool) → Option Entry → Bool

@@ -1,24 +1,30 @@
 //! What an opening would find.
 
-ghost use Rattle.std.specs.Prelude.{◌≡◌, length, map, is_some, count_by, IfOk, IfErr};
+ghost use Rattle.std.specs.Prelude.{◌≡◌, ◌<◌, ◌^◌, length, map, is_some, count_by, IfOk, IfErr};
 ghost use Rattle.wb_disk.specs.Device.{newest};
-ghost use Rattle.wb_meta.specs.States.{RepresentsState};
-ghost use Rattle.wb_meta.specs.Reads.{FitsDevice};
-ghost use Rattle.wbmeta.specs.Counted.{AreCounted, counts_as_dirty};
+ghost use Rattle.wbmeta.specs.Counted.{AreCounted, IsFound, counts_as_dirty};
 
-use std::alloc::Global;
+use std::alloc::{AllocError, Global};
 use wb_disk::Disk;
-use wb_meta::{ReadSteps, State, read_state};
+use wb_meta::{ReadSteps, read_state};
 use wb_tree::Tree;
 use wb_types::{CBlock, Entry, Geometry, Mode, Refusal};
+
+/// What a metadata device stands for: its newest root's generation and clean flag, and the entry of each cache block.
+#[derive(Drop)]
+pub struct Found {
+    pub generation: u64,
+    pub clean: bool,
+    pub entries: Vec<Option<Entry>>,
+}
 
 /// What an opening counts: without the clean flag each mapped block is dirty (the kernel's device-mapper/cache.rst).
 #[derive(Clone, Copy)]
 pub struct Counted {
     pub generation: u64,
     pub clean: bool,
-    pub mapped: u32,
-    pub dirty: u32,
+    pub mapped: u64,
+    pub dirty: u64,
 }
 
 /// Reads what a metadata device of these sizes stands for, and writes nothing.
@@ -29,11 +35,9 @@ pub fn read_metadata<D: Disk>(
     alloc: Global,
     geometry: &Geometry,
     disk: &mut D,
-) -> Result<State<Global>, Refusal>
+) -> Result<Found, Refusal>
     ensures same { D.tells → D.contents disk.new ≡ D.contents disk.old }
-    ensures geometry { IfOk result (λ state. state.root.geometry ≡ geometry.now) }
-    ensures fits { IfOk result (λ state. FitsDevice (D.size disk.old) state.root state.tree state.used.items) }
-    ensures read { D.tells → IfOk result (λ state. RepresentsState (map newest (D.contents disk.old)) state.root state.tree state.used.items) }
+    ensures found { D.tells → IfOk result (λ found. IsFound (map newest (D.contents disk.old)) geometry.now found.generation found.clean found.entries.items) }
 {
     let known = known_geometry(alloc, disk)?;
     if known.is_some_and(|known| known != *geometry) {
@@ -43,7 +47,12 @@ pub fn read_metadata<D: Disk>(
     if state.root.geometry != *geometry {
         return Err(Refusal::Mismatch);
     }
-    Ok(state)
+    let entries = entries_of(alloc, &state.tree, geometry.cache_blocks)?;
+    Ok(Found {
+        generation: state.root.generation,
+        clean: state.root.clean,
+        entries,
+    })
 }
 
 /// The sizes that the newest root tells, once both slots were read.
@@ -56,17 +65,32 @@ fn known_geometry<D: Disk>(alloc: Global, disk: &mut D) -> Result<Option<Geometr
     Ok(both.root().map(|root| root.geometry))
 }
 
-/// What an opening in this mode counts of what was read. In passthrough `NotClean` where it was not left clean or a block is dirty; `GenerationEnd`
-/// where there is no next generation.
-pub fn count(state: &State<Global>, mode: Mode) -> Result<Counted, Refusal>
-    requires { length state.now.tree.entries ≡ state.now.root.geometry.cache_blocks }
-    ensures counted { IfOk result (λ counted. AreCounted state.now.root.clean state.now.tree.entries counted.mapped counted.dirty) }
-    ensures generation { IfOk result (λ counted. counted.generation ≡ state.now.root.generation) }
-    ensures clean { IfOk result (λ counted. counted.clean ≡ state.now.root.clean) }
+/// The entry of each cache block.
+fn entries_of(
+    alloc: Global,
+    tree: &Tree<Global>,
+    cache_blocks: u32,
+) -> Result<Vec<Option<Entry>>, AllocError>
+    requires { length tree.now.entries ≡ cache_blocks }
+    ensures { IfOk result (λ entries. entries.items ≡ tree.now.entries) }
 {
-    let (clean, generation) = (state.root.clean, state.root.generation);
-    let mapped = count_mapped(&state.tree, state.root.geometry.cache_blocks);
-    let dirty = count_dirty(&state.tree, state.root.geometry.cache_blocks, clean);
+    let mut entries = vec![in alloc; None; cache_blocks as usize]?;
+    for c in 0..cache_blocks {
+        entries[c as usize] = tree.get(CBlock(c));
+    }
+    Ok(entries)
+}
+
+/// What an opening in this mode counts. In passthrough `NotClean` where it was not left clean or a block is dirty; `GenerationEnd` where there is
+/// no next generation.
+pub fn count(found: &Found, mode: Mode) -> Result<Counted, Refusal>
+    ensures counted { IfOk result (λ counted. AreCounted found.now.clean found.now.entries.items counted.mapped counted.dirty) }
+    ensures generation { IfOk result (λ counted. counted.generation ≡ found.now.generation) }
+    ensures clean { IfOk result (λ counted. counted.clean ≡ found.now.clean) }
+{
+    let (clean, generation) = (found.clean, found.generation);
+    let mapped = count_mapped(found.entries.as_slice());
+    let dirty = count_dirty(clean, found.entries.as_slice());
     if mode == Mode::Passthrough && (!clean || dirty > 0) {
         return Err(Refusal::NotClean);
     }
@@ -81,30 +105,19 @@ pub fn count(state: &State<Global>, mode: Mode) -> Result<Counted, Refusal>
     })
 }
 
-fn count_mapped(tree: &Tree<Global>, cache_blocks: u32) -> u32
-    requires { length tree.now.entries ≡ cache_blocks }
-    ensures { result ≡ count_by is_some tree.now.entries }
+fn count_mapped(entries: &[Option<Entry>]) -> u64
+    ensures { result ≡ count_by is_some entries.now }
 {
-    let mut mapped = 0;
-    for c in 0..cache_blocks {
-        if tree.get(CBlock(c)).is_some() {
-            mapped += 1;
-        }
-    }
-    mapped
+    entries.iter().filter(|entry| entry.is_some()).count() as u64
 }
 
-fn count_dirty(tree: &Tree<Global>, cache_blocks: u32, clean: bool) -> u32
-    requires { length tree.now.entries ≡ cache_blocks }
-    ensures { result ≡ count_by (counts_as_dirty clean) tree.now.entries }
+fn count_dirty(clean: bool, entries: &[Option<Entry>]) -> u64
+    ensures { result ≡ count_by (counts_as_dirty clean) entries.now }
 {
-    let mut dirty = 0;
-    for c in 0..cache_blocks {
-        if is_dirty(clean, tree.get(CBlock(c))) {
-            dirty += 1;
-        }
-    }
-    dirty
+    entries
+        .iter()
+        .filter(|entry| is_dirty(clean, **entry))
+        .count() as u64
 }
 
 /// Whether an entry counts as dirty.

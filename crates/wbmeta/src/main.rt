@@ -6,7 +6,7 @@ mod found;
 mod telling;
 
 use crate::arguments::{Asked, read_arguments};
-use crate::found::{Counted, count, read_metadata};
+use crate::found::{Counted, Found, count, read_metadata};
 use crate::telling::{MOST_HELD, Untold, dump, summarize, tell};
 use clap::Error;
 use clap::error::ErrorKind;
@@ -16,7 +16,6 @@ use std::process::ExitCode;
 use std::{env, io};
 use wb_disk::Disk;
 use wb_files::{Alarm, Hurry, hold_streams, open_table};
-use wb_meta::State;
 use wb_types::{Geometry, Mode, Refusal};
 
 /// What is asked of who calls the program otherwise.
@@ -103,30 +102,30 @@ struct Reading {
 impl Reading {
     /// Tells of a metadata device: the exit status.
     fn answer<D: Disk, W: Write>(&self, metadata: &mut D, writer: &mut W) -> Result<u8, Untold> {
-        let state = match read_metadata(self.alloc, &self.geometry, metadata) {
-            Ok(state) => state,
+        let found = match read_metadata(self.alloc, &self.geometry, metadata) {
+            Ok(found) => found,
             Err(refusal) => return refuse(self.alloc, refusal, writer),
         };
-        let counted = match count(&state, self.mode) {
+        let counted = match count(&found, self.mode) {
             Ok(counted) => counted,
             Err(refusal) => return refuse(self.alloc, refusal, writer),
         };
-        self.tell_of(&state, counted, writer)?;
+        self.tell_of(&found, counted, writer)?;
         Ok(0)
     }
 
     fn tell_of<W: Write>(
         &self,
-        state: &State<Global>,
+        found: &Found,
         counted: Counted,
         writer: &mut W,
     ) -> Result<(), Untold> {
         if !self.lists {
             return tell(self.alloc, Ok(counted), writer);
         }
-        dump(self.alloc, state, writer)?;
+        dump(self.alloc, found, writer)?;
         if self.is_read {
-            summarize(self.alloc, state, writer)?;
+            summarize(self.alloc, found, writer)?;
             tell(self.alloc, Ok(counted), writer)?;
         }
         Ok(())

@@ -1,15 +1,14 @@
 //! What is printed of metadata.
 
-use crate::found::{Counted, is_dirty};
+use crate::found::{Counted, Found, is_dirty};
 use std::alloc::{AllocError, Global};
 use std::fmt;
 use std::fmt::{Display, Formatter, Write as _};
 use std::io::Write;
-use wb_meta::State;
-use wb_types::{CBlock, Entry, OBlock, Refusal};
+use wb_types::{Entry, OBlock, Refusal};
 
 /// The greatest hint.
-const MOST: usize = 16;
+const MOST: u8 = 16;
 
 /// Lines are held up to so many bytes before they are written: 64 KiB.
 pub const MOST_HELD: usize = 65_536;
@@ -43,39 +42,36 @@ pub fn tell<W: Write>(
     writer: &mut W,
 ) -> Result<(), Untold> {
     let mut text = String::new(alloc);
-    let told = match counted {
-        Ok(counted) => writeln!(text, "{counted}"),
-        Err(refusal) => writeln!(text, "refused {refusal}"),
-    };
-    if told.is_err() {
-        return Err(Untold::Memory);
+    match counted {
+        Ok(counted) => writeln!(text, "{counted}")?,
+        Err(refusal) => writeln!(text, "refused {refusal}")?,
     }
     send(&text, writer)
 }
 
 /// Writes a line for each mapped block, `<cache block> <origin block> <clean|dirty> <hint>`, as an opening takes it: without the clean flag dirty,
 /// and without a hint.
-pub fn dump<W: Write>(alloc: Global, state: &State<Global>, writer: &mut W) -> Result<(), Untold> {
+pub fn dump<W: Write>(alloc: Global, found: &Found, writer: &mut W) -> Result<(), Untold> {
     let mut text = String::with_capacity(alloc, 64)?;
-    let clean = state.root.clean;
-    for c in 0..state.root.geometry.cache_blocks {
-        let Some(entry) = state.tree.get(CBlock(c)) else {
-            continue;
-        };
-        text.clear();
-        let OBlock(b) = entry.origin;
-        let hint = hint_of(clean, &entry);
-        let word = if is_dirty(clean, Some(entry)) {
-            "dirty"
-        } else {
-            "clean"
-        };
-        if writeln!(text, "{c} {b} {word} {hint}").is_err() {
-            return Err(Untold::Memory);
+    for (c, entry) in found.entries.iter().enumerate() {
+        if let Some(entry) = entry {
+            text.clear();
+            write_entry(&mut text, found.clean, c, entry)?;
+            send(&text, writer)?;
         }
-        send(&text, writer)?;
     }
     Ok(())
+}
+
+fn write_entry(text: &mut String, clean: bool, c: usize, entry: &Entry) -> Result<(), AllocError> {
+    let OBlock(b) = entry.origin;
+    let hint = hint_of(clean, entry);
+    let word = if is_dirty(clean, Some(*entry)) {
+        "dirty"
+    } else {
+        "clean"
+    };
+    writeln!(text, "{c} {b} {word} {hint}")
 }
 
 /// The hint that an opening takes.
@@ -84,36 +80,29 @@ fn hint_of(clean: bool, entry: &Entry) -> u8 {
 }
 
 /// Writes how many mapped blocks have each hint, for who reads a terminal: `hint <hint> <blocks>`, where there are such.
-pub fn summarize<W: Write>(
-    alloc: Global,
-    state: &State<Global>,
-    writer: &mut W,
-) -> Result<(), Untold> {
+pub fn summarize<W: Write>(alloc: Global, found: &Found, writer: &mut W) -> Result<(), Untold> {
     let mut text = String::with_capacity(alloc, 64)?;
-    let counts = histogram(state);
-    for (hint, count) in counts.iter().enumerate() {
-        if *count == 0 {
-            continue;
+    for hint in 0..=MOST {
+        let count = count_hints(found, hint);
+        if count > 0 {
+            text.clear();
+            writeln!(text, "hint {hint} {count}")?;
+            send(&text, writer)?;
         }
-        text.clear();
-        if writeln!(text, "hint {hint} {count}").is_err() {
-            return Err(Untold::Memory);
-        }
-        send(&text, writer)?;
     }
     Ok(())
 }
 
-/// How many mapped blocks have each hint.
-fn histogram(state: &State<Global>) -> [u32; MOST + 1] {
-    let mut counts = [0u32; MOST + 1];
-    for c in 0..state.root.geometry.cache_blocks {
-        if let Some(entry) = state.tree.get(CBlock(c)) {
-            let hint = usize::from(hint_of(state.root.clean, &entry)).min(MOST);
-            counts[hint] = counts[hint].saturating_add(1);
-        }
-    }
-    counts
+/// How many mapped blocks have this hint.
+fn count_hints(found: &Found, hint: u8) -> usize {
+    found
+        .entries
+        .iter()
+        .filter(|entry| match entry {
+            Some(entry) => hint_of(found.clean, entry) == hint,
+            None => false,
+        })
+        .count()
 }
 
 fn send<W: Write>(text: &String, writer: &mut W) -> Result<(), Untold> {
