@@ -134,7 +134,7 @@ changed() { # a change of the metadata file: it is made
 told_of_metadata() { # what a run over the same files printed, and its exit status, once it has written the next root: what wbmeta says of them
   case $1 in
     refused*) echo "$1 $2" ;;
-    *) echo "$1" | awk -v next="$(newest_generation)" '{ split($4, mapped, "/"); print "ok", next - 1, "unclean", mapped[1], $11, 0 }' ;;
+    *) echo "$1" | awk -v after="$(newest_generation)" '{ split($4, mapped, "/"); print "ok", after - 1, "unclean", mapped[1], $11, 0 }' ;;
   esac
 }
 newest_generation() { # the greater generation of the two slots
@@ -146,11 +146,11 @@ while IFS='|' read -r changes printed status reason <&4; do
   printf '%s\n' "$changes" | tr ',' '\n' >changes.txt
   while read -r one two three; do changed "$one" "$two" "$three"; done <changes.txt
   before=$(sums)
-  told=$("$meta" check "$table" 2>/dev/null)
-  told="$told $? $(sums)"
+  says=$("$meta" check "$table" 2>/dev/null)
+  says="$says $? $(sums)"
   echo status | "$cache" -v run "$table" >out.txt 2>reason.txt
   check "metadata after $changes" "$? $(cat out.txt) $(grep -v '^wbcache: opened' reason.txt)" "$status $printed ${reason:+wbcache: $reason}"
-  check "what wbmeta tells of metadata after $changes" "$told" "$(told_of_metadata "$printed" "$status") $before"
+  check "what wbmeta tells of metadata after $changes" "$says" "$(told_of_metadata "$printed" "$status") $before"
   if test "$status" != 0; then check "files after $changes" "$(sums)" "$before"; fi
 done 4<rows.txt
 
