@@ -1,6 +1,7 @@
 //! What an opening would find.
 
-ghost use Rattle.std.specs.Prelude.{◌≡◌, ◌<◌, ◌^◌, length, map, is_some, count_by, IfOk, IfErr};
+ghost use Rattle.std.specs.Prelude.{◌≡◌, length, map, is_some, count_by, IfOk};
+ghost use Rattle.std.specs.Bool.{OnTrue};
 ghost use Rattle.wb_disk.specs.Device.{newest};
 ghost use Rattle.wbmeta.specs.Counted.{AreCounted, IsFound, counts_as_dirty};
 
@@ -44,7 +45,7 @@ pub fn read_metadata<D: Disk>(
         return Err(Refusal::Mismatch);
     }
     let state = read_state(alloc, alloc, disk)?;
-    if state.root.geometry != *geometry {
+    if !is_same(state.root.geometry, *geometry) {
         return Err(Refusal::Mismatch);
     }
     let entries = entries_of(alloc, &state.tree, geometry.cache_blocks)?;
@@ -53,6 +54,13 @@ pub fn read_metadata<D: Disk>(
         clean: state.root.clean,
         entries,
     })
+}
+
+/// Whether these are one geometry.
+fn is_same(a: Geometry, b: Geometry) -> bool
+    ensures { OnTrue result (a ≡ b) }
+{
+    a == b
 }
 
 /// The sizes that the newest root tells, once both slots were read.

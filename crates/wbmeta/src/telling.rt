@@ -95,14 +95,20 @@ pub fn summarize<W: Write>(alloc: Global, found: &Found, writer: &mut W) -> Resu
 
 /// How many mapped blocks have this hint.
 fn count_hints(found: &Found, hint: u8) -> usize {
+    let clean = found.clean;
     found
         .entries
         .iter()
-        .filter(|entry| match entry {
-            Some(entry) => hint_of(found.clean, entry) == hint,
-            None => false,
-        })
+        .filter(|entry| has_hint(clean, **entry, hint))
         .count()
+}
+
+/// Whether a mapped block has this hint.
+fn has_hint(clean: bool, entry: Option<Entry>, hint: u8) -> bool {
+    match entry {
+        Some(entry) => hint_of(clean, &entry) == hint,
+        None => false,
+    }
 }
 
 fn send<W: Write>(text: &String, writer: &mut W) -> Result<(), Untold> {
