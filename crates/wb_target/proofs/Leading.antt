@@ -12,19 +12,19 @@ use Rattle.wb_devices.specs.OpeningLed.{LedOpening}
 use Rattle.wb_devices.specs.Openings.{MayGoOn}
 use Rattle.wb_devices.specs.declared.opening_stage.OpeningStage.{OpeningStage}
 use Rattle.std.specs.Prelude.{Result, Ok, Err, IfOk, IfErr, OnOk}
+use Rattle.wb_target.specs.Making.{IsTakenFor}
 
-pub led_on : {D : Type 0} (Made : Type 0) (tells : Type 0) (size : D → ℕ) (contents : D → List History) (faults : D → ℕ) (old before new : OpeningStage D) (want : Want) (got : Got)
-    → before.devices ≡ old.devices → before.opening.commit ≡ old.opening.commit → before.opening.geometry ≡ old.opening.geometry
-    → before.mode ≡ old.mode → LedOpening tells size contents faults before want got new → Made
+pub led_on : {D : Type 0} (Made Kept : Type 0) (tells : Type 0) (size : D → ℕ) (contents : D → List History) (faults : D → ℕ) (old before new : OpeningStage D) (want : Want) (got : Got)
+    → IsTakenFor want old before → before.mode ≡ old.mode → Kept → LedOpening tells size contents faults before want got new → Made
     → MayGoOn (size new.devices.metadata) new.opening
     × (new.mode ≡ old.mode)
-    × (((mid : OpeningStage D) × (mid.devices ≡ old.devices) × (mid.opening.commit ≡ old.opening.commit)
-    × (mid.opening.geometry ≡ old.opening.geometry) × LedOpening tells size contents faults mid want got new × Made)
+    × Kept
+    × (((mid : OpeningStage D) × IsTakenFor want old mid × LedOpening tells size contents faults mid want got new × Made)
     ⊎ ((got ≡ Fault) × (new.devices ≡ old.devices)))
-led_on Made tells size contents faults old before new (Device step) got d c g m led made = (led.3, led.5 ∙ m, inl (before, d, c, g, led, made))
-led_on Made tells size contents faults old before new (Cell step) got d c g m led made = absurd led
-led_on Made tells size contents faults old before new (Desk step) got d c g m led made = absurd led
-led_on Made tells size contents faults old before new (End answer) got d c g m led made = absurd led
+led_on Made Kept tells size contents faults old before new (Device step) got taken m kept led made = (led.3, led.5 ∙ m, kept, inl (before, taken, led, made))
+led_on Made Kept tells size contents faults old before new (Cell step) got taken m kept led made = absurd led
+led_on Made Kept tells size contents faults old before new (Desk step) got taken m kept led made = absurd led
+led_on Made Kept tells size contents faults old before new (End answer) got taken m kept led made = absurd led
 
 -- what holds of every refusal holds of the one that there is
 pub err_anyway : {T E : Type 0} (r : Result T E) (Q : E → Type 0) → ((e : E) → Q e) → IfErr r Q

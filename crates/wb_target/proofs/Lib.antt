@@ -13,6 +13,7 @@ pub mod Sending
 pub mod Turns
 mod Hinting
 mod Leading
+mod Opened
 pub mod Asking
 pub mod Suspends
 pub mod Displaces

@@ -6,6 +6,7 @@ use Rattle.wb_types.specs.declared.number.Place.{Place}
 use Rattle.wb_types.specs.declared.message.Key.{Key}
 use Rattle.wb_types.specs.declared.message.Key.TheVariants.{MigrationThreshold, PromoteMin}
 use Rattle.wb_types.specs.declared.mode.Mode.{Mode}
+use Rattle.wb_types.specs.declared.mode.Mode.TheVariants.{Passthrough}
 use Rattle.wb_tree.specs.Mapping.{Mapping}
 use Rattle.wb_meta.specs.declared.read_steps.State.{State}
 use Rattle.wb_meta.specs.declared.read_steps.ReadSteps.TheVariants.{Done as AllRead}
@@ -27,6 +28,9 @@ use Rattle.wb_tasks.specs.declared.step.Want.{Want}
 use Rattle.wb_tasks.specs.declared.step.Got.{Got}
 use Rattle.wb_devices.specs.Openings.{MayGoOn, HasNotBegun}
 use Rattle.wb_devices.specs.declared.devices.Devices.{Devices}
+use Rattle.wb_devices.specs.declared.opening.Opening.{Opening}
+use Rattle.wb_devices.specs.Clean.{IsLeftClean}
+use Rattle.wb_devices.specs.Outcomes.{IsOpen, IsOpenOver, DataIsDurable}
 use Rattle.wb_target.specs.declared.making.MakingStage.{MakingStage}
 
 -- it serves the steps of an opening, and no others
@@ -56,14 +60,21 @@ writes_root want = false
 abbrev pub MadeFirst : {D P : Type 0} → (P → Key → ℕ → Option P) → MakingStage D P → Want → Type 0
 MadeFirst with_setting making want = writes_root want ≡ true → IsMadeOfRead with_setting making
 
--- A step is one of the opening in its mode, over what was read or, where that was taken for the target, without it, and that was made before the root is
--- written; or it failed, and no device was asked. What was read so far, where it is still there, is of the metadata device.
+-- The stage that the opening's own step begins with: it is as it was, but for what was read, which is taken for the target before the root is written.
+pub record IsTakenFor {D : Type 0} (want : Want) (old before : OpeningStage D) : Type 0 where
+  pub others : writes_root want ≡ false → before ≡ old
+  pub devices : before.devices ≡ old.devices
+  pub commit : before.opening.commit ≡ old.opening.commit
+  pub geometry : before.opening.geometry ≡ old.opening.geometry
+
+-- A step is one of the opening in its mode, over what was read so far or, where that was taken for the target, without it, and that was made before the root is
+-- written; or it failed, and no device was asked. What was read so far, where it is still there, is of the metadata device; the keys stay.
 abbrev pub MakingGoesOn : {D P : Type 0} → Type 0 → (D → ℕ) → (D → List History) → (D → ℕ) → (P → Key → ℕ → Option P) → MakingStage D P → Want → Got → MakingStage D P → Type 0
 MakingGoesOn {D} tells size contents faults with_setting old want got new =
     MayGoOn (size new.stage.devices.metadata) new.stage.opening
     × (new.stage.mode ≡ old.stage.mode)
-    × (((before : OpeningStage D) × (before.devices ≡ old.stage.devices) × (before.opening.commit ≡ old.stage.opening.commit)
-    × (before.opening.geometry ≡ old.stage.opening.geometry) × LedOpening tells size contents faults before want got new.stage × MadeFirst with_setting old want)
+    × (new.keys ≡ old.keys)
+    × (((before : OpeningStage D) × IsTakenFor want old.stage before × LedOpening tells size contents faults before want got new.stage × MadeFirst with_setting old want)
     ⊎ ((got ≡ Fault) × (new.stage.devices ≡ old.stage.devices)))
 
 -- An opening in this mode that had not begun was run over these devices, by its table up to this answer, and what its devices are then is handed back.
@@ -78,3 +89,15 @@ pub record WasRun {D P : Type 0} (tells : Type 0) (size : D → ℕ) (contents :
   pub run : IsRunOf (table (OpeningJob left)) steps answer
   pub leads : Leads (MakingGoesOn tells size contents faults with_setting) first steps last
   pub back_is : back ≡ last.stage.devices
+
+-- What an opening has opened, with these keys, over devices that were these and are those: all of the opening was done; what it read is what the metadata
+-- represented when they were made durable, and since then the next root alone was written there, and is durable; what cache and origin held is durable; in
+-- passthrough it was left clean. And a desk was made of just what was read, by that root: so what its mapping shows of each sector is the content that
+-- is on the place which the metadata name.
+pub record WasOpened {D P : Type 0} (tells : Type 0) (size : D → ℕ) (contents : D → List History) (with_setting : P → Key → ℕ → Option P) (mode : Mode) (keys : List (Key × ℕ)) (devices back : Devices D) : Type 0 where
+  pub opening : Opening
+  pub done : IsOpen (size back.metadata) opening
+  pub over : tells → IsOpenOver done (contents devices.metadata) (contents back.metadata)
+  pub durable : tells → DataIsDurable contents devices back
+  pub clean : mode ≡ Passthrough → IsLeftClean done.state
+  pub made : IsMade with_setting done.state.root.geometry done.next.image.root.generation done.state.tree done.state.used.items mode keys

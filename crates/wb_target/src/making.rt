@@ -46,6 +46,7 @@ impl<'k, D: Disk + Drop, P: Policy> MakingStage<'k, D, P> {
         ensures devices { result.stage.devices ≡ devices }
         ensures begins { HasNotBegun result.stage.opening }
         ensures mode { result.stage.mode ≡ mode }
+        ensures keys { result.keys ≡ keys.entry }
     {
         let stage = OpeningStage::new(alloc, devices, geometry, mode);
         MakingStage {
@@ -103,6 +104,7 @@ impl<'k, D: Disk + Drop, P: Policy> MakingStage<'k, D, P> {
         ensures goes_on { MayGoOn (D.size self.new.stage.devices.metadata) self.new.stage.opening }
         ensures made { OnTrue result (IsMadeOfRead P.with_setting self.old) }
         ensures mode { self.new.stage.mode ≡ self.old.stage.mode }
+        ensures keys { self.new.keys ≡ self.old.keys }
     {
         let Some(commit) = &self.stage.opening.commit else {
             return false;

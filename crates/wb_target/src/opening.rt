@@ -2,7 +2,7 @@
 
 ghost use Rattle.std.specs.Prelude.{◌≡◌, ◌<◌, ◌⊎◌, IfOk, IfErr, OnOk, length};
 ghost use Rattle.wb_tasks.specs.declared.step.Answer.{Answer as AnswerTerm};
-ghost use Rattle.wb_target.specs.Making.{IsMade, WasRun};
+ghost use Rattle.wb_target.specs.Making.{IsMade, WasOpened, WasRun};
 ghost use Rattle.wb_words.specs.declared.card.Hold.TheVariants.{Nothing};
 ghost use Rattle.wb_tree.specs.Mapping.{IsMapping};
 ghost use Rattle.wb_meta.specs.Reads.{FitsDevice};
@@ -42,7 +42,8 @@ impl<P: Policy> Target<P> {
         keys: &[(Key, u64)],
     ) -> (Devices<D>, Result<Target<P>, Refusal>)
         ensures mode { IfOk result.1 (λ target. target.mode ≡ mode) }
-        ensures opened { OnOk result.1 (WasRun D.tells D.size D.contents D.faults P.with_setting mode devices Answer.Done result.0) }
+        ensures run { OnOk result.1 (WasRun D.tells D.size D.contents D.faults P.with_setting mode devices Answer.Done result.0) }
+        ensures opened { OnOk result.1 (WasOpened D.tells D.size D.contents P.with_setting mode keys.now devices result.0) }
         ensures refused { IfErr result.1 (λ refusal. ((refusal ≡ Refusal.Geometry) × (result.0 ≡ devices)) ⊎ ((answer : AnswerTerm) × WasRun D.tells D.size D.contents D.faults P.with_setting mode devices answer result.0)) }
     {
         let geometry = match measure(&devices, block) {

@@ -1,3 +1,4 @@
+use Rattle.std.proofs.Common.{refl}
 use Rattle.wb_target.proofs.making.MakingStage.new.Goals as goal
 
 pub returns : goal.returns
@@ -6,4 +7,5 @@ returns g c = record {
   devices = c.new-stage.ensures.devices;
   begins = c.new-stage.ensures.begins;
   mode = c.new-stage.ensures.mode;
+  keys = refl;
 }

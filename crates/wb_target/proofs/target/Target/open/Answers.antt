@@ -1,10 +1,12 @@
-use Rattle.std.proofs.Common.{◌≡◌, ◌∙◌, ◌-◌, subst, inr}
+use Rattle.std.proofs.Common.{◌≡◌, ◌∙◌, ◌-◌, ap, subst, sym, inr}
 use Rattle.std.proofs.lemmas.Result.{on_ok_weaker}
-use Rattle.wb_tasks.specs.Plan.{Plan}
+use Rattle.wb_tasks.specs.Tables.{Opening as OpeningJob}
+use Rattle.wb_tasks.specs.Plan.{Plan, table}
 use Rattle.wb_tasks.specs.Run.{IsRunOf}
 use Rattle.wb_tasks.specs.declared.step.Answer.{Answer}
 use Rattle.wb_tasks.specs.declared.step.Answer.TheVariants.{Done}
-use Rattle.wb_target.specs.Making.{MakingGoesOn, WasRun}
+use Rattle.wb_target.specs.Making.{MakingGoesOn, WasOpened, WasRun}
+use Rattle.wb_target.proofs.Opened.{was_opened}
 use Rattle.wb_target.proofs.Leading.{err_anyway, ok_as}
 use Rattle.wb_port.proofs.Readying.{kept_by}
 use Rattle.wb_target.proofs.target.Target.open.Given.{Over}
@@ -28,8 +30,18 @@ module _ (g : Over) (c : goal.After-finish g) where
     back_is = c.finish.ensures.devices;
   }
 
+pub returns-clause-run : goal.returns-clause-run
+returns-clause-run g c = on_ok_weaker c.finish.result.1 (λ (done : c.run-answer.result ≡ Done). subst (λ (answer : Answer). Tried g c answer) done (tried g c)) c.finish.ensures.done
+
 pub returns-clause-opened : goal.returns-clause-opened
-returns-clause-opened g c = on_ok_weaker c.finish.result.1 (λ (done : c.run-answer.result ≡ Done). subst (λ (answer : Answer). Tried g c answer) done (tried g c)) c.finish.ensures.done
+returns-clause-opened g c = on_ok_weaker c.finish.result.1 (λ (done : c.run-answer.result ≡ Done).
+    let run = c.run-answer.ensures.run in
+    let last = c.run-answer.new.self in
+    let opened = was_opened g.D.Disk.tells g.D.Disk.size g.D.Disk.contents g.D.Disk.faults g.P.Policy.with_setting c.args.mode c.args.keys.now c.new-stage.result last (c.in-Ok.geometry.meta_sectors - 1) run.0
+    c.new-stage.ensures.goes_on c.new-stage.ensures.mode (ap (λ k. k.now) c.new-stage.ensures.keys) c.new-stage.ensures.begins
+    (subst (λ (answer : Answer). IsRunOf (table (OpeningJob (c.in-Ok.geometry.meta_sectors - 1))) run.0 answer) done (subst (λ (s : Plan). IsRunOf s run.0 c.run-answer.result) c.new-task.ensures run.1)) run.2 in
+    subst (λ devices. WasOpened g.D.Disk.tells g.D.Disk.size g.D.Disk.contents g.P.Policy.with_setting c.args.mode c.args.keys.now devices c.finish.result.0) c.new-stage.ensures.devices
+    (subst (λ back. WasOpened g.D.Disk.tells g.D.Disk.size g.D.Disk.contents g.P.Policy.with_setting c.args.mode c.args.keys.now c.new-stage.result.stage.devices back) (sym c.finish.ensures.devices) opened)) c.finish.ensures.done
 
 pub returns-clause-refused : goal.returns-clause-refused
 returns-clause-refused g c = err_anyway c.finish.result.1 _ (λ refusal. inr (c.run-answer.result, tried g c))
