@@ -88,7 +88,7 @@ class Program:
         self.process = subprocess.Popen(words, stdin=subprocess.PIPE, stdout=subprocess.PIPE, stderr=subprocess.DEVNULL, bufsize=0)
         seconds, self.answers, self.soon = 30, -1, 0
         if dice and dice.randrange(3) == 0:
-            seconds = dice.choice((0.03, 0.2, 0.6)) * dice.random()
+            seconds = dice.choice((30, 200, 600)) * dice.random() / 1000
         elif dice:
             self.answers, self.soon = dice.randrange(1, 600), dice.choice((0, 0.001, 0.01)) * dice.random()
         self.ends_at, self.was_killed, self.data = time.monotonic() + seconds, False, b""
