@@ -52,6 +52,42 @@ fn sizes_at_their_limits_are_taken(rt: HostRuntime) -> Result<(), Fail> {
     Ok(())
 }
 
+/// The cache's blocks; the levels and nodes of their dirty bits; the least sectors of metadata of each version.
+const ROOMS: [(u64, u32, u32, u64, u64); 7] = [
+    (1, 1, 1, 4, 5),
+    (33, 1, 1, 8, 9),
+    (2_048, 1, 1, 136, 137),
+    (2_049, 2, 3, 140, 143),
+    (65_536, 2, 33, 4_232, 4_265),
+    (65_537, 3, 36, 4_238, 4_274),
+    (1_048_575, 3, 529, 2 + 2 * NODES, 2 + 2 * NODES + 529),
+];
+
+#[test]
+fn each_version_has_its_room(rt: HostRuntime) -> Result<(), Fail> {
+    for (cache, depth, nodes, first, second) in ROOMS {
+        for (version, least) in [(1, first), (2, second)] {
+            let geometry = Geometry::with_version(64, cache, cache, least, version)?;
+            assert!(rt; geometry.version.number() == version);
+            assert!(rt; geometry.dirty_depth() == depth && geometry.dirty_node_count() == nodes);
+            let more = if version == 2 { nodes } else { 0 };
+            assert!(rt; geometry.most_nodes(false) == geometry.node_count());
+            assert!(rt; geometry.most_nodes(true) == geometry.node_count() + more);
+            let less = Geometry::with_version(64, cache, cache, least - 1, version);
+            assert!(rt; matches!(less, Err(Refusal::Geometry)));
+        }
+    }
+    Ok(())
+}
+
+#[test]
+fn versions_are_two(rt: HostRuntime) {
+    for version in [0, 3, 256, u32::MAX] {
+        let other = Geometry::with_version(64, 4, 10, 5, version);
+        assert!(rt; matches!(other, Err(Refusal::Geometry)));
+    }
+}
+
 /// Each refusal as a user reads it.
 const TEXTS: [(Refusal, u8, &str); 19] = [
     (Refusal::Range, 1, "1 Range"),

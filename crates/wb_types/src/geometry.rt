@@ -2,7 +2,8 @@
 
 ghost use Rattle.std.specs.Prelude.{◌≡◌, ◌≤◌, ◌+◌, ◌*◌, ◌^◌, ℕ, IfOk, IfErr};
 ghost use Rattle.wb_types.specs.declared.version.Version.TheVariants.{One};
-ghost use Rattle.wb_types.specs.Limits.{IsWithinLimits, IsDepth, depth_of, node_count, nodes_up_to};
+ghost use Rattle.wb_types.specs.Limits.{IsWithinLimits, HasRoom, IsDepth, depth_of, dirty_depth_of, dirty_node_count, dirty_nodes, most_nodes, node_count, nodes_up_to};
+ghost use Rattle.wb_types.specs.Versions.{version_number};
 
 use crate::{Refusal, Version};
 
@@ -15,11 +16,13 @@ pub struct Geometry {
     pub cache_blocks: u32,
     /// Blocks of the origin: 1 to 1,048,576.
     pub origin_blocks: u32,
-    /// Sectors of the metadata device: two root slots, and twice the nodes of a full mapping, or more.
+    /// Sectors of the metadata device: two root slots, twice the nodes of a full mapping and, in version 2, once those of
+    /// its dirty bits, or more.
     pub meta_sectors: u32,
     /// The layout in which the metadata device is written. Sizes alone are compared with those of devices.
     pub version: Version,
     pub ghost within: { IsWithinLimits block cache_blocks origin_blocks meta_sectors },
+    pub ghost room: { HasRoom version cache_blocks meta_sectors },
 }
 
 impl Geometry {
@@ -39,25 +42,37 @@ impl Geometry {
         ensures refused { IfErr result (λ r. r ≡ Refusal.Geometry) }
         ensures outside { IfErr result (λ _. ¬ IsWithinLimits block cache_blocks origin_blocks meta_sectors) }
     {
-        let sizes_fit = (64..=2_097_152).contains(&block)
-            && block % 64 == 0
-            && (1..=1_048_575).contains(&cache_blocks)
-            && (1..=1_048_576).contains(&origin_blocks)
-            && meta_sectors <= 4_294_967_295;
-        if !sizes_fit {
+        within_limits(
+            block,
+            cache_blocks,
+            origin_blocks,
+            meta_sectors,
+            Version::One,
+        )
+    }
+
+    /// The geometry of these sizes, as `new` takes them, with metadata of the version that has this number; `Geometry`
+    /// exactly where no version has it, and where the sizes lie outside the limits or give that version too little room.
+    pub fn with_version(
+        block: u64,
+        cache_blocks: u64,
+        origin_blocks: u64,
+        meta_sectors: u64,
+        version: u32,
+    ) -> Result<Geometry, Refusal>
+        ensures block { IfOk result (λ g. g.block ≡ block) }
+        ensures cache_blocks { IfOk result (λ g. g.cache_blocks ≡ cache_blocks) }
+        ensures origin_blocks { IfOk result (λ g. g.origin_blocks ≡ origin_blocks) }
+        ensures meta_sectors { IfOk result (λ g. g.meta_sectors ≡ meta_sectors) }
+        ensures version { IfOk result (λ g. version ≡ version_number g.version) }
+        ensures refused { IfErr result (λ r. r ≡ Refusal.Geometry) }
+        ensures outside { IfErr result (λ _. (v : Version) → version ≡ version_number v →
+            IsWithinLimits block cache_blocks origin_blocks meta_sectors → ¬ HasRoom v cache_blocks meta_sectors) }
+    {
+        let Some(version) = Version::of(version) else {
             return Err(Refusal::Geometry);
-        }
-        let nodes = count_nodes(cache_blocks as u32);
-        if meta_sectors < 2 + 2 * u64::from(nodes) {
-            return Err(Refusal::Geometry);
-        }
-        Ok(Geometry {
-            block: block as u32,
-            cache_blocks: cache_blocks as u32,
-            origin_blocks: origin_blocks as u32,
-            meta_sectors: meta_sectors as u32,
-            version: Version::One,
-        })
+        };
+        within_limits(block, cache_blocks, origin_blocks, meta_sectors, version)
     }
 
     /// The levels of the mapping tree, 1 to 4.
@@ -77,6 +92,32 @@ impl Geometry {
         count_nodes(self.cache_blocks)
     }
 
+    /// The levels of a tree of dirty bits, 1 to 3.
+    pub fn dirty_depth(&self) -> u32
+        ensures value { result ≡ dirty_depth_of self.now.cache_blocks }
+        ensures at_most { result ≤ 3 }
+    {
+        levels(self.cache_blocks.div_ceil(64))
+    }
+
+    /// The nodes of a tree of dirty bits with a bit in every leaf.
+    pub fn dirty_node_count(&self) -> u32
+        ensures { result ≡ dirty_node_count self.now.cache_blocks }
+    {
+        count_nodes(self.cache_blocks.div_ceil(64))
+    }
+
+    /// The most nodes of an image of this geometry, which is clean or not.
+    pub fn most_nodes(&self, clean: bool) -> u32
+        ensures { result ≡ most_nodes self.now.version clean self.now.cache_blocks }
+    {
+        if clean {
+            count_nodes(self.cache_blocks) + count_dirty_nodes(self.version, self.cache_blocks)
+        } else {
+            count_nodes(self.cache_blocks)
+        }
+    }
+
     /// The sectors of the origin.
     pub fn origin_sectors(&self) -> u64
         ensures { result ≡ self.now.block * self.now.origin_blocks }
@@ -92,7 +133,46 @@ impl Geometry {
     }
 }
 
-/// The least number of levels that hold so many cache blocks.
+/// The geometry of these sizes and this version; `Geometry` exactly where they lie outside the limits, or give it too
+/// little room.
+fn within_limits(
+    block: u64,
+    cache_blocks: u64,
+    origin_blocks: u64,
+    meta_sectors: u64,
+    version: Version,
+) -> Result<Geometry, Refusal>
+    ensures block { IfOk result (λ g. g.block ≡ block) }
+    ensures cache_blocks { IfOk result (λ g. g.cache_blocks ≡ cache_blocks) }
+    ensures origin_blocks { IfOk result (λ g. g.origin_blocks ≡ origin_blocks) }
+    ensures meta_sectors { IfOk result (λ g. g.meta_sectors ≡ meta_sectors) }
+    ensures version { IfOk result (λ g. g.version ≡ version) }
+    ensures refused { IfErr result (λ r. r ≡ Refusal.Geometry) }
+    ensures outside { IfErr result (λ _. IsWithinLimits block cache_blocks origin_blocks meta_sectors → ¬ HasRoom version cache_blocks meta_sectors) }
+{
+    let sizes_fit = (64..=2_097_152).contains(&block)
+        && block % 64 == 0
+        && (1..=1_048_575).contains(&cache_blocks)
+        && (1..=1_048_576).contains(&origin_blocks)
+        && meta_sectors <= 4_294_967_295;
+    if !sizes_fit {
+        return Err(Refusal::Geometry);
+    }
+    let nodes = count_nodes(cache_blocks as u32);
+    let dirty = count_dirty_nodes(version, cache_blocks as u32);
+    if meta_sectors < 2 + 2 * u64::from(nodes) + u64::from(dirty) {
+        return Err(Refusal::Geometry);
+    }
+    Ok(Geometry {
+        block: block as u32,
+        cache_blocks: cache_blocks as u32,
+        origin_blocks: origin_blocks as u32,
+        meta_sectors: meta_sectors as u32,
+        version,
+    })
+}
+
+/// The least number of levels of 32 words a node that hold so many words, each of a cache block or of 64 dirty bits.
 fn levels(cache_blocks: u32) -> u32
     requires { cache_blocks ≤ 1048576 }
     ensures value { result ≡ depth_of cache_blocks }
@@ -110,7 +190,7 @@ fn levels(cache_blocks: u32) -> u32
     }
 }
 
-/// The nodes of all levels.
+/// The nodes of all levels above so many words.
 fn count_nodes(cache_blocks: u32) -> u32
     requires { cache_blocks ≤ 1048576 }
     ensures value { result ≡ node_count cache_blocks }
@@ -124,4 +204,16 @@ fn count_nodes(cache_blocks: u32) -> u32
         nodes += cache_blocks.div_ceil(span);
     }
     nodes
+}
+
+/// The nodes of dirty bits that an image of this version has at most.
+fn count_dirty_nodes(version: Version, cache_blocks: u32) -> u32
+    requires { cache_blocks ≤ 1048576 }
+    ensures value { result ≡ dirty_nodes version cache_blocks }
+    ensures at_most { result ≤ 4194308 }
+{
+    match version {
+        Version::One => 0,
+        Version::Two => count_nodes(cache_blocks.div_ceil(64)),
+    }
 }

@@ -7,6 +7,8 @@ ghost use Rattle.std.specs.Prelude.{◌≡◌, IfSome};
 pub enum Version {
     /// One tree, whose leaves hold the dirty bits.
     One,
+    /// A mapping tree without dirty bits; those of a clean image have a tree of their own.
+    Two,
 }
 
 impl Version {
@@ -18,6 +20,7 @@ impl Version {
     {
         match self {
             Version::One => 1,
+            Version::Two => 2,
         }
     }
 
@@ -28,6 +31,7 @@ impl Version {
     {
         match number {
             1 => Some(Version::One),
+            2 => Some(Version::Two),
             _ => None,
         }
     }
