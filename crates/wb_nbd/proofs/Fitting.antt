@@ -5,13 +5,14 @@ use Rattle.std.specs.Io.KnownBytes.{Consumes}
 use Rattle.wb_nbd.specs.declared.job.Job.{Job}
 use Rattle.wb_nbd.specs.declared.request.Request.{Request}
 use Rattle.wb_nbd.specs.declared.job.Task.{Task}
-use Rattle.wb_nbd.specs.declared.job.Task.TheVariants.{Read as ReadTask, Write as WriteTask, Flush as FlushTask, Refuse}
+use Rattle.wb_nbd.specs.declared.job.Task.TheVariants.{Read as ReadTask, Write as WriteTask, Zeroes as ZeroesTask, Flush as FlushTask, Refuse}
 use Rattle.wb_nbd.specs.Jobs.{AsksFor, IsTask}
 use Rattle.wb_nbd.specs.Performing.{TaskFits}
 
 pub asked_fits : (size : ℕ) (request : Request) (payload : List ℕ) (task : Task) → IsTask size request payload task → TaskFits size task
 asked_fits size request payload (ReadTask at count) is = is.2.inside
 asked_fits size request payload (WriteTask at content durable) is = is.3.inside
+asked_fits size request payload (ZeroesTask at count durable) is = is.3.inside
 asked_fits size request payload FlushTask is = tt
 asked_fits size request payload (Refuse errno) is = tt
 

@@ -32,9 +32,9 @@ plain_reply number kind = reply_start number kind 0
 abbrev pub export_entry : ℕ → List ℕ
 export_entry number = reply_start number 2 4 ++ big_bytes 4 0
 
--- the size of the export in bytes, and the flags: there are flags, flush is served, and so is a durable write
+-- the size of the export in bytes, and the flags: there are flags, flush is served, and so are durable writes and zeros
 abbrev pub export_terms : Terms → List ℕ
-export_terms terms = big_bytes 8 terms.size ++ big_bytes 2 13
+export_terms terms = big_bytes 8 terms.size ++ big_bytes 2 77
 
 abbrev pub export_info : Terms → ℕ → List ℕ
 export_info terms number = (reply_start number 3 12 ++ big_bytes 2 0) ++ export_terms terms

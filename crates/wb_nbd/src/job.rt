@@ -7,7 +7,7 @@ ghost use Rattle.wb_nbd.specs.declared.request.Flags.TheVariants.{Other as Other
 ghost use Rattle.wb_nbd.specs.declared.job.Task.TheVariants.{Refuse};
 ghost use Rattle.wb_nbd.specs.Requests.{SpellsRequest};
 ghost use Rattle.wb_nbd.specs.Replies.{joined_sectors};
-ghost use Rattle.wb_nbd.specs.Jobs.{BytesAsk, IsTask, AreSectors, IsOutsideExport, payload_size};
+ghost use Rattle.wb_nbd.specs.Jobs.{BytesAsk, IsTask, AreSectors, IsOutsideExport, Writes, most_bytes, payload_size};
 
 use crate::broken::Broken;
 use crate::errno::Errno;
@@ -25,6 +25,8 @@ pub enum Task {
     Read(Sector, u64),
     /// To write sectors, at least one, from a place on; durable before it is answered, where that is wanted.
     Write(Sector, Vec<Content>, bool),
+    /// To write zeros to so many sectors, at least one, from a place on; durable as well, where that is wanted.
+    Zeroes(Sector, u64, bool),
     Flush,
     /// Nothing but to tell why the request is not served.
     Refuse(Errno),
@@ -97,6 +99,10 @@ fn task_of(size: u64, request: &Request) -> Task
             Some((at, count)) => Task::Read(at, count),
             None => Task::Refuse(Errno::Invalid),
         },
+        Command::Zeroes => match find_sectors(size, request) {
+            Some((at, count)) => Task::Zeroes(at, count, request.flags == Flags::Durable),
+            None => Task::Refuse(reason_of(size, request)),
+        },
         Command::Flush if request.offset == 0 && request.length == 0 => Task::Flush,
         _ => Task::Refuse(Errno::Invalid),
     }
@@ -128,9 +134,9 @@ fn take_write<R: Read>(
 
 /// Why a write is not served whose flags are not, or whose bytes are no sectors of the export.
 fn reason_of(size: u64, request: &Request) -> Errno
-    requires write { request.now.command ≡ WriteCommand }
+    requires write { Writes request.now }
     requires unserved { (request.now.flags ≡ OtherFlags) ⊎ IsOutsideExport size request.now }
-    ensures { (payload : List ℕ) → length payload ≡ request.now.length → IsTask size request.now payload (Refuse result) }
+    ensures { (payload : List ℕ) → length payload ≡ payload_size request.now → IsTask size request.now payload (Refuse result) }
 {
     if request.flags == Flags::Other {
         return Errno::Invalid;
@@ -146,14 +152,15 @@ fn reason_of(size: u64, request: &Request) -> Errno
 /// The sectors that a request speaks of, the first and how many; none where they are no whole ones, none at all, more than one
 /// request may have, or not of the export.
 fn find_sectors(size: u64, request: &Request) -> Option<(Sector, u64)>
-    ensures found { IfSome result (λ found. AreSectors size request.now.offset request.now.length found.0.0 found.1) }
+    ensures found { IfSome result (λ found. AreSectors size (most_bytes request.now.command) request.now.offset request.now.length found.0.0 found.1) }
     ensures none { IfNone result (IsOutsideExport size request.now) }
 {
     let sector = SECTOR_BYTES as u64;
     let bytes = u64::from(request.length);
     let (at, count) = (request.offset / sector, bytes / sector);
     let whole = request.offset % sector == 0 && bytes % sector == 0;
-    if whole && count > 0 && request.length <= MOST_BYTES && at <= size && count <= size - at {
+    let few = request.command == Command::Zeroes || request.length <= MOST_BYTES;
+    if whole && count > 0 && few && at <= size && count <= size - at {
         Some((Sector(at), count))
     } else {
         None

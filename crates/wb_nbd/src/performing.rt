@@ -1,8 +1,8 @@
 //! Performing jobs.
 
-ghost use Rattle.std.specs.Prelude.{◌↔◌, IsTrue, Err, ◌≡◌, ◌≤◌, ◌+◌, ◌⊎◌, true, false, OnOk, IfOk, IfErr, length};
+ghost use Rattle.std.specs.Prelude.{◌↔◌, IsTrue, Err, ◌≡◌, ◌≤◌, ◌<◌, ◌+◌, ◌^◌, ◌⊎◌, true, false, OnOk, IfOk, IfErr, length};
 ghost use Rattle.wb_nbd.specs.Acts.{Read as ReadAct, Wrote, Flushed, Refused};
-ghost use Rattle.wb_nbd.specs.Performing.{TaskFits, Performs, Both};
+ghost use Rattle.wb_nbd.specs.Performing.{TaskFits, Performs, Both, WritesZeros, StopsAmongZeros, zero_sectors};
 
 use crate::answer::Answer;
 use crate::errno::Errno;
@@ -10,6 +10,9 @@ use crate::export::Export;
 use crate::job::{Job, Task};
 use std::alloc::Global;
 use wb_types::{Content, SECTOR_BYTES, Sector};
+
+/// How many sectors of zeros are written by one call: 1 MiB.
+const ZEROS_AT_ONCE: u64 = 2048;
 
 /// Does a job on an export, and gives its answer: the sectors that were read, none where nothing was to be read, or why it was
 /// refused. `Invalid` where its sectors are not all the export's, and then nothing is done.
@@ -37,6 +40,7 @@ fn fits(size: u64, task: &Task) -> bool
     let (first, count) = match task {
         Task::Read(Sector(first), count) => (*first, *count),
         Task::Write(Sector(first), content, _) => (*first, content.len() as u64),
+        Task::Zeroes(Sector(first), count, _) => (*first, *count),
         Task::Flush | Task::Refuse(_) => return true,
     };
     first <= size && count <= size - first
@@ -47,7 +51,8 @@ fn perform_task<E: Export>(
     export: &mut E,
     task: &Task,
 ) -> Result<Vec<Content>, Errno>
-    requires { TaskFits (E.size export.old) task.now }
+    requires fits { TaskFits (E.size export.old) task.now }
+    requires small { E.size export.old < 2 ^ 64 }
     ensures told { Performs E.acts export.old task.now result export.new }
     ensures size { E.size export.new ≡ E.size export.old }
 {
@@ -55,6 +60,10 @@ fn perform_task<E: Export>(
         Task::Read(at, count) => read(alloc, export, *at, *count),
         Task::Write(at, content, durable) => {
             write(export, *at, content.as_slice(), *durable)?;
+            Ok(Vec::new(alloc))
+        }
+        Task::Zeroes(at, count, durable) => {
+            write_zeros(alloc, export, *at, *count, *durable)?;
             Ok(Vec::new(alloc))
         }
         Task::Flush => {
@@ -99,6 +108,67 @@ fn write<E: Export>(
     export.write(at, content)?;
     if durable {
         export.flush()?;
+    }
+    Ok(())
+}
+
+/// Writes zeros to sectors, and sees that they are durable where that is wanted.
+fn write_zeros<E: Export>(
+    alloc: Global,
+    export: &mut E,
+    at: Sector,
+    count: u64,
+    durable: bool,
+) -> Result<(), Errno>
+    requires inside { at.0 + count ≤ E.size export.old }
+    requires small { E.size export.old < 2 ^ 64 }
+    ensures plain { durable ≡ false → OnOk result (WritesZeros E.acts export.old at.0 count export.new) }
+    ensures durable { durable ≡ true → OnOk result ((between : _) × WritesZeros E.acts export.old at.0 count between × E.acts between Flushed export.new) }
+    ensures refused { IfErr result (λ errno. StopsAmongZeros E.acts export.old at.0 count errno export.new ⊎ ((errno ≡ Errno.Memory) × (export.new ≡ export.old))) }
+    ensures size { E.size export.new ≡ E.size export.old }
+{
+    let zeros = zeros_of(alloc, count.min(ZEROS_AT_ONCE))?;
+    write_again(export, at, count, zeros.as_slice())?;
+    if durable {
+        export.flush()?;
+    }
+    Ok(())
+}
+
+/// So many sectors of zeros.
+fn zeros_of(alloc: Global, count: u64) -> Result<Vec<Content>, Errno>
+    ensures zeros { IfOk result (λ zeros. zeros.items ≡ zero_sectors count) }
+    ensures refused { IfErr result (λ errno. errno ≡ Errno.Memory) }
+{
+    let Ok(mut zeros) = Vec::with_capacity(alloc, count as usize) else {
+        return Err(Errno::Memory);
+    };
+    for _ in 0..count {
+        zeros.push_reserved([0; SECTOR_BYTES]);
+    }
+    Ok(zeros)
+}
+
+/// Writes these sectors of zeros again and again, until so many are written.
+fn write_again<E: Export>(
+    export: &mut E,
+    at: Sector,
+    count: u64,
+    zeros: &[Content],
+) -> Result<(), Errno>
+    requires inside { at.0 + count ≤ E.size export.old }
+    requires small { E.size export.old < 2 ^ 64 }
+    requires zeros { zeros.now ≡ zero_sectors (length zeros.now) }
+    requires some { 1 ≤ length zeros.now ⊎ count ≡ 0 }
+    ensures done { OnOk result (WritesZeros E.acts export.old at.0 count export.new) }
+    ensures refused { IfErr result (λ errno. StopsAmongZeros E.acts export.old at.0 count errno export.new) }
+    ensures size { E.size export.new ≡ E.size export.old }
+{
+    let mut done = 0;
+    while done < count {
+        let many = (count - done).min(zeros.len() as u64);
+        export.write(Sector(at.0 + done), &zeros[..many as usize])?;
+        done += many;
     }
     Ok(())
 }

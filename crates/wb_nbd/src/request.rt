@@ -21,6 +21,8 @@ pub enum Command {
     /// The client ends the connection.
     Disconnect,
     Flush,
+    /// To write zeros: `NBD_CMD_WRITE_ZEROES`.
+    Zeroes,
     /// Any other, which is not served.
     Other,
 }
@@ -56,9 +58,10 @@ impl Request {
         if u32_at(bytes, 0) != REQUEST_MAGIC {
             return None;
         }
+        let command = command_of(u16_at(bytes, 6));
         Some(Request {
-            flags: flags_of(u16_at(bytes, 4)),
-            command: command_of(u16_at(bytes, 6)),
+            flags: flags_of(command, u16_at(bytes, 4)),
+            command,
             cookie: Cookie(u64_at(bytes, 8)),
             offset: u64_at(bytes, 16),
             length: u32_at(bytes, 24),
@@ -76,16 +79,19 @@ fn command_of(number: u16) -> Command
         1 => Command::Write,
         2 => Command::Disconnect,
         3 => Command::Flush,
+        6 => Command::Zeroes,
         _ => Command::Other,
     }
 }
 
-/// The flags of a number.
-fn flags_of(number: u16) -> Flags
-    ensures found { AreFlags number result }
-    ensures only { (flags : FlagsValue) → AreFlags number flags → flags ≡ result }
+/// The flags of a number with a command. Zeros never leave a hole, so that they may be asked not to.
+fn flags_of(command: Command, number: u16) -> Flags
+    ensures found { AreFlags command number result }
+    ensures only { (flags : FlagsValue) → AreFlags command number flags → flags ≡ result }
 {
     match number {
+        2 if command == Command::Zeroes => Flags::None,
+        3 if command == Command::Zeroes => Flags::Durable,
         0 => Flags::None,
         1 => Flags::Durable,
         _ => Flags::Other,

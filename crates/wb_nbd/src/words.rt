@@ -46,8 +46,8 @@ pub(crate) const INFO_EXPORT: u16 = 0;
 
 pub(crate) const INFO_BLOCK_SIZE: u16 = 3;
 
-/// `NBD_FLAG_HAS_FLAGS`, `NBD_FLAG_SEND_FLUSH` and `NBD_FLAG_SEND_FUA`.
-pub(crate) const TRANSMISSION_FLAGS: u16 = 13;
+/// `NBD_FLAG_HAS_FLAGS`, `NBD_FLAG_SEND_FLUSH`, `NBD_FLAG_SEND_FUA` and `NBD_FLAG_SEND_WRITE_ZEROES`.
+pub(crate) const TRANSMISSION_FLAGS: u16 = 77;
 
 /// How many bytes an option's first part and a request have, before what follows them.
 pub(crate) const OPTION_BYTES: usize = 16;
@@ -57,5 +57,5 @@ pub(crate) const REQUEST_BYTES: usize = 28;
 /// The most bytes of an option that are looked at.
 pub(crate) const MOST_OPTION_BYTES: usize = 4096;
 
-/// The most bytes that one request may read or write: 32 MiB.
+/// The most bytes that one request may read or write, but for zeros: 32 MiB.
 pub const MOST_BYTES: u32 = 33_554_432;

@@ -27,7 +27,7 @@ struct Row {
 }
 
 /// Eight sectors are served, each full of its number.
-const ROWS: [Row; 10] = [
+const ROWS: [Row; 13] = [
     // a read gives the sectors that it names
     Row {
         sent: &[
@@ -183,6 +183,81 @@ const ROWS: [Row; 10] = [
             Part::Request(0, 2, 3, 0, 0),
         ],
         told: &[Part::Reply(22, 1), Part::Reply(22, 2)],
+        ended: Ok(()),
+        flushes: 0,
+    },
+    // zeros are written where they are asked for, also where they may leave no hole, and are durable where that is wanted
+    Row {
+        sent: &[
+            Part::Request(0, 6, 1, 1024, 512),
+            Part::Request(2, 6, 2, 2048, 1024),
+            Part::Request(0, 0, 3, 512, 2560),
+            Part::Request(3, 6, 4, 0, 512),
+            Part::Request(1, 6, 5, 3584, 512),
+            Part::Request(0, 0, 6, 3072, 1024),
+            Part::Request(0, 2, 7, 0, 0),
+        ],
+        told: &[
+            Part::Reply(0, 1),
+            Part::Reply(0, 2),
+            Part::Reply(0, 3),
+            Part::Sectors(1, 1),
+            Part::Sectors(0, 1),
+            Part::Sectors(3, 1),
+            Part::Sectors(0, 2),
+            Part::Reply(0, 4),
+            Part::Reply(0, 5),
+            Part::Reply(0, 6),
+            Part::Sectors(6, 1),
+            Part::Sectors(0, 1),
+        ],
+        ended: Ok(()),
+        flushes: 2,
+    },
+    // zeros past the end find no room; those of no whole sectors or of none, and those that have to be written fast, are not served
+    Row {
+        sent: &[
+            Part::Request(0, 6, 1, 3584, 1024),
+            Part::Request(0, 6, 2, 0, 0xfffffe00),
+            Part::Request(0, 6, 3, 0, 0xffffffff),
+            Part::Request(0, 6, 4, 0, 511),
+            Part::Request(0, 6, 5, 0, 0),
+            Part::Request(4, 6, 6, 0, 512),
+            Part::Request(16, 6, 7, 0, 512),
+            Part::Request(0, 0, 8, 0, 512),
+            Part::Request(0, 2, 9, 0, 0),
+        ],
+        told: &[
+            Part::Reply(28, 1),
+            Part::Reply(28, 2),
+            Part::Reply(28, 3),
+            Part::Reply(22, 4),
+            Part::Reply(22, 5),
+            Part::Reply(22, 6),
+            Part::Reply(22, 7),
+            Part::Reply(0, 8),
+            Part::Sectors(0, 1),
+        ],
+        ended: Ok(()),
+        flushes: 0,
+    },
+    // the flag by which zeros leave no hole is served with them alone, and trimming is not
+    Row {
+        sent: &[
+            Part::Request(2, 0, 1, 512, 512),
+            Part::Request(2, 1, 2, 512, 512),
+            Part::Sectors(1, 1),
+            Part::Request(0, 4, 3, 512, 512),
+            Part::Request(0, 0, 4, 512, 512),
+            Part::Request(0, 2, 5, 0, 0),
+        ],
+        told: &[
+            Part::Reply(22, 1),
+            Part::Reply(22, 2),
+            Part::Reply(22, 3),
+            Part::Reply(0, 4),
+            Part::Sectors(1, 1),
+        ],
         ended: Ok(()),
         flushes: 0,
     },

@@ -7,7 +7,7 @@ use std::alloc::Global;
 const VERSION: &str = "0.1.0, proved with rattle logic dac8208d650f15bf";
 
 const ABOUT: &str =
-    "Reads the metadata of a write-back cache over three files, and writes nothing.";
+    "Tells what lies on the metadata of a write-back cache over three files, or has what is dirty written home.";
 
 const TEXTS: &str = "\
 TABLE is one argument, words parted by spaces, as 'wbcache format' takes it:
@@ -18,6 +18,11 @@ the refusal that an opening would meet, as 'refused 11 Damaged 3', with the
 sector that is damaged.
 dump prints a line for each mapped block: '<cache block> <origin block>
 <clean|dirty> <hint>', and to a terminal how many blocks have each hint.
+check and dump write nothing.
+writeback writes all dirty blocks to the origin, prints 'ok <blocks>' and leaves
+the cache clean: then the origin can be used alone. It opens the cache in
+write-back, whatever the table says, and may be interrupted: what is left is
+written by the next call.
 All three files are locked meanwhile; what another program holds is refused.
 Status: 0 it can be opened, 1 it was refused, 2 the arguments, 3 a device
 failed or a file is held, 4 the output failed.";
@@ -29,6 +34,8 @@ pub enum Asked<'a> {
     Check(&'a str),
     /// To list what they map.
     Dump(&'a str),
+    /// To have all that is dirty written home.
+    Writeback(&'a str),
 }
 
 /// Reads the words of the command line, the program's name first; none where they ask for nothing. The error's kind is `DisplayHelp` or
@@ -38,6 +45,9 @@ pub fn read_arguments<'a>(alloc: Global, words: &'a [String]) -> Result<Option<A
     Ok(match matches.subcommand() {
         Some(("check", given)) => given.get_str("TABLE").map(|table| Asked::Check(table)),
         Some(("dump", given)) => given.get_str("TABLE").map(|table| Asked::Dump(table)),
+        Some(("writeback", given)) => {
+            given.get_str("TABLE").map(|table| Asked::Writeback(table))
+        }
         _ => None,
     })
 }
@@ -55,7 +65,12 @@ fn command<'a>(alloc: Global) -> Result<Command<'a>, Error> {
                 "check",
                 "Tell whether the cache can be opened, and how it stands",
             )?)?
-            .subcommand(with_table(alloc, "dump", "List the blocks that are cached")?)?,
+            .subcommand(with_table(alloc, "dump", "List the blocks that are cached")?)?
+            .subcommand(with_table(
+                alloc,
+                "writeback",
+                "Write all dirty blocks to the origin, and leave the cache clean",
+            )?)?,
     )
 }
 

@@ -1,11 +1,13 @@
-//! What lies on a cache's metadata: whether it can be opened, and which blocks are cached.
+//! What lies on a cache's metadata: whether it can be opened, and which blocks are cached; and having what is dirty written home.
 #![tactic(auto)]
 
 mod arguments;
+mod draining;
 mod found;
 mod telling;
 
 use crate::arguments::{Asked, read_arguments};
+use crate::draining::{Drain, cleaning};
 use crate::found::{Counted, Found, count, read_metadata};
 use crate::telling::{MOST_HELD, Untold, dump, summarize, tell};
 use clap::Error;
@@ -13,13 +15,17 @@ use clap::error::ErrorKind;
 use std::alloc::Global;
 use std::io::{BufWriter, IsTerminal, Write};
 use std::process::ExitCode;
+use std::sync::Wait;
+use std::thread::Threads;
 use std::{env, io};
 use wb_disk::Disk;
 use wb_files::{Alarm, Hurry, hold_streams, open_table};
+use wb_opened::{Unserved, serve_all};
+use wb_table::read_table;
 use wb_types::{Geometry, Mode, Refusal};
 
 /// What is asked of who calls the program otherwise.
-const USAGE: &str = "usage: wbmeta check TABLE | dump TABLE";
+const USAGE: &str = "usage: wbmeta check TABLE | dump TABLE | writeback TABLE";
 
 /// The exit status of a refusal.
 const REFUSED: u8 = 1;
@@ -33,13 +39,13 @@ const STREAM_FAILED: u8 = 4;
 fn main(rt: HostRuntime) -> ExitCode {
     // Before any file is opened.
     match hold_streams(&rt) {
-        Ok(_held) => ExitCode::from(serve(&rt)),
+        Ok(_held) => ExitCode::from(serve(&rt, &rt)),
         Err(_) => ExitCode::from(STREAM_FAILED),
     }
 }
 
-/// Does what the arguments ask, and gives the exit status.
-fn serve(rt: &HostRuntime) -> u8 {
+/// Does what the arguments ask, and gives the exit status. Who waits or starts threads does so by the second handle.
+fn serve<T: Threads + Wait + Eprint + Sync>(rt: &HostRuntime, waits: &T) -> u8 {
     let alloc = rt.alloc();
     let words = match env::args(rt) {
         Ok(words) => words,
@@ -52,6 +58,7 @@ fn serve(rt: &HostRuntime) -> u8 {
     match read_arguments(alloc, words.as_slice()) {
         Ok(Some(Asked::Check(table))) => read(rt, table, false),
         Ok(Some(Asked::Dump(table))) => read(rt, table, true),
+        Ok(Some(Asked::Writeback(table))) => write_back(rt, waits, table),
         Ok(None) => usage(rt),
         Err(error) => no_task(rt, &error),
     }
@@ -84,6 +91,61 @@ fn read(rt: &HostRuntime, text: &str, lists: bool) -> u8 {
         (Ok(code), Ok(())) => code,
         (Err(Untold::Memory), _) => no_memory(rt),
         _ => STREAM_FAILED,
+    }
+}
+
+/// Has all dirty blocks over the files of a table written home and the cache left clean, tells how many, and gives the exit status.
+fn write_back<T: Threads + Wait + Eprint + Sync>(rt: &HostRuntime, waits: &T, text: &str) -> u8 {
+    let mut writer = rt.stdout();
+    let told = match read_table(text) {
+        Ok(table) => match cleaning(rt.alloc(), &table) {
+            Ok(text) => drain(rt, waits, text.as_str()),
+            Err(_) => return no_memory(rt),
+        },
+        Err(_) => {
+            let _ = eprintln!(rt; "wbmeta: the table cannot be read");
+            Err(Refusal::BadTable)
+        }
+    };
+    let printed = match told {
+        Ok(blocks) => {
+            let said = writeln!(writer, "ok {blocks}");
+            said.map(|_| 0)
+        }
+        Err(refusal) => {
+            let said = writeln!(writer, "refused {refusal}");
+            said.map(|_| status_of(refusal))
+        }
+    };
+    match printed {
+        Ok(code) => code,
+        Err(_) => STREAM_FAILED,
+    }
+}
+
+/// Opens the cache of a table, and has what is dirty written home: how many blocks that was. A suspend leaves it clean.
+fn drain<T: Threads + Wait + Eprint + Sync>(
+    rt: &HostRuntime,
+    waits: &T,
+    text: &str,
+) -> Result<u32, Refusal> {
+    let alarm = Alarm::new(waits, "wbmeta");
+    let mut services = Vec::new(rt.alloc());
+    let service = Drain {
+        rt: waits,
+        is_shown: rt.stderr().is_terminal(),
+    };
+    services.push(service).map_err(|_| Refusal::Memory)?;
+    match serve_all(rt, waits, rt.alloc(), text, &mut Hurry, &alarm, services) {
+        Ok((told, suspended)) => match told.as_slice() {
+            [Ok(Ok(blocks))] => suspended.map(|_| *blocks),
+            [Ok(Err(refusal)) | Err(refusal)] => Err(*refusal),
+            _ => Err(Refusal::Memory),
+        },
+        Err(unserved) => {
+            let _ = eprintln!(waits; "wbmeta: {unserved}");
+            Err(unserved.refusal())
+        }
     }
 }
 
@@ -135,10 +197,15 @@ impl Reading {
 /// Prints a refusal, and gives the exit status.
 fn refuse<W: Write>(alloc: Global, refusal: Refusal, writer: &mut W) -> Result<u8, Untold> {
     tell(alloc, Err(refusal), writer)?;
-    Ok(match refusal {
+    Ok(status_of(refusal))
+}
+
+/// The exit status of a refusal.
+fn status_of(refusal: Refusal) -> u8 {
+    match refusal {
         Refusal::Io(_) => DEVICE_FAILED,
         _ => REFUSED,
-    })
+    }
 }
 
 /// Gives help or the version where they are asked for, and else says what the program takes.
