@@ -22,8 +22,9 @@ one_root_spelling s t root p q =
     let h6 = b 32 36 h5 (f 32 4 _ p.geometry.origin_blocks q.geometry.origin_blocks) in
     let h7 = b 36 40 h6 (f 36 4 _ p.geometry.meta_sectors q.geometry.meta_sectors) in
     let h8 = b 40 44 h7 (f 40 4 _ p.top q.top) in
-    let h9 = b 44 512 h8 (zero-same s t 44 512 p.bytes q.bytes (omega arith) p.rest q.rest) in
-    same_sectors s t p.bytes q.bytes h9
+    let h9 = b 44 48 h8 (f 44 4 _ p.top_dirty q.top_dirty) in
+    let h10 = b 48 512 h9 (zero-same s t 48 512 p.bytes q.bytes (omega arith) p.rest q.rest) in
+    same_sectors s t p.bytes q.bytes h10
 
 -- the words that come first
 words_same : (s t words : List ℕ) → IsSector s → IsSector t → HasWords s words → HasWords t words → (n : ℕ) → n ≤ 32 → SameBytes s t 32 (32 + 8 * n)

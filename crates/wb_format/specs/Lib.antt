@@ -1,4 +1,5 @@
 pub mod Bytes
 pub mod NodeWords
 pub mod Sizes
+pub mod Letters
 pub mod Layout

@@ -1,15 +1,21 @@
--- The sizes, the version and the top node in a root.
-use Rattle.std.specs.Prelude.{◌≡◌, ◌≤◌, ◌<◌, ℕ, List, Option, Some, None}
+-- The sizes, the version and the top nodes in a root.
+use Rattle.std.specs.Prelude.{◌≡◌, ◌≤◌, ◌<◌, ℕ, Bool, true, List, Option, Some, None}
 use Rattle.wb_types.specs.declared.geometry.Geometry.{Geometry}
 use Rattle.wb_types.specs.Versions.{version_number}
+use Rattle.wb_types.specs.declared.version.Version.{Version}
+use Rattle.wb_types.specs.declared.version.Version.TheVariants.{Two}
 use Rattle.wb_types.specs.declared.number.Place.{Place}
 use Rattle.wb_format.specs.Bytes.{number_at}
 
--- where the top node may stand on a device of so many sectors: in none of the two slots
+-- where a top node may stand on a device of so many sectors: in none of the two slots
 abbrev pub IsTop : ℕ → Option Place → Type 0
 IsTop meta_sectors top = (place : Place) → top ≡ Some place → (2 ≤ place.0) × (place.0 < meta_sectors)
 
--- the place of the top node, 0 for an empty mapping
+-- a root may name a tree of dirty bits: one of the second version with the clean flag
+abbrev pub MayNameDirty : Version → Bool → Option Place → Type 0
+MayNameDirty version clean top_dirty = (place : Place) → top_dirty ≡ Some place → (version_number version ≡ version_number Two) × (clean ≡ true)
+
+-- the place of a top node, 0 where there is none
 abbrev pub top_number : Option Place → ℕ
 top_number None = 0
 top_number (Some place) = place.0

@@ -1,10 +1,10 @@
 //! Roots.
 
-ghost use Rattle.std.specs.Prelude.{◌≡◌, ◌%◌, IfSome, Bool, Option, cond};
+ghost use Rattle.std.specs.Prelude.{◌≡◌, ◌%◌, ◌↔◌, IfSome, IsTrue, Bool, Option, cond};
 ghost use Rattle.wb_types.specs.declared.geometry.Geometry.{Geometry as GeometryValue};
 ghost use Rattle.wb_types.specs.declared.number.Place.{Place as PlaceValue};
 ghost use Rattle.wb_types.specs.Versions.{version_number};
-ghost use Rattle.wb_format.specs.Sizes.{IsTop, SpellsGeometry, top_number};
+ghost use Rattle.wb_format.specs.Sizes.{IsTop, MayNameDirty, SpellsGeometry, top_number};
 
 use crate::bytes::{is_zero, put_u32, put_u64, u32_at, u64_at};
 use wb_types::{Content, Geometry, Place, SECTOR_BYTES, Version};
@@ -12,7 +12,7 @@ use wb_types::{Content, Geometry, Place, SECTOR_BYTES, Version};
 /// The letters `WBCROOT1`.
 const MAGIC: [u8; 8] = *b"WBCROOT1";
 
-/// A root: which mapping the metadata device stands for.
+/// A root: which mapping the metadata device stands for, and in the second version which of its blocks are dirty.
 #[derive(Clone, Copy, Debug, PartialEq, Eq)]
 pub struct Root {
     /// The number of this root: 0 from formatting, and one more with each root that follows.
@@ -24,8 +24,13 @@ pub struct Root {
     pub geometry: Geometry,
     /// Where the top node of the mapping tree stands, from 2 to the last sector; none for an empty mapping.
     pub top: Option<Place>,
+    /// Where the top node of the tree of dirty bits stands, from 2 to the last sector; none where no bit is set, in the
+    /// first version, and without the clean flag.
+    pub top_dirty: Option<Place>,
     pub ghost same_version: { version_number version ≡ version_number geometry.version },
     pub ghost top_inside: { IsTop geometry.meta_sectors top },
+    pub ghost dirty_inside: { IsTop geometry.meta_sectors top_dirty },
+    pub ghost dirty_clean: { MayNameDirty version clean top_dirty },
 }
 
 impl Root {
@@ -37,18 +42,23 @@ impl Root {
         ensures found { IfSome result (SpellsRoot content.now) }
         ensures only { (root : RootValue) → SpellsRoot content.now root → result ≡ Some root }
     {
-        if u64_at(content, 0) != u64::from_le_bytes(MAGIC) || !is_zero(content, 44, SECTOR_BYTES) {
+        if u64_at(content, 0) != u64::from_le_bytes(MAGIC) || !is_zero(content, 48, SECTOR_BYTES) {
             return None;
         }
         let clean = flag_of(u32_at(content, 20))?;
         let geometry = geometry_at(content)?;
         let top = top_of(u32_at(content, 40), geometry.meta_sectors)?;
+        let top_dirty = top_of(u32_at(content, 44), geometry.meta_sectors)?;
+        if !may_name_dirty(geometry.version, clean, top_dirty) {
+            return None;
+        }
         Some(Root {
             generation: u64_at(content, 8),
             version: geometry.version,
             clean,
             geometry,
             top,
+            top_dirty,
         })
     }
 
@@ -66,6 +76,7 @@ impl Root {
         put_u32(content, 32, self.geometry.origin_blocks);
         put_u32(content, 36, self.geometry.meta_sectors);
         put_u32(content, 40, number_of_top(self.top));
+        put_u32(content, 44, number_of_top(self.top_dirty));
     }
 
     /// The slot, 0 or 1, of a root of this generation.
@@ -93,18 +104,25 @@ fn geometry_at(content: &Content) -> Option<Geometry>
     ensures found { IfSome result (SpellsGeometry content.now) }
     ensures only { (geometry : GeometryValue) → SpellsGeometry content.now geometry → result ≡ Some geometry }
 {
-    let Version::One = Version::of(u32_at(content, 16))?;
+    let version = u32_at(content, 16);
     let block = u64::from(u32_at(content, 24));
     let cache_blocks = u64::from(u32_at(content, 28));
     let origin_blocks = u64::from(u32_at(content, 32));
     let meta_sectors = u64::from(u32_at(content, 36));
-    match Geometry::new(block, cache_blocks, origin_blocks, meta_sectors) {
+    match Geometry::with_version(block, cache_blocks, origin_blocks, meta_sectors, version) {
         Ok(geometry) => Some(geometry),
         Err(_) => None,
     }
 }
 
-/// The place of the top node by its number, 0 being that there is none; nothing where that is no place for a
+/// Whether a root of a version, clean or not, may name this top of a tree of dirty bits.
+fn may_name_dirty(version: Version, clean: bool, top_dirty: Option<Place>) -> bool
+    ensures { IsTrue result ↔ MayNameDirty version clean top_dirty }
+{
+    top_dirty.is_none() || version == Version::Two && clean
+}
+
+/// The place of a top node by its number, 0 being that there is none; nothing where that is no place for a
 /// node on a device of so many sectors.
 fn top_of(number: u32, meta_sectors: u32) -> Option<Option<Place>>
     ensures found { IfSome result (λ top. number ≡ top_number top) }
@@ -120,7 +138,7 @@ fn top_of(number: u32, meta_sectors: u32) -> Option<Option<Place>>
     Some(Some(Place(number)))
 }
 
-/// The number of the place of the top node.
+/// The number of the place of a top node.
 fn number_of_top(top: Option<Place>) -> u32
     ensures { result ≡ top_number top }
 {

@@ -9,5 +9,6 @@ pub mod LoaderSteps
 pub mod MappingRead
 pub mod NodeSteps
 pub mod PlacedLists
+pub mod RightNodes
 pub mod ReachedLemmas
 pub mod Steps

@@ -1,11 +1,12 @@
 -- What an image of a tree is, and how sectors of a device store what is known of a tree.
-use Rattle.std.specs.Prelude.{◌≡◌, ◌↔◌, ◌⊎◌, ◌≤◌, ◌<◌, ◌+◌, ◌*◌, ℕ, zero, suc, Bool, Option, Some, None, All, List, [], length, map, take, slice_get, slice_index, Contains}
+use Rattle.std.specs.Prelude.{◌≡◌, ◌↔◌, ◌⊎◌, ◌≤◌, ◌<◌, ◌+◌, ◌*◌, ℕ, zero, suc, Bool, false, Option, Some, None, All, List, [], length, map, take, slice_get, slice_index, Contains}
 use Rattle.wb_types.specs.declared.number.Place.{Place}
 use Rattle.wb_types.specs.declared.geometry.Geometry.{Geometry}
+use Rattle.wb_types.specs.declared.version.Version.{Version}
 use Rattle.wb_types.specs.Limits.{depth_of, node_count}
 use Rattle.wb_format.specs.declared.node.Node.{Node}
 use Rattle.wb_format.specs.Layout.{SpellsNode}
-use Rattle.wb_format.specs.NodeWords.{entry_word}
+use Rattle.wb_format.specs.NodeWords.{entry_word, kept}
 use Rattle.wb_tree.specs.declared.image.Image.{Image}
 use Rattle.wb_tree.specs.Mapping.{Mapping, NodeName, IsPlaceOf, entry_at, place_of, used_places, changed}
 use Rattle.wb_tree.specs.Reading.{Nodes}
@@ -27,6 +28,10 @@ name_of node = record { level = node.level; index = node.index }
 -- a node has the words of the tree at its place in it
 abbrev pub HasWordsOf : Mapping → Node → Type 0
 HasWordsOf m node = (j : ℕ) → j < 32 → slice_index node.words j ≡ word_at m node.level node.index j
+
+-- the tree with what the words of a version keep of its entries
+abbrev pub kept_tree : Version → Mapping → Mapping
+kept_tree version m = record { entries = map (kept version) m.entries; known = m.known }
 
 -- A list of places from which an image may take its own: enough for the nodes that changed, behind the slots, on the
 -- device, none twice, and none at which a node of the tree stands.
@@ -67,7 +72,8 @@ pub record IsImage (m n : Mapping) (plan : ImagePlan) (image : Image) : Type 0 w
   -- each node that is written stands at its place
   pub stands : All (λ node. place_of n node.1.level node.1.index ≡ Some node.0) image.nodes.items
   pub generations : All (λ node. node.1.generation ≡ plan.generation) image.nodes.items
-  pub words : All (λ node. HasWordsOf n node.1) image.nodes.items
+  pub mappings : All (λ node. node.1.dirty ≡ false) image.nodes.items
+  pub words : All (λ node. HasWordsOf (kept_tree plan.geometry.version n) node.1) image.nodes.items
   -- the used places are those of all nodes, each once, and as many at most as a tree of this size can have nodes
   pub used : AreUsed plan.geometry.cache_blocks n
   -- a node that was not known before is one of those that are written
@@ -78,9 +84,10 @@ pub record IsImage (m n : Mapping) (plan : ImagePlan) (image : Image) : Type 0 w
   pub root_geometry : image.root.geometry ≡ plan.geometry
   pub root_top : image.root.top ≡ place_of n (levels_of plan) 0
 
--- A node is the one that the tree has at this level and index: it has that name, the words of the tree, and a
--- generation that is not above this one.
+-- A node is the one that the tree has at this level and index: it is of the mapping, it has that name, the words of the tree,
+-- and a generation that is not above this one.
 pub record IsNodeOf (m : Mapping) (generation level index : ℕ) (node : Node) : Type 0 where
+  pub mapping : node.dirty ≡ false
   pub name : name_of node ≡ record { level = level; index = index }
   pub not_newer : node.generation ≤ generation
   pub words : HasWordsOf m node

@@ -1,13 +1,14 @@
 -- Which nodes an image writes to which places.
-use Rattle.std.specs.Prelude.{◌≡◌, ◌≤◌, ℕ, Some, None, All, List, [], ◌∷◌, ◌++◌, length, map, take, slice_get, slice_index_or}
+use Rattle.std.specs.Prelude.{◌≡◌, ◌≤◌, ℕ, false, Some, None, All, List, [], ◌∷◌, ◌++◌, length, map, take, slice_get, slice_index_or}
 use Rattle.wb_types.specs.declared.entry.Entry.{Entry}
+use Rattle.wb_types.specs.declared.version.Version.{Version}
 use Rattle.wb_types.specs.declared.number.Place.{Place}
 use Rattle.wb_types.specs.Limits.{depth_of}
 use Rattle.wb_format.specs.declared.node.Node.{Node}
 use Rattle.wb_format.specs.NodeWords.{IsEntry}
 use Rattle.wb_tree.specs.declared.placed.PlacedNode.{PlacedNode}
 use Rattle.wb_tree.specs.Mapping.{Mapping, NodeName, IsSound, IsPlaceOf, place_of, nodes_below, changed, changed_of}
-use Rattle.wb_tree.specs.Images.{HasWordsOf, name_of}
+use Rattle.wb_tree.specs.Images.{HasWordsOf, kept_tree, name_of}
 
 -- each node with the place that comes at its position
 abbrev pub placed : List NodeName → List Place → List PlacedNode
@@ -47,13 +48,15 @@ pub record MayPlan (m : Mapping) (free : List Place) : Type 0 where
   pub behind : (i : ℕ) (place : Place) → slice_get free i ≡ Some place → 2 ≤ place.0
   pub known_behind : (place : Place) → IsPlaceOf m place → 2 ≤ place.0
 
--- a node as an image of a tree has it: at its place, of the image's generation, and with the words of the tree
-pub record IsWritten (m : Mapping) (generation : ℕ) (node : Place × Node) : Type 0 where
+-- A node as an image of a tree has it: at its place, of the image's generation, of the mapping, and with the words of the tree
+-- as the image's version keeps it.
+pub record IsWritten (version : Version) (m : Mapping) (generation : ℕ) (node : Place × Node) : Type 0 where
   pub stands : place_of m node.1.level node.1.index ≡ Some node.0
   pub written_in : node.1.generation ≡ generation
-  pub words : HasWordsOf m node.1
+  pub mapping : node.1.dirty ≡ false
+  pub words : HasWordsOf (kept_tree version m) node.1
 
 -- nodes of an image of a tree, at the first of these places
-pub record AreWritten (m : Mapping) (generation : ℕ) (free : List Place) (nodes : List (Place × Node)) : Type 0 where
+pub record AreWritten (version : Version) (m : Mapping) (generation : ℕ) (free : List Place) (nodes : List (Place × Node)) : Type 0 where
   pub places : map (λ node. node.0) nodes ≡ take (length nodes) free
-  pub each : All (IsWritten m generation) nodes
+  pub each : All (IsWritten version m generation) nodes

@@ -6,23 +6,24 @@ use Rattle.std.specs.Prelude.{◌≡◌, ◌<◌, ◌+◌, ◌*◌, ◌/◌, ◌
 use Rattle.wb_types.specs.declared.entry.Entry.{Entry}
 use Rattle.wb_types.specs.declared.number.Place.{Place}
 use Rattle.wb_types.specs.Limits.{depth_of}
+use Rattle.wb_types.specs.declared.version.Version.{Version}
 use Rattle.wb_format.specs.declared.node.Node.{Node}
 use Rattle.wb_format.specs.declared.root.Root.{Root}
-use Rattle.wb_format.specs.Layout.{SpellsNode, IsValidIn}
+use Rattle.wb_format.specs.Layout.{SpellsNodeOf, IsValidIn}
 use Rattle.wb_tree.specs.declared.placed.PlacedNode.{PlacedNode}
 
--- what the sectors of a device read as: at each place the node that is spelled there, if one is
+-- what the sectors of a device read as: at each place the node of its version that is spelled there, if one is
 abbrev pub Nodes : Type 0
 Nodes = ℕ → Option Node
 
--- a sector reads so
-abbrev pub ReadsAs : List ℕ → Option Node → Type 0
-ReadsAs sector None = (node : Node) → ¬ SpellsNode sector node
-ReadsAs sector (Some node) = SpellsNode sector node
+-- a sector reads so in metadata of this version
+abbrev pub ReadsAs : Version → List ℕ → Option Node → Type 0
+ReadsAs version sector None = (node : Node) → ¬ SpellsNodeOf version sector node
+ReadsAs version sector (Some node) = SpellsNodeOf version sector node
 
 -- the sectors read so
-abbrev pub AreNodes : List (List ℕ) → Nodes → Type 0
-AreNodes sectors nodes = (place : ℕ) (sector : List ℕ) → slice_get sectors place ≡ Some sector → ReadsAs sector (nodes place)
+abbrev pub AreNodes : Version → List (List ℕ) → Nodes → Type 0
+AreNodes version sectors nodes = (place : ℕ) (sector : List ℕ) → slice_get sectors place ≡ Some sector → ReadsAs version sector (nodes place)
 
 -- what has been read: the nodes in the order in which they were reached, the entries, and of each origin block
 -- whether it stands in one of them
@@ -81,9 +82,9 @@ child_read root here level index read word found =
     if word == 0 then Ok found
     else (if names_child root found.reached level index word then read index (record { 0 = word }) found else Err here)
 
--- a node is one that the tree has here: of this level and index, and not newer than the root
+-- a node is one that the mapping has here: none of dirty bits, of this level and index, and not newer than the root
 abbrev pub is_node_of : Root → ℕ → ℕ → Node → Bool
-is_node_of root level index node = (node.level == level) && (node.index == index) && nat_le node.generation root.generation
+is_node_of root level index node = not node.dirty && (node.level == level) && (node.index == index) && nat_le node.generation root.generation
 
 -- one node more was reached
 abbrev pub reached_at : ℕ → ℕ → Place → Found → Found

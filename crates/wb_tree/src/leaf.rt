@@ -32,7 +32,7 @@ pub(crate) fn read_entries(
         ≡ Err leaf.place) }
 {
     for j in 0..32 {
-        if let Some(entry) = entry_in_word(words[j], root.version) {
+        if let Some(entry) = entry_in_word(words[j]) {
             let block = 32 * u64::from(leaf.index) + j as u64;
             if !may_map(root, mapped, block, entry) {
                 return Err(Refusal::Damaged(leaf.place));
@@ -45,12 +45,12 @@ pub(crate) fn read_entries(
     Ok(())
 }
 
-/// The entry in a word that a leaf may have.
-fn entry_in_word(word: u64, version: Version) -> Option<Entry>
+/// The entry in a word that a leaf may have. No leaf of the second version has a dirty bit in a word.
+fn entry_in_word(word: u64) -> Option<Entry>
     requires { IsLeafWord word }
     ensures { result ≡ entry_in word }
 {
-    match entry_of(word, version) {
+    match entry_of(word, Version::One) {
         Some(entry) => entry,
         None => None,
     }

@@ -185,9 +185,12 @@ fn top_of(root: &Root) -> Option<PlacedNode>
     }
 }
 
-/// Whether a node is the one that is wanted, and not newer than the root.
+/// Whether a node is the one of the mapping that is wanted, and not newer than the root.
 fn is_node_of(root: &Root, wanted: PlacedNode, node: &Node) -> bool
     ensures { result ≡ is_right_node root.now wanted.level wanted.index node.now }
 {
-    node.level == wanted.level && node.index == wanted.index && node.generation <= root.generation
+    !node.dirty
+        && node.level == wanted.level
+        && node.index == wanted.index
+        && node.generation <= root.generation
 }

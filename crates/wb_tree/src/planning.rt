@@ -1,11 +1,11 @@
 //! The nodes that an image writes.
 
-ghost use Rattle.std.specs.Prelude.{◌≡◌, ◌≤◌, ◌<◌, ◌+◌, ◌-◌, ◌*◌, ◌^◌, ◌++◌, ℕ, Some, None, IfOk, OnOk, IfErr, slice_index, slice_index_or};
+ghost use Rattle.std.specs.Prelude.{◌≡◌, ◌≤◌, ◌<◌, ◌+◌, ◌-◌, ◌*◌, ◌^◌, ◌++◌, ℕ, false, Some, None, IfOk, OnOk, IfErr, slice_index, slice_index_or};
 ghost use Rattle.wb_types.specs.declared.entry.Entry.{Entry as EntryValue};
 ghost use Rattle.wb_types.specs.declared.refusal.Refusal.TheVariants.{Memory as OutOfMemory};
-ghost use Rattle.wb_format.specs.NodeWords.{IsEntry, IsLeafWord, IsNodeWord, entry_word};
+ghost use Rattle.wb_format.specs.NodeWords.{IsEntry, IsLeafWord, IsNodeWord, entry_word, kept};
 ghost use Rattle.wb_tree.specs.Mapping.{each_from, place_of, entry_at as entry_of};
-ghost use Rattle.wb_tree.specs.Images.{word_at, place_word};
+ghost use Rattle.wb_tree.specs.Images.{kept_tree, word_at, place_word};
 ghost use Rattle.wb_tree.specs.Planning.{names, planned, levels, changed_below, AreWritten, Begins, MayPlan};
 
 use crate::Tree;
@@ -39,11 +39,11 @@ pub(crate) fn plan_node<A: Allocator + Clone>(
     requires level_most { level ≤ 4 }
     requires index { index < 32 ^ (levels plan.now.tree.now - level) }
     requires next { Begins plan.now.tree.now (names nodes.old.items ++ changed_below plan.now.tree.now level index) }
-    requires planned { AreWritten (planned plan.now.tree.now plan.now.free.now) plan.now.generation
+    requires planned { AreWritten plan.now.version (planned plan.now.tree.now plan.now.free.now) plan.now.generation
         plan.now.free.now nodes.old.items }
     ensures names { OnOk result (names nodes.new.items
         ≡ names nodes.old.items ++ changed_below plan.now.tree.now level index) }
-    ensures planned { OnOk result (AreWritten (planned plan.now.tree.now plan.now.free.now) plan.now.generation
+    ensures planned { OnOk result (AreWritten plan.now.version (planned plan.now.tree.now plan.now.free.now) plan.now.generation
         plan.now.free.now nodes.new.items) }
     ensures place { IfOk result (λ place. place
         ≡ place_of (planned plan.now.tree.now plan.now.free.now) level index) }
@@ -61,6 +61,7 @@ pub(crate) fn plan_node<A: Allocator + Clone>(
         place,
         Node {
             generation: plan.generation,
+            dirty: false,
             level,
             index,
             words,
@@ -86,15 +87,15 @@ fn plan_words<A: Allocator + Clone>(
     requires before { index < 2 ^ 20 }
     requires next { Begins plan.now.tree.now (names nodes.old.items
         ++ each_from (changed_below plan.now.tree.now (level - 1)) 32 (32 * index)) }
-    requires planned { AreWritten (planned plan.now.tree.now plan.now.free.now) plan.now.generation
+    requires planned { AreWritten plan.now.version (planned plan.now.tree.now plan.now.free.now) plan.now.generation
         plan.now.free.now nodes.old.items }
     ensures names { OnOk result (names nodes.new.items
         ≡ names nodes.old.items ++ each_from (changed_below plan.now.tree.now (level - 1)) 32 (32 * index)) }
-    ensures planned { OnOk result (AreWritten (planned plan.now.tree.now plan.now.free.now) plan.now.generation
+    ensures planned { OnOk result (AreWritten plan.now.version (planned plan.now.tree.now plan.now.free.now) plan.now.generation
         plan.now.free.now nodes.new.items) }
     ensures words { IfOk result (λ words. (j : ℕ) → j < 32 → slice_index words j
-        ≡ word_at (planned plan.now.tree.now plan.now.free.now) level index j) }
-    ensures spelled { IfOk result (λ words. (j : ℕ) → IsNodeWord level (slice_index words j)) }
+        ≡ word_at (kept_tree plan.now.version (planned plan.now.tree.now plan.now.free.now)) level index j) }
+    ensures spelled { IfOk result (λ words. (j : ℕ) → IsNodeWord false level (slice_index words j)) }
     ensures refused { IfErr result (λ refusal. refusal ≡ OutOfMemory) }
 {
     if level == 1 {
@@ -108,11 +109,11 @@ fn plan_words<A: Allocator + Clone>(
     Ok(words)
 }
 
-/// The words of a leaf.
+/// The words of a leaf in metadata of a version.
 fn leaf_words<A: Allocator + Clone>(tree: &Tree<A>, index: u32, version: Version) -> [u64; 32]
     requires index { index < 2 ^ 20 }
     requires entries { (block : ℕ) (entry : EntryValue) → entry_of tree.now block ≡ Some entry → IsEntry entry }
-    ensures words { (j : ℕ) → j < 32 → slice_index result j ≡ entry_word (entry_of tree.now (32 * index + j)) }
+    ensures words { (j : ℕ) → j < 32 → slice_index result j ≡ entry_word (kept version (entry_of tree.now (32 * index + j))) }
     ensures spelled { (j : ℕ) → IsLeafWord (slice_index result j) }
 {
     let mut words = [0; 32];

@@ -259,6 +259,7 @@ impl<A: Allocator + Clone> Tree<A> {
             clean,
             geometry: *geometry,
             top,
+            top_dirty: None,
         };
         Ok(Image { root, nodes })
     }

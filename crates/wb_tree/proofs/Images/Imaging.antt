@@ -1,5 +1,5 @@
 -- When a root and nodes are the image of a tree.
-use Rattle.std.proofs.Common.{◌≡◌, ◌≤◌, ◌+◌, ◌∙◌, ℕ, Bool, List, [], Some, map, take, length, arith}
+use Rattle.std.proofs.Common.{◌≡◌, ◌≤◌, ◌+◌, ◌∙◌, ℕ, Bool, false, List, [], Some, map, take, length, arith}
 use Rattle.std.specs.Prelude.{◌⊎◌, All, Contains}
 use Rattle.std.proofs.lemmas.List.{length-map}
 use Rattle.wb_types.specs.Limits.{depth_of, node_count}
@@ -9,7 +9,7 @@ use Rattle.wb_format.specs.declared.node.Node.{Node}
 use Rattle.wb_tree.specs.declared.image.Image.{Image}
 use Rattle.wb_tree.specs.declared.placed.PlacedNode.{PlacedNode}
 use Rattle.wb_tree.specs.Mapping.{Mapping, IsSound, IsPlaceOf, place_of, used_places, changed}
-use Rattle.wb_tree.specs.Images.{AreUsed, HasWordsOf, IsImage, name_of}
+use Rattle.wb_tree.specs.Images.{AreUsed, HasWordsOf, IsImage, kept_tree, name_of}
 use Rattle.wb_tree.specs.Fields.{AreApart}
 use Rattle.wb_tree.proofs.Nodes.Knowing.{used-are, used-once}
 
@@ -21,7 +21,8 @@ pub record WritesChanged (m n : Mapping) (geometry : Geometry) (generation : ℕ
   pub places_are : map (λ node. node.0) nodes ≡ take (length nodes) free
   pub stands : All (λ node. place_of n node.1.level node.1.index ≡ Some node.0) nodes
   pub generations : All (λ node. node.1.generation ≡ generation) nodes
-  pub words : All (λ node. HasWordsOf n node.1) nodes
+  pub mappings : All (λ node. node.1.dirty ≡ false) nodes
+  pub words : All (λ node. HasWordsOf (kept_tree geometry.version n) node.1) nodes
 
 -- the places of a sound tree of which no node comes twice
 pub used-places : (m : Mapping) (cache_blocks : ℕ) → IsSound m → AreApart m.known → length m.known ≤ node_count cache_blocks → AreUsed cache_blocks m
@@ -45,6 +46,7 @@ image-is m n geometry generation clean free image written none used comes more g
   places_are = written.places_are;
   stands = written.stands;
   generations = written.generations;
+  mappings = written.mappings;
   words = written.words;
   used = used;
   comes = comes;

@@ -1,5 +1,5 @@
 -- The nodes that are planned, one after the other.
-use Rattle.std.proofs.Common.{◌≡◌, ◌≤◌, ◌<◌, ◌+◌, ◌-◌, ◌*◌, ◌/◌, ◌^◌, ◌&&◌, ◌==◌, ◌∙◌, sym, ap, subst, refl, ℕ, zero, suc, true, false, is_some, List, [], ◌∷◌, ◌++◌, Option, Some, None, take, length, get_or, append_assoc, arith, inl, inr}
+use Rattle.std.proofs.Common.{◌≡◌, ◌≤◌, ◌<◌, ◌+◌, ◌-◌, ◌*◌, ◌/◌, ◌^◌, ◌&&◌, ◌==◌, ◌∙◌, sym, ap, subst, refl, ℕ, zero, suc, true, false, is_some, List, [], ◌∷◌, ◌++◌, Option, Some, None, map, take, length, get_or, append_assoc, arith, inl, inr}
 use Rattle.std.specs.Prelude.{IsSome, slice_get, slice_index_or}
 use Rattle.std.specs.List.{AllByRecursion}
 use Rattle.std.proofs.lemmas.Bool.{cases_Bool}
@@ -8,10 +8,13 @@ use Rattle.std.proofs.lemmas.List.Elements.{All-push}
 use Rattle.std.proofs.lemmas.Option.{get_or_from_slice_get, slice_get-get_or}
 use Rattle.std.proofs.Math.Nat.{pow-succ'}
 use Rattle.wb_types.specs.declared.number.Place.{Place}
+use Rattle.wb_types.specs.declared.version.Version.{Version}
+use Rattle.wb_types.specs.declared.version.Version.TheVariants.{One, Two}
 use Rattle.wb_format.specs.declared.node.Node.{Node}
-use Rattle.wb_format.specs.NodeWords.{IsInnerWord, entry_word}
+use Rattle.wb_types.specs.declared.entry.Entry.{Entry}
+use Rattle.wb_format.specs.NodeWords.{IsInnerWord, entry_word, kept}
 use Rattle.wb_tree.specs.Mapping.{Mapping, NodeName, IsSound, exists, each_from, nodes_below, nodes_of, changed, changed_of, place_in, place_of}
-use Rattle.wb_tree.specs.Images.{name_of, word_at, place_word}
+use Rattle.wb_tree.specs.Images.{kept_tree, name_of, word_at, place_word}
 use Rattle.wb_tree.specs.Planning.{placed, planned, levels, changed_below, names, Begins, MayPlan, IsWritten, AreWritten}
 use Rattle.wb_tree.proofs.Nodes.Names.{AreApart, has, has_not, nodes_below-exist, nodes_below-apart}
 use Rattle.wb_tree.proofs.Nodes.Placing.{placed-none, placed-is, placed-behind}
@@ -215,15 +218,15 @@ next-place m free front node may none h =
     ∙ (ap (λ (ns : List NodeName). place_in (placed ns free) node.level node.index) shape ∙ placed-behind front h.rest node free apart (next-inside m free front node may h))
 
 -- a node more is written
-pub written-more : (m : Mapping) (generation : ℕ) (free : List Place) (nodes : List (Place × Node)) (node : Place × Node) → AreWritten m generation free nodes → length nodes < length free
-    → slice_get free (length nodes) ≡ Some node.0 → IsWritten m generation node → AreWritten m generation free (nodes ++ node ∷ [])
-written-more m generation free nodes node h inside there one = record {
+pub written-more : (version : Version) (m : Mapping) (generation : ℕ) (free : List Place) (nodes : List (Place × Node)) (node : Place × Node) → AreWritten version m generation free nodes → length nodes < length free
+    → slice_get free (length nodes) ≡ Some node.0 → IsWritten version m generation node → AreWritten version m generation free (nodes ++ node ∷ [])
+written-more version m generation free nodes node h inside there one = record {
   places =
       map-append (λ (n : Place × Node). n.0) nodes (node ∷ [])
       ∙ (ap (λ (ps : List Place). ps ++ node.0 ∷ []) h.places
       ∙ (ap (λ (p : Place). take (length nodes) free ++ p ∷ []) (sym (get_or_from_slice_get free (length nodes) node.0 node.0 there))
       ∙ (sym (take_more free (length nodes) node.0 inside) ∙ ap (λ k. take k free) (sym (length_push nodes node)))));
-  each = All-push (IsWritten m generation) nodes node h.each one;
+  each = All-push (IsWritten version m generation) nodes node h.each one;
 }
 
 -- what is known when a node comes behind its children
@@ -255,14 +258,14 @@ next-there m free front level index nodes len other h e =
     h.place ∙ (ap (λ k. slice_get free k) (sym e) ∙ slice_get-get_or free len other (omega arith))
 
 -- and it is written there
-pub next-written : (m : Mapping) (free : List Place) (front : List NodeName) (generation level index : ℕ) (nodes nodes' new : List (Place × Node)) (node : Place × Node)
-    → IsNext m free front level index nodes → AreWritten (planned m free) generation free nodes → nodes' ≡ nodes → new ≡ nodes' ++ node ∷ []
-    → node.1.level ≡ level → node.1.index ≡ index → IsWritten (planned m free) generation node → AreWritten (planned m free) generation free new
-next-written m free front generation level index nodes nodes' new node h written same more a b one =
+pub next-written : (version : Version) (m : Mapping) (free : List Place) (front : List NodeName) (generation level index : ℕ) (nodes nodes' new : List (Place × Node)) (node : Place × Node)
+    → IsNext m free front level index nodes → AreWritten version (planned m free) generation free nodes → nodes' ≡ nodes → new ≡ nodes' ++ node ∷ []
+    → node.1.level ≡ level → node.1.index ≡ index → IsWritten version (planned m free) generation node → AreWritten version (planned m free) generation free new
+next-written version m free front generation level index nodes nodes' new node h written same more a b one =
     let n : Mapping = planned m free in
     let here : place_of n node.1.level node.1.index ≡ place_of n level index = ap (λ l. place_of n l node.1.index) a ∙ ap (λ i. place_of n level i) b in
     let there : slice_get free (length nodes) ≡ Some node.0 = sym h.place ∙ (sym here ∙ one.stands) in
-    subst (AreWritten n generation free) (sym (more ∙ ap (λ (ns : List (Place × Node)). ns ++ node ∷ []) same)) (written-more n generation free nodes node written h.inside there one)
+    subst (AreWritten version n generation free) (sym (more ∙ ap (λ (ns : List (Place × Node)). ns ++ node ∷ []) same)) (written-more version n generation free nodes node written h.inside there one)
 
 -- the names of the nodes with one more
 pub names-pushed : (nodes nodes' new : List (Place × Node)) (node : Place × Node) → nodes' ≡ nodes → new ≡ nodes' ++ node ∷ [] → names new ≡ names nodes ++ name_of node.1 ∷ []
@@ -271,10 +274,22 @@ names-pushed nodes nodes' new node same more =
 
 -- ---- the words
 
+-- nothing is kept of no entry
+kept_none : (version : Version) → kept version None ≡ None
+kept_none One = refl
+kept_none Two = refl
+
+-- what is kept of entries is kept of each
+kept_at : (version : Version) (entries : List (Option Entry)) (block : ℕ) → slice_index_or (map (kept version) entries) block None ≡ kept version (slice_index_or entries block None)
+kept_at version [] block = sym (kept_none version)
+kept_at version (entry ∷ entries) zero = refl
+kept_at version (entry ∷ entries) (suc block) = kept_at version entries block
+
 -- the word of a leaf is that of its entry
-pub leaf-word : (m : Mapping) (free : List Place) (level index j : ℕ) → level ≡ 1 → word_at (planned m free) level index j ≡ entry_word (slice_index_or m.entries (32 * index + j) None)
+pub leaf-word : (version : Version) (m : Mapping) (free : List Place) (level index j : ℕ) → level ≡ 1
+    → word_at (kept_tree version (planned m free)) level index j ≡ entry_word (kept version (slice_index_or m.entries (32 * index + j) None))
 unfolding planned
-leaf-word m free level index j e = ap (λ l. word_at (planned m free) l index j) e
+leaf-word version m free level index j e = ap (λ l. word_at (kept_tree version (planned m free)) l index j) e ∙ ap entry_word (kept_at version m.entries (32 * index + j))
 
 -- the place of a node is a word of its parent
 pub inner-word : (m : Mapping) (free : List Place) (level index : ℕ) (place : Option Place) (word : ℕ) → MayPlan m free → place ≡ place_of (planned m free) level index → word ≡ place_word place → word ≤ 4294967295 → IsInnerWord word

@@ -10,10 +10,11 @@ use Rattle.wb_types.specs.Limits.{depth_of, node_count}
 use Rattle.wb_types.specs.declared.geometry.Geometry.{Geometry}
 use Rattle.wb_types.specs.declared.entry.Entry.{Entry}
 use Rattle.wb_types.specs.declared.number.Place.{Place}
+use Rattle.wb_types.specs.declared.version.Version.{Version}
 use Rattle.wb_format.specs.declared.node.Node.{Node}
 use Rattle.wb_tree.specs.declared.placed.PlacedNode.{PlacedNode}
 use Rattle.wb_tree.specs.Mapping.{Mapping, NodeName, IsMapping, IsSound, IsPlaceOf, AreInside, exists, nodes_of, place_in, place_of, used_places, changed, changed_of}
-use Rattle.wb_tree.specs.Images.{AreFree, HasWordsOf, name_of}
+use Rattle.wb_tree.specs.Images.{AreFree, HasWordsOf, kept_tree, name_of}
 use Rattle.wb_tree.specs.Planning.{placed, planned, levels, names, IsWritten, AreWritten, MayPlan}
 use Rattle.wb_tree.specs.Fields.{AreApart, IsComplete}
 use Rattle.wb_tree.proofs.Nodes.Alike.{AreAlike}
@@ -212,10 +213,10 @@ placed-names [] = refl
 placed-names (node ∷ nodes) = ap (λ (ks : List PlacedNode). known_node node ∷ ks) (placed-names nodes)
 
 -- with the nodes that are written the tree is the planned one
-pub known-planned : (m : Mapping) (generation : ℕ) (free : List Place) (nodes : List (Place × Node)) → names nodes ≡ changed m (levels m)
-    → AreWritten (planned m free) generation free nodes → m.known ++ map known_node nodes ≡ (planned m free).known
+pub known-planned : (version : Version) (m : Mapping) (generation : ℕ) (free : List Place) (nodes : List (Place × Node)) → names nodes ≡ changed m (levels m)
+    → AreWritten version (planned m free) generation free nodes → m.known ++ map known_node nodes ≡ (planned m free).known
 unfolding planned
-known-planned m generation free nodes same h =
+known-planned version m generation free nodes same h =
     let long : length nodes ≡ length (names nodes) = sym (length-map nodes (λ (n : Place × Node). name_of n.1)) in
     ap (λ (ks : List PlacedNode). m.known ++ ks) (
     placed-names nodes
@@ -224,7 +225,7 @@ known-planned m generation free nodes same h =
 
 -- the changed nodes were written
 pub written_is : (m : Mapping) (geometry : Geometry) (generation : ℕ) (free : List Place) (nodes : List (Place × Node)) → CanPlace m geometry free
-    → names nodes ≡ changed m (levels m) → AreWritten (planned m free) generation free nodes → WritesChanged m (planned m free) geometry generation free nodes
+    → names nodes ≡ changed m (levels m) → AreWritten geometry.version (planned m free) generation free nodes → WritesChanged m (planned m free) geometry generation free nodes
 written_is m geometry generation free nodes can ns h =
     let n : Mapping = planned m free in
     record {
@@ -232,9 +233,10 @@ written_is m geometry generation free nodes can ns h =
       stays = λ level index place e. planned-known m free level index place e;
       nodes_are = ns ∙ ap (λ b. changed m (depth_of b)) can.size;
       places_are = h.places;
-      stands = All-weaker (IsWritten n generation) (λ (node : Place × Node). place_of n node.1.level node.1.index ≡ Some node.0) (λ node w. w.stands) nodes h.each;
-      generations = All-weaker (IsWritten n generation) (λ (node : Place × Node). node.1.generation ≡ generation) (λ node w. w.written_in) nodes h.each;
-      words = All-weaker (IsWritten n generation) (λ (node : Place × Node). HasWordsOf n node.1) (λ node w. w.words) nodes h.each;
+      stands = All-weaker (IsWritten geometry.version n generation) (λ (node : Place × Node). place_of n node.1.level node.1.index ≡ Some node.0) (λ node w. w.stands) nodes h.each;
+      generations = All-weaker (IsWritten geometry.version n generation) (λ (node : Place × Node). node.1.generation ≡ generation) (λ node w. w.written_in) nodes h.each;
+      mappings = All-weaker (IsWritten geometry.version n generation) (λ (node : Place × Node). node.1.dirty ≡ false) (λ node w. w.mapping) nodes h.each;
+      words = All-weaker (IsWritten geometry.version n generation) (λ (node : Place × Node). HasWordsOf (kept_tree geometry.version n) node.1) (λ node w. w.words) nodes h.each;
     }
 
 -- ---- the tree from which and to which an image leads
@@ -243,9 +245,9 @@ pub planned-with : (m : Mapping) (free : List Place) (known : List PlacedNode) �
 unfolding planned
 planned-with m free known e = ap (λ (ks : List PlacedNode). record { entries = m.entries; known = ks }) (sym e)
 
-pub with-planned : (m : Mapping) (generation : ℕ) (free : List Place) (nodes : List (Place × Node)) (added : List PlacedNode) → added ≡ map known_node nodes → names nodes ≡ changed m (levels m)
-    → AreWritten (planned m free) generation free nodes → m.known ++ added ≡ (planned m free).known
-with-planned m generation free nodes added same ns written = ap (λ (ks : List PlacedNode). m.known ++ ks) same ∙ known-planned m generation free nodes ns written
+pub with-planned : (version : Version) (m : Mapping) (generation : ℕ) (free : List Place) (nodes : List (Place × Node)) (added : List PlacedNode) → added ≡ map known_node nodes → names nodes ≡ changed m (levels m)
+    → AreWritten version (planned m free) generation free nodes → m.known ++ added ≡ (planned m free).known
+with-planned version m generation free nodes added same ns written = ap (λ (ks : List PlacedNode). m.known ++ ks) same ∙ known-planned version m generation free nodes ns written
 
 pub planned-alike : (m n : Mapping) (free : List Place) (known : List PlacedNode) → known ≡ (planned m free).known → n.entries ≡ m.entries → ((level index : ℕ) → place_of n level index ≡ place_in known level index) → AreAlike (planned m free) n
 planned-alike m n free known e entries places = record {
@@ -273,10 +275,10 @@ planned-comes m free nodes ns are place is = elim (planned-either m free is.leve
       (at.at, slice_get_within (take (length nodes) free) at.at place t, get_or_from_slice_get (take (length nodes) free) at.at place place t)))
 ]
 
-pub planned-more : (m : Mapping) (generation : ℕ) (free : List Place) (nodes : List (Place × Node)) → names nodes ≡ changed m (levels m) → AreWritten (planned m free) generation free nodes
+pub planned-more : (version : Version) (m : Mapping) (generation : ℕ) (free : List Place) (nodes : List (Place × Node)) → names nodes ≡ changed m (levels m) → AreWritten version (planned m free) generation free nodes
     → length (used_places (planned m free)) ≡ length (used_places m) + length nodes
-planned-more m generation free nodes ns written =
-    let own = known-planned m generation free nodes ns written in
+planned-more version m generation free nodes ns written =
+    let own = known-planned version m generation free nodes ns written in
     omega (
       arith,
       ap (λ (ks : List PlacedNode). length ks) own,

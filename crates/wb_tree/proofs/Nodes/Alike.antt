@@ -1,16 +1,17 @@
 -- Trees with the same entries of which the same nodes are known, in whatever order they are kept.
-use Rattle.std.proofs.Common.{◌≡◌, ◌≤◌, ◌+◌, ◌*◌, ◌∙◌, sym, ap, subst, refl, ℕ, zero, suc, List, [], ◌∷◌, Option, Some, None, length}
+use Rattle.std.proofs.Common.{◌≡◌, ◌≤◌, ◌+◌, ◌*◌, ◌∙◌, sym, ap, subst, refl, ℕ, zero, suc, List, [], ◌∷◌, Option, Some, None, length, map}
 use Rattle.std.specs.Prelude.{IsSome, slice_index_or}
 use Rattle.std.proofs.lemmas.List.Elements.{All-weaker}
 use Rattle.wb_types.specs.Limits.{depth_of}
 use Rattle.wb_types.specs.declared.entry.Entry.{Entry}
 use Rattle.wb_types.specs.declared.number.Place.{Place}
-use Rattle.wb_format.specs.NodeWords.{entry_word}
+use Rattle.wb_types.specs.declared.version.Version.{Version}
+use Rattle.wb_format.specs.NodeWords.{entry_word, kept}
 use Rattle.wb_format.specs.declared.node.Node.{Node}
 use Rattle.wb_format.specs.declared.root.Root.{Root}
 use Rattle.wb_tree.specs.declared.image.Image.{Image}
 use Rattle.wb_tree.specs.Mapping.{Mapping, NodeName, IsSound, IsPlaceOf, AreInside, exists, nodes_of, changed, changed_of, place_of, used_places}
-use Rattle.wb_tree.specs.Images.{AreUsed, HasWordsOf, ImagePlan, IsImage, levels_of, place_word, word_at}
+use Rattle.wb_tree.specs.Images.{AreUsed, HasWordsOf, ImagePlan, IsImage, kept_tree, levels_of, place_word, word_at}
 use Rattle.wb_tree.specs.Reading.{Found}
 use Rattle.wb_tree.specs.Loaded.{IsLoaded}
 
@@ -49,6 +50,9 @@ word-alike m n alike (suc (suc level)) index j = ap place_word (alike.places (su
 words-alike : (m n : Mapping) → AreAlike m n → (node : Node) → HasWordsOf m node → HasWordsOf n node
 words-alike m n alike node h j below = h j below ∙ sym (word-alike m n alike node.level node.index j)
 
+kept-alike : (version : Version) (m n : Mapping) → AreAlike m n → AreAlike (kept_tree version m) (kept_tree version n)
+kept-alike version m n alike = record { entries = ap (map (kept version)) alike.entries; places = alike.places }
+
 -- the image leads to the tree in another order as well, whose used places are told of it
 pub image-alike : (m n k : Mapping) (plan : ImagePlan) (image : Image) → AreAlike n k → AreUsed plan.geometry.cache_blocks k → length (used_places k) ≡ length (used_places n) → IsImage m n plan image → IsImage m k plan image
 image-alike m n k plan image alike used long is = record {
@@ -59,7 +63,9 @@ image-alike m n k plan image alike used long is = record {
   places_are = is.places_are;
   stands = All-weaker (λ (node : Place × Node). place_of n node.1.level node.1.index ≡ Some node.0) (λ (node : Place × Node). place_of k node.1.level node.1.index ≡ Some node.0) (λ node w. alike.places node.1.level node.1.index ∙ w) image.nodes.items is.stands;
   generations = is.generations;
-  words = All-weaker (λ (node : Place × Node). HasWordsOf n node.1) (λ (node : Place × Node). HasWordsOf k node.1) (λ node w. words-alike n k alike node.1 w) image.nodes.items is.words;
+  mappings = is.mappings;
+  words = All-weaker (λ (node : Place × Node). HasWordsOf (kept_tree plan.geometry.version n) node.1) (λ (node : Place × Node). HasWordsOf (kept_tree plan.geometry.version k) node.1)
+      (λ node w. words-alike (kept_tree plan.geometry.version n) (kept_tree plan.geometry.version k) (kept-alike plan.geometry.version n k alike) node.1 w) image.nodes.items is.words;
   used = used;
   comes = λ place h. is.comes place (there-alike n k alike place h);
   used_more = long ∙ is.used_more;
@@ -76,7 +82,7 @@ loaded-alike root found m n alike is = record {
   reached = λ place h. is.reached place (there-alike m n alike place h);
   read = λ nodes reads level index place h.
       let w = is.read nodes reads level index place (sym (alike.places level index) ∙ h) in
-      record { node = w.node; reads = w.reads; right = record { name = w.right.name; not_newer = w.right.not_newer; words = words-alike m n alike w.node w.right.words } };
+      record { node = w.node; reads = w.reads; right = record { mapping = w.right.mapping; name = w.right.name; not_newer = w.right.not_newer; words = words-alike m n alike w.node w.right.words } };
   few = is.few;
   none_changed = λ whole. changed-alike m n alike (depth_of root.geometry.cache_blocks) ∙ is.none_changed whole;
 }

@@ -17,6 +17,7 @@ use Rattle.wb_tree.specs.Reading.{Found, Nodes, ◌then◌, each_step, entry_in,
 use Rattle.wb_tree.specs.Images.{word_at, place_word}
 use Rattle.wb_tree.proofs.Nodes.Names.{IsBelow, below_up}
 use Rattle.wb_tree.proofs.Reading.PlacedLists.{named-itself, unnamed, is_some_of, some_of, place_in-first, place_in-later, place_in-cases, reached-first, unreached-both, some-append_right}
+use Rattle.wb_tree.proofs.Reading.RightNodes.{right_node}
 use Rattle.wb_tree.proofs.Reading.Grown.{Grown, WasRead, at, tree_with, up_block, below-self, word_same, no_place}
 use Rattle.wb_types.proofs.Truth.{and_true, yes}
 use Rattle.wb_tree.proofs.Reading.Steps.{then_ok}
@@ -118,12 +119,6 @@ itself_below level index some =
     let here : index / 32 ^ (level - level) ≡ index = let none : level - level ≡ 0 = omega arith in ap (λ k. index / 32 ^ k) none ∙ div-one index in
     record { from = some; to = omega arith; at_least = omega (arith, here); before = omega (arith, here) }
 
-right_node : (root : Root) (level index : ℕ) (node : Node) → is_node_of root level index node ≡ true → node.level ≡ level
-right_node root level index node h =
-    let a = and_true ((node.level == level) && (node.index == index)) _ h in
-    let b = and_true (node.level == level) (node.index == index) a.0 in
-    eqb-true _ _ b.0
-
 -- the word of a child
 inner_word : (m : Mapping) (level index j : ℕ) {word : ℕ} → 1 ≤ level → word ≡ place_word (place_in m.known level (32 * index + j)) → word ≡ word_at m (suc level) index j
 inner_word m zero index j some e = absurd (omega arith)
@@ -161,7 +156,7 @@ grown_leaf root nodes index here node found next may new reads right e =
           let u = up (32 * index + j) in
           let same : 32 * index + j - 32 * index ≡ j = omega arith in
           let was : at found (32 * index + j) ≡ None = may.empty (32 * index + j) (omega (arith, u)) (omega (arith, u)) in
-          let word = (node.spelled j).leaf (right_node root 1 index node right) in
+          let word = let is = right_node root 1 index node right in (node.spelled j).leaf is.mapping is.level_is in
           sym (ap entry_word (blocks.inside (32 * index + j) (omega arith) (omega arith) was) ∙ (ap (λ k. entry_word (entry_in (slice_index node.words k))) same ∙ word-entry (slice_index node.words j) word));
     } in
     record {

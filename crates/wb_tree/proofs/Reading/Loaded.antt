@@ -18,6 +18,7 @@ use Rattle.wb_tree.specs.Images.{AreRead, word_at, name_of}
 use Rattle.wb_tree.specs.Loaded.{NodesHaveEntries, IsLoaded}
 use Rattle.wb_tree.specs.Fields.{AreApart}
 use Rattle.wb_tree.proofs.Nodes.Names.{IsBelow, nodes_below-below, nodes_below-exist}
+use Rattle.wb_tree.proofs.Reading.RightNodes.{right_node}
 use Rattle.wb_tree.proofs.Reading.PlacedLists.{one_name, place_in-reached, place_in-member, member-named}
 use Rattle.wb_tree.proofs.Reading.LoaderSteps.{depth_range}
 use Rattle.wb_tree.proofs.Nodes.Counting.{count-reached}
@@ -103,17 +104,15 @@ name_is node level index a b =
 pub loaded_read : (root : Root) (nodes : Nodes) (found : Found) → IsKnownTree root nodes found → AreRead nodes (tree_with found found.reached) root.generation
 loaded_read root nodes found h level index place e =
     let w = h.right level index place e in
-    let a = and_true ((w.node.level == level) && (w.node.index == index)) (leb w.node.generation root.generation) w.right in
-    let b = and_true (w.node.level == level) (w.node.index == index) a.0 in
-    let l : w.node.level ≡ level = eqb-true _ _ b.0 in
-    let i : w.node.index ≡ index = eqb-true _ _ b.1 in
+    let is = right_node root level index w.node w.right in
     record {
       node = w.node;
       reads = w.reads;
       right = record {
-        name = name_is w.node level index l i;
-        not_newer = grind (arith, common_steps);
-        words = λ j lt. w.words j lt ∙ (ap (λ x. word_at (tree_with found found.reached) x index j) (sym l) ∙ ap (λ x. word_at (tree_with found found.reached) w.node.level x j) (sym i));
+        mapping = is.mapping;
+        name = name_is w.node level index is.level_is is.index_is;
+        not_newer = is.not_newer;
+        words = λ j lt. w.words j lt ∙ (ap (λ x. word_at (tree_with found found.reached) x index j) (sym is.level_is) ∙ ap (λ x. word_at (tree_with found found.reached) w.node.level x j) (sym is.index_is));
       };
     }
 

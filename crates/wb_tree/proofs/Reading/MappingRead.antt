@@ -12,6 +12,7 @@ use Rattle.wb_format.specs.declared.node.Node.{Node}
 use Rattle.wb_format.specs.NodeWords.{IsLeafWord}
 use Rattle.wb_tree.specs.Mapping.{IsMapping}
 use Rattle.wb_tree.specs.Reading.{Found, ReadOutcome, Nodes, ◌then◌, each_step, entry_in, entry_read, may_map, child_read, names_child, is_node_of, reached_at, words_read, node_read, nothing_found, top_read, tree_read}
+use Rattle.wb_tree.proofs.Reading.RightNodes.{right_node}
 use Rattle.wb_tree.proofs.Reading.Grown.{at}
 use Rattle.wb_types.proofs.Truth.{and_true}
 use Rattle.wb_tree.proofs.Reading.Steps.{then_ok, test_ok, nothing_there}
@@ -39,19 +40,13 @@ words_leave P root level index here read (Some node) reach h found next p e =
     let w = test_ok (is_node_of root level index node) here (read node (reached_at level index here found)) next e in
     h node w.0 (reached_at level index here found) next (reach found p) w.1
 
-is_leaf : (root : Root) (index : ℕ) (node : Node) → is_node_of root 1 index node ≡ true → node.level ≡ 1
-is_leaf root index node h =
-    let a = and_true ((node.level == 1) && (node.index == index)) _ h in
-    let b = and_true (node.level == 1) (node.index == index) a.0 in
-    eqb-true _ _ b.0
-
 node_leaves : (P : Found → Type 0) (root : Root) (nodes : Nodes) → ((level index : ℕ) (here : Place) (found : Found) → P found → P (reached_at level index here found))
     → ((here : Place) (block word : ℕ) → IsLeafWord word → Leaves P (entry_read root here block (entry_in word))) → (level index : ℕ) (here : Place) → Leaves P (node_read root nodes level index here)
 unfolding node_read
 node_leaves P root nodes reach entry zero index here found next p e = absurd cc
 node_leaves P root nodes reach entry (suc zero) index here found next p e =
     words_leave P root 1 index here (λ node. each_step (λ j. entry_read root here (32 * index + j) (entry_in (slice_index node.words j))) 32 0) (nodes here.0) (reach 1 index here)
-    (λ node right. each_leaves P (λ j. entry_read root here (32 * index + j) (entry_in (slice_index node.words j))) (λ j. entry here (32 * index + j) (slice_index node.words j) ((node.spelled j).leaf (is_leaf root index node right))) 32 0) found next p e
+    (λ node right. each_leaves P (λ j. entry_read root here (32 * index + j) (entry_in (slice_index node.words j))) (λ j. entry here (32 * index + j) (slice_index node.words j) (let is = right_node root 1 index node right in (node.spelled j).leaf is.mapping is.level_is)) 32 0) found next p e
 node_leaves P root nodes reach entry (suc (suc level)) index here found next p e =
     words_leave P root (suc (suc level)) index here (λ node. each_step (λ j. child_read root here (suc level) (32 * index + j) (node_read root nodes (suc level)) (slice_index node.words j)) 32 0) (nodes here.0) (reach (suc (suc level)) index here)
     (λ node right. each_leaves P (λ j. child_read root here (suc level) (32 * index + j) (node_read root nodes (suc level)) (slice_index node.words j))

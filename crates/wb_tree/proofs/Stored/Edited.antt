@@ -111,6 +111,7 @@ node_edited old new edited generation level index place node known right =
     let i : node.index ≡ index = ap (λ (n : NodeName). n.index) right.name in
     let here : place_of new node.level node.index ≡ Some place = ap (λ k. place_of new k node.index) l ∙ (ap (λ k. place_of new level k) i ∙ known) in
     record {
+      mapping = right.mapping;
       name = right.name;
       not_newer = right.not_newer;
       words = λ j less. right.words j less ∙ edited.words node.level node.index j place here less;

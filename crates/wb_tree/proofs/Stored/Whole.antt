@@ -147,7 +147,7 @@ is_right root m level index node h =
     let a : nat_eq node.level level ≡ true = eq-eqb _ _ (ap (λ (n : NodeName). n.level) h.name) in
     let b : nat_eq node.index index ≡ true = eq-eqb _ _ (ap (λ (n : NodeName). n.index) h.name) in
     let c : leb node.generation root.generation ≡ true = le-leb _ _ h.not_newer in
-    rw (a, b, c) refl
+    rw (h.mapping, a, b, c) refl
 
 right_word : (root : Root) (m : Mapping) (level index : ℕ) (node : Node) (j : ℕ) → IsNodeOf m root.generation level index node → j < 32 → slice_index node.words j ≡ word_at m level index j
 right_word root m level index node j h below =

@@ -1,7 +1,7 @@
 use Rattle.std.proofs.Common.{◌≡◌, ◌<◌, ◌+◌, ◌*◌, length, sym, ◌∙◌, arith}
 use Rattle.std.proofs.lemmas.List.{length-set}
 use Rattle.wb_format.specs.Bytes.{number_at}
-use Rattle.wb_format.specs.NodeWords.{IsNodeWord}
+use Rattle.wb_format.specs.NodeWords.{IsNodeWordOf}
 use Rattle.wb_format.proofs.WordLemmas.{set_more, IsWord-everywhere}
 use Rattle.wb_format.proofs.node.words_at.Goals as goal
 
@@ -12,7 +12,7 @@ loop-j-preserved c =
     record {
       size = length-set c.loop-j.words c.loop-j.j c.u64_at-word.result ∙ inv.size;
       read = set_more (λ k word. number_at c.args.content.now (32 + 8 * k) 8 ≡ word) c.loop-j.words c.loop-j.j c.u64_at-word.result inside inv.read (sym c.u64_at-word.ensures);
-      spelled = set_more (λ k word. IsNodeWord c.args.level word) c.loop-j.words c.loop-j.j c.u64_at-word.result inside inv.spelled (c.is_word.ensures.0 c.if-not-is_word.false);
+      spelled = set_more (λ k word. IsNodeWordOf c.args.version c.args.dirty c.args.level word) c.loop-j.words c.loop-j.j c.u64_at-word.result inside inv.spelled (c.is_word.ensures.0 c.if-not-is_word.false);
     }
 
 pub returns-clause-found : goal.returns-clause-found
@@ -23,4 +23,4 @@ returns-clause-found c = record {
 
 pub returns-clause-spelled : goal.returns-clause-spelled
 returns-clause-spelled c =
-    IsWord-everywhere c.args.level c.loop-j.words (λ k below. c.loop-j.invariant.spelled k (omega (arith, c.loop-j.invariant.size)))
+    IsWord-everywhere c.args.version c.args.dirty c.args.level c.loop-j.words (λ k below. c.loop-j.invariant.spelled k (omega (arith, c.loop-j.invariant.size)))

@@ -76,11 +76,12 @@ plan_node-returns-clause-planned g t c =
     let next = next-is c.args.plan.now.tree.now c.args.plan.now.free.now (names c.args.nodes.now.items) c.args.level c.args.index c.plan_words.new.nodes.items
     c.requires.can c.requires.level_from (sym c.in-Some-None.ensures.there) (sym c.in-Some-None.ensures.place ∙ c.in-Some-None.field-0-is) c.requires.next c.in_ok-words.ensures.names in
     let long : c.len.result ≡ length c.plan_words.new.nodes.items = let same = ap length c.in_ok-reserve.ensures.items in c.len.ensures ∙ (c.reserve.new.self.ok.0 ∙ same) in
-    next-written c.args.plan.now.tree.now c.args.plan.now.free.now (names c.args.nodes.now.items) c.args.plan.now.generation c.args.level c.args.index c.plan_words.new.nodes.items c.reserve.new.self.items c.push_reserved.new.self.items _
+    next-written c.args.plan.now.version c.args.plan.now.tree.now c.args.plan.now.free.now (names c.args.nodes.now.items) c.args.plan.now.generation c.args.level c.args.index c.plan_words.new.nodes.items c.reserve.new.self.items c.push_reserved.new.self.items _
     next c.in_ok-words.ensures.planned c.in_ok-reserve.ensures.items c.push_reserved.ensures.items refl refl
     (record {
       stands = next-there c.args.plan.now.tree.now c.args.plan.now.free.now (names c.args.nodes.now.items) c.args.level c.args.index c.plan_words.new.nodes.items c.len.result (record { 0 = 0 }) next long;
       written_in = refl;
+      mapping = refl;
       words = c.in_ok-words.ensures.words;
     })
 
@@ -98,7 +99,7 @@ plan_words-returns-then-level-eq1-clause-names g t c =
 
 pub plan_words-returns-then-level-eq1-clause-words : goal.plan_words-returns-then-level-eq1-clause-words
 plan_words-returns-then-level-eq1-clause-words g t c j below =
-    c.leaf_words.ensures.words j below ∙ sym (leaf-word c.args.plan.now.tree.now c.args.plan.now.free.now c.args.level c.args.index j c.if-level-eq1.true)
+    c.leaf_words.ensures.words j below ∙ sym (leaf-word c.args.plan.now.version c.args.plan.now.tree.now c.args.plan.now.free.now c.args.level c.args.index j c.if-level-eq1.true)
 
 pub plan_words-loop-j-init : goal.plan_words-loop-j-init
 plan_words-loop-j-init g t c = record {
@@ -159,6 +160,6 @@ plan_words-loop-j-preserved g t c =
 pub plan_words-returns-clause-spelled : goal.plan_words-returns-clause-spelled
 plan_words-returns-clause-spelled g t c j =
     record {
-      leaf = λ e. absurd (c.if-level-eq1.false e);
+      leaf = λ mapping e. absurd (c.if-level-eq1.false e);
       inner = λ e. words_everywhere IsInnerWord c.loop-j.words (λ k below. c.loop-j.invariant.spelled k (omega (arith, c.loop-j.invariant.size))) IsInnerWord-zero j;
     }

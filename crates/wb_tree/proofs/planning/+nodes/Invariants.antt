@@ -15,7 +15,7 @@ abbrev pub invariant-plan_words-loop-j : goal.invariant-plan_words-loop-j
 invariant-plan_words-loop-j g l = record {
   size : length l.words ≡ 32;
   listed : names l.nodes.items ≡ names l.fn.nodes.items ++ each_from (changed_below l.plan.tree.now (l.level - 1)) l.j (32 * l.index);
-  written : AreWritten (planned l.plan.tree.now l.plan.free.now) l.plan.generation l.plan.free.now l.nodes.items;
+  written : AreWritten l.plan.version (planned l.plan.tree.now l.plan.free.now) l.plan.generation l.plan.free.now l.nodes.items;
   words : (k : ℕ) → k < l.j → slice_index l.words k ≡ place_word (place_of (planned l.plan.tree.now l.plan.free.now) (l.level - 1) (32 * l.index + k));
   spelled : (k : ℕ) → k < l.j → IsInnerWord (slice_index l.words k);
 }

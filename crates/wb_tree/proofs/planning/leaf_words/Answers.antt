@@ -1,6 +1,6 @@
 use Rattle.std.proofs.Common.{◌≡◌, ◌<◌, ◌+◌, ◌*◌, length, sym, ap, ◌∙◌, arith}
 use Rattle.std.proofs.lemmas.List.{length-set}
-use Rattle.wb_format.specs.NodeWords.{IsLeafWord, entry_word}
+use Rattle.wb_format.specs.NodeWords.{IsLeafWord, entry_word, kept}
 use Rattle.wb_tree.specs.Mapping.{entry_at}
 use Rattle.wb_tree.proofs.Images.PlanWords.{words_everywhere, IsLeafWord-zero, spelled-entry_word, may_spell}
 use Rattle.wb_format.proofs.WordLemmas.{set_more}
@@ -15,9 +15,9 @@ loop-j-preserved g c =
     let inside : c.loop-j.j < length c.loop-j.words = omega arith in
     record {
       size = length-set c.loop-j.words c.loop-j.j c.word_of.result ∙ inv.size;
-      words = set_more (λ k word. word ≡ entry_word (entry_at c.args.tree.now (32 * c.args.index + k))) c.loop-j.words c.loop-j.j c.word_of.result inside inv.words
-          (spelled-entry_word c.word_of.result c.entry_at.result c.word_of.ensures.spelled ∙ ap entry_word c.entry_at.ensures);
-      spelled = set_more (λ k word. IsLeafWord word) c.loop-j.words c.loop-j.j c.word_of.result inside inv.spelled c.word_of.ensures.readable;
+      words = set_more (λ k word. word ≡ entry_word (kept c.args.version (entry_at c.args.tree.now (32 * c.args.index + k)))) c.loop-j.words c.loop-j.j c.word_of.result inside inv.words
+          (spelled-entry_word c.word_of.result (kept c.args.version c.entry_at.result) c.word_of.ensures.spelled ∙ ap (λ entry. entry_word (kept c.args.version entry)) c.entry_at.ensures);
+      spelled = set_more (λ k word. IsLeafWord word) c.loop-j.words c.loop-j.j c.word_of.result inside inv.spelled c.word_of.ensures.readable.leaf;
     }
 
 pub returns-clause-spelled : goal.returns-clause-spelled

@@ -26,7 +26,7 @@ returns c =
     let gap : SameBytes s5 zeros 24 32 = λ k low high. k4 k (omega arith) high ∙ g0 k low (omega arith) in
     record {
       bytes = c.put_words.ensures.bytes;
-      magic = number_at-kept s5 s1 0 8 0 8 _ k1 (omega arith) (omega arith) (c.put_u64.ensures.number ∙ c.from_le_bytes.ensures);
+      magic = number_at-kept s5 s1 0 8 0 8 _ k1 (omega arith) (omega arith) (c.put_u64.ensures.number ∙ c.magic_of.ensures);
       generation = number_at-kept s5 s2 0 16 8 8 _ k2 (omega arith) (omega arith) c.put_u64-2.ensures.number;
       level = number_at-kept s5 s3 0 20 16 4 _ k3 (omega arith) (omega arith) c.put_u32.ensures.number;
       index = number_at-kept s5 s4 0 32 20 4 _ k4 (omega arith) (omega arith) c.put_u32-2.ensures.number;

@@ -17,6 +17,7 @@ returns-clause-found c = record {
   flags = sym c.u32_at.ensures ∙ c.in_ok-clean.ensures.found;
   geometry = c.in_ok-geometry.ensures.found;
   top = sym c.u32_at-2.ensures ∙ c.in_ok-top.ensures.found;
+  top_dirty = sym c.u32_at-3.ensures ∙ c.in_ok-top_dirty.ensures.found;
   rest = c.is_zero.ensures.0 c.if-not-is_zero.false;
 }
 

@@ -46,7 +46,7 @@ settle-requires-clause-apart g c =
     let nodes = c.plan_node.new.nodes.items in
     let ns : names nodes ≡ changed m (levels m) = c.in_ok-top.ensures.names ∙ (ap (λ (xs : List (Place × Node)). names xs ++ changed m b.depth) c.new-nodes.ensures.items ∙ ap (changed m) deep) in
     let added : c.in_ok-settled.settled.items ≡ map known_node nodes = c.in_ok-settled.ensures.known ∙ ap (λ (xs : List (Place × Node)). map known_node xs) c.deref.ensures.value in
-    let whole : m.known ++ c.deref-2.result.now ≡ (planned m free).known = with-planned m c.args.generation free nodes c.deref-2.result.now (c.deref-2.ensures.value ∙ added) ns c.in_ok-top.ensures.planned in
+    let whole : m.known ++ c.deref-2.result.now ≡ (planned m free).known = with-planned geometry.version m c.args.generation free nodes c.deref-2.result.now (c.deref-2.ensures.value ∙ added) ns c.in_ok-top.ensures.planned in
     let complete = planned-complete m geometry free can in
     subst AreApart (sym whole) complete.once
 
@@ -67,7 +67,7 @@ settle-requires-clause-sound g c =
     let nodes = c.plan_node.new.nodes.items in
     let ns : names nodes ≡ changed m (levels m) = c.in_ok-top.ensures.names ∙ (ap (λ (xs : List (Place × Node)). names xs ++ changed m b.depth) c.new-nodes.ensures.items ∙ ap (changed m) deep) in
     let added : c.in_ok-settled.settled.items ≡ map known_node nodes = c.in_ok-settled.ensures.known ∙ ap (λ (xs : List (Place × Node)). map known_node xs) c.deref.ensures.value in
-    let whole : m.known ++ c.deref-2.result.now ≡ (planned m free).known = with-planned m c.args.generation free nodes c.deref-2.result.now (c.deref-2.ensures.value ∙ added) ns c.in_ok-top.ensures.planned in
+    let whole : m.known ++ c.deref-2.result.now ≡ (planned m free).known = with-planned geometry.version m c.args.generation free nodes c.deref-2.result.now (c.deref-2.ensures.value ∙ added) ns c.in_ok-top.ensures.planned in
     subst IsSound (planned-with m free (m.known ++ c.deref-2.result.now) whole) (planned-sound m geometry free can)
 
 pub invariant_of-root : goal.invariant_of-root
@@ -83,7 +83,7 @@ invariant_of-root g c =
       inside = c.requires.inside;
       are = c.requires.free;
     } in
-    record { same_version = refl; top_inside = λ place top. planned-inside m geometry free can place (record { level = b.depth; index = 0; known = sym c.in_ok-top.ensures.place ∙ top }) }
+    record { same_version = refl; top_inside = λ place top. planned-inside m geometry free can place (record { level = b.depth; index = 0; known = sym c.in_ok-top.ensures.place ∙ top }); dirty_inside = λ place top. absurd cc; dirty_clean = λ place top. absurd cc }
 
 pub returns-clause-image : goal.returns-clause-image
 returns-clause-image g c =
@@ -102,7 +102,7 @@ returns-clause-image g c =
     let nodes = c.plan_node.new.nodes.items in
     let ns : names nodes ≡ changed m (levels m) = c.in_ok-top.ensures.names ∙ (ap (λ (xs : List (Place × Node)). names xs ++ changed m b.depth) c.new-nodes.ensures.items ∙ ap (changed m) deep) in
     let added : c.in_ok-settled.settled.items ≡ map known_node nodes = c.in_ok-settled.ensures.known ∙ ap (λ (xs : List (Place × Node)). map known_node xs) c.deref.ensures.value in
-    let whole : m.known ++ c.deref-2.result.now ≡ (planned m free).known = with-planned m c.args.generation free nodes c.deref-2.result.now (c.deref-2.ensures.value ∙ added) ns c.in_ok-top.ensures.planned in
+    let whole : m.known ++ c.deref-2.result.now ≡ (planned m free).known = with-planned geometry.version m c.args.generation free nodes c.deref-2.result.now (c.deref-2.ensures.value ∙ added) ns c.in_ok-top.ensures.planned in
     let alike : AreAlike (planned m free) c.settle.new.self = planned-alike m c.settle.new.self free (m.known ++ c.deref-2.result.now) whole c.settle.ensures.entries c.settle.ensures.places in
     let top : c.in_ok-top.top ≡ place_of (planned m free) (depth_of geometry.cache_blocks) 0 =
     c.in_ok-top.ensures.place ∙ (ap (λ d. place_of (planned m free) d 0) deep ∙ ap (λ n. place_of (planned m free) (depth_of n) 0) can.size) in
@@ -115,7 +115,7 @@ returns-clause-image g c =
     let written = written_is m geometry c.args.generation free nodes can ns c.in_ok-top.ensures.planned in
     image-alike m (planned m free) new _ _ alike used more
     (image-is m (planned m free) geometry c.args.generation c.args.clean free _ written complete.all (used-places (planned m free) geometry.cache_blocks (planned-sound m geometry free can) complete.once complete.few)
-    (planned-comes m free nodes ns c.in_ok-top.ensures.planned.places) (planned-more m c.args.generation free nodes ns c.in_ok-top.ensures.planned) refl refl refl top)
+    (planned-comes m free nodes ns c.in_ok-top.ensures.planned.places) (planned-more geometry.version m c.args.generation free nodes ns c.in_ok-top.ensures.planned) refl refl refl top)
 
 pub returns-clause-inside : goal.returns-clause-inside
 returns-clause-inside g c =
@@ -134,5 +134,5 @@ returns-clause-inside g c =
     let nodes = c.plan_node.new.nodes.items in
     let ns : names nodes ≡ changed m (levels m) = c.in_ok-top.ensures.names ∙ (ap (λ (xs : List (Place × Node)). names xs ++ changed m b.depth) c.new-nodes.ensures.items ∙ ap (changed m) deep) in
     let added : c.in_ok-settled.settled.items ≡ map known_node nodes = c.in_ok-settled.ensures.known ∙ ap (λ (xs : List (Place × Node)). map known_node xs) c.deref.ensures.value in
-    let whole : m.known ++ c.deref-2.result.now ≡ (planned m free).known = with-planned m c.args.generation free nodes c.deref-2.result.now (c.deref-2.ensures.value ∙ added) ns c.in_ok-top.ensures.planned in
+    let whole : m.known ++ c.deref-2.result.now ≡ (planned m free).known = with-planned geometry.version m c.args.generation free nodes c.deref-2.result.now (c.deref-2.ensures.value ∙ added) ns c.in_ok-top.ensures.planned in
     inside-alike geometry.meta_sectors (planned m free) c.settle.new.self (planned-alike m c.settle.new.self free (m.known ++ c.deref-2.result.now) whole c.settle.ensures.entries c.settle.ensures.places) (planned-inside m geometry free can)
