@@ -48,6 +48,7 @@ if command -v python3 >/dev/null; then
   call "$top/scripts/images.py" "$bench"
   call "$top/scripts/twin.py" "$cache"
   call "$top/scripts/weather.py" "$cache" "$server"
+  call "$top/scripts/manual.py" "$cache" "$server" "$meta"
 else
   echo 'not tried: there is no python3, by which stops, faults, lives, images and bad weather are played'
 fi
@@ -64,6 +65,15 @@ fresh() { # the same, formatted
 }
 table='cache m.img c.img o.img 64 0 tinylfu 0'
 sums() { cksum m.img c.img o.img | cut -d' ' -f1 | tr '\n' ' '; }
+# --- A release: its files are those that it lists, and its programs run where nothing else is.
+release=$(sh "$top/scripts/package.sh" "$work/raistobe.tar.gz" "$cache" "$server" "$meta")
+tar -xzf "$release"
+check 'the files of a release' "$(cd raistobe && sha256sum --quiet -c SHA256SUMS 2>&1; find . -type f | wc -l)" "$(($(wc -l <raistobe/SHA256SUMS) + 1))"
+blank
+check 'its programs run' "$(env -i raistobe/bin/wbcache format "$table") $(env -i raistobe/bin/wbmeta check "$table") $(env -i raistobe/bin/wbnbd --version)" \
+  "formatted 4 10 ok 0 clean 0 0 $("$server" --version)"
+check 'and its manual is read' "$(for name in wbcache wbnbd wbmeta; do grep -c '^.SH DESCRIPTION' raistobe/share/man/man1/$name.1; done | tr '\n' ' ')" '1 1 1 '
+
 blank
 check 'a run over files that are not formatted' "$(echo 'r 0 1' | "$cache" -v run "$table" 2>&1; echo $?) $(sums)" "refused 10 NotFormatted
 wbcache: 10 NotFormatted: the metadata file has no valid root; 'wbcache format' with the same table makes it that of an empty cache
