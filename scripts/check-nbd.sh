@@ -98,6 +98,22 @@ done
 { hello; write_of 1 327680 512; write_of 2 327168 1024; read_of 3 327680 512; write_of 4 327168 512; goodbye; } | serve "$table"
 check 'a write past the end finds no room, and a read is invalid' "$(status) $(replies)" '0 00:04 16:03 1c:01 1c:02 '
 
+# --- Zeros: where they are asked for and nowhere else, in sectors of the cache too, any number of them, and durable where that is wanted.
+fresh
+full_of() { # a byte, how many
+  head -c "$2" /dev/zero | tr '\0' "$1"
+}
+{ hello; request 1 1 0 2048; full_of x 2048; request 6 2 512 1024; read_of 3 0 2048; goodbye; } | serve "$table"
+{ full_of x 512; full_of '\000' 1024; full_of x 512; } >wanted.bin
+check 'zeros within what was written' "$(status) $(tail -c 2048 out.bin | cmp - wanted.bin 2>&1)." '0 .'
+printf 'w 0 4 22\nr 0 4\nwork\nw 0 4 33\nsuspend\n' | "$cache" run "$table" >/dev/null
+{ hello; request 6 1 512 1024; read_of 2 0 2048; goodbye; } | serve "$table"
+{ full_of 3 512; full_of '\000' 1024; full_of 3 512; } >wanted.bin
+check 'zeros in a block that is cached' "$(status) $(tail -c 2048 out.bin | cmp - wanted.bin 2>&1). $(head -c 512 o.img | tr -d '"' | wc -c)" '0 . 0'
+{ hello; request 6 1 0 327680; request 6 2 0 4294966784; request 6 3 327680 512; flush_of 4; goodbye; } | serve "$table"
+check 'zeros all over the origin, and past its end' "$(status) $(replies)" '0 00:01 00:04 1c:02 1c:03 '
+check 'and then it reads as zeros' "$(printf 'r 0 640\n' | "$cache" run "$table" | cut -d' ' -f2 | sort -u)" 00
+
 # --- What is told.
 { hello; goodbye; } | serve "$table"
 check 'what was opened, and how it stands at the end' "$(sed 's/ [0-9]*\/4 64 .*/ ../' told.txt)" 'wbnbd: opened 640 sectors; 0 of 4 cache blocks mapped, 0 dirty

@@ -48,6 +48,7 @@ if command -v python3 >/dev/null; then
   call "$top/scripts/images.py" "$bench"
   call "$top/scripts/twin.py" "$cache"
   call "$top/scripts/weather.py" "$cache" "$server"
+  call "$top/scripts/manual.py" "$cache" "$server" "$meta"
 else
   echo 'not tried: there is no python3, by which stops, faults, lives, images and bad weather are played'
 fi
@@ -64,6 +65,15 @@ fresh() { # the same, formatted
 }
 table='cache m.img c.img o.img 64 0 tinylfu 0'
 sums() { cksum m.img c.img o.img | cut -d' ' -f1 | tr '\n' ' '; }
+# --- A release: its files are those that it lists, and its programs run where nothing else is.
+release=$(sh "$top/scripts/package.sh" "$work/raistobe.tar.gz" "$cache" "$server" "$meta")
+tar -xzf "$release"
+check 'the files of a release' "$(cd raistobe && sha256sum --quiet -c SHA256SUMS 2>&1; find . -type f | wc -l)" "$(($(wc -l <raistobe/SHA256SUMS) + 1))"
+blank
+check 'its programs run' "$(env -i raistobe/bin/wbcache format "$table") $(env -i raistobe/bin/wbmeta check "$table") $(env -i raistobe/bin/wbnbd --version)" \
+  "formatted 4 10 ok 0 clean 0 0 $("$server" --version)"
+check 'and its manual is read' "$(for name in wbcache wbnbd wbmeta; do grep -c '^.SH DESCRIPTION' raistobe/share/man/man1/$name.1; done | tr '\n' ' ')" '1 1 1 '
+
 blank
 check 'a run over files that are not formatted' "$(echo 'r 0 1' | "$cache" -v run "$table" 2>&1; echo $?) $(sums)" "refused 10 NotFormatted
 wbcache: 10 NotFormatted: the metadata file has no valid root; 'wbcache format' with the same table makes it that of an empty cache
@@ -153,6 +163,18 @@ while IFS='|' read -r changes printed status reason <&4; do
   check "what wbmeta tells of metadata after $changes" "$says" "$(told_of_metadata "$printed" "$status") $before"
   if test "$status" != 0; then check "files after $changes" "$(sums)" "$before"; fi
 done 4<rows.txt
+
+# All that is dirty is written home, and the cache is left clean; the table's mode and policy do not matter, nor that it was clean.
+fresh
+check 'nothing dirty' "$("$meta" writeback "$table" 2>&1) $("$meta" check "$table")" 'ok 0 ok 2 clean 0 0'
+printf 'w 0 1 11\nr 0 1\nwork\nw 0 1 22\nw 70 1 33\nr 70 1\nwork\nw 70 1 44\nflush\n' | "$cache" run "$table" >out.txt
+check 'what is dirty before' "$("$meta" check "$table" | cut -d' ' -f1,3-)" 'ok unclean 2 2'
+check 'what was written home' "$("$meta" writeback 'cache m.img c.img o.img 64 1 passthrough tinylfu 2 promote_min 3' 2>&1)" 'ok 2'
+check 'the cache is clean then' "$("$meta" check "$table" | cut -d' ' -f1,3-)" 'ok clean 2 0'
+check 'and the origin has it' "$(for at in 0 35840; do tail -c +$((at + 1)) o.img | head -c 512 | od -An -v -tx1 -w1 | sort -u | tr -d ' \n'; done)" 2244
+check 'nothing is shown to who does not look on' "$("$meta" writeback "$table" 2>&1 >/dev/null)" ''
+check 'and what is no table' "$("$meta" writeback 'cache m.img' 2>/dev/null) $?" 'refused 16 BadTable 1'
+check 'and other files' "$("$meta" writeback 'cache o.img c.img m.img 64 0 tinylfu 0' 2>/dev/null) $?" 'refused 9 Geometry 1'
 
 rows tables.txt >rows.txt
 while IFS='|' read -r words reason <&4; do

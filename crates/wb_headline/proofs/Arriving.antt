@@ -9,7 +9,6 @@ use Rattle.wb_link.specs.Openings.{Site, Stage, Answering, Outcome, Shown, Event
 use Rattle.wb_contents.proofs.Lists.{replicated}
 use Rattle.wb_promise.specs.Clerk.{Notes, Doing, nobody}
 use Rattle.wb_simulation.specs.Noting.{NotesAgree, IsNotedSo}
-use Rattle.wb_types.specs.declared.mode.Mode.TheVariants.{Passthrough}
 use Rattle.wb_disk.specs.Device.{History}
 use Rattle.wb_meta.specs.Representing.{Stored}
 use Rattle.wb_meta.specs.declared.read_steps.ReadSteps.{ReadSteps}

@@ -11,6 +11,8 @@ mod Opened
 mod Targets
 mod Passing
 mod Requests
+mod Underway
+mod Advancing
 mod Commits
 mod Doings
 mod Starts

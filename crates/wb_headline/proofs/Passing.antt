@@ -1,5 +1,5 @@
 -- In passthrough a write or an invalidation takes its block out of the cache: where the abstract world has it, and there nobody has an order.
-use Rattle.std.proofs.Common.{◌≡◌, ◌∙◌, ◌++◌, inl, inr, ℕ, Bool, true, false, List, [], ◌∷◌, Option, Some, None, refl, sym, ap, subst, length, slice_get, slice_set}
+use Rattle.std.proofs.Common.{◌≡◌, ◌∙◌, ◌++◌, inl, inr, ℕ, false, List, Option, Some, None, refl, sym, ap, subst, slice_get, slice_set}
 use Rattle.std.proofs.lemmas.Option.{slice_get_within}
 use Rattle.wb_types.specs.declared.number.CBlock.{CBlock}
 use Rattle.wb_types.specs.declared.number.OBlock.{OBlock}
@@ -7,7 +7,6 @@ use Rattle.wb_types.specs.declared.mode.Mode.TheVariants.{Writeback, Passthrough
 use Rattle.wb_disk.specs.Device.{History}
 use Rattle.wb_contents.specs.Volume.{Volume}
 use Rattle.wb_contents.specs.Promises.{first_volume}
-use Rattle.wb_policy.specs.declared.order.Order.{Order}
 use Rattle.wb_orders.specs.declared.live_order.LiveOrder.{LiveOrder}
 use Rattle.wb_orders.specs.Orders.{Orders, order_at}
 use Rattle.wb_space.specs.declared.block.Block.TheVariants.{Mapped, Quarantined}
@@ -24,8 +23,8 @@ use Rattle.wb_policy.specs.Law.{IsMappedAt}
 use Rattle.wb_desk.specs.Entries.{IsRemoved, keeps, orders_past, unmapped}
 use Rattle.wb_desk.proofs.Leaving.{mapped_state}
 use Rattle.wb_stage.specs.Asking.{DidUnmap}
-use Rattle.wb_link.specs.Tables.{Script, Want as AbstractWant, Unmap_plain, Done as DoneThere, Order as AbstractOrder}
-use Rattle.wb_link.specs.World.{World, Shared, AbstractActor, abstract_after_all, drops}
+use Rattle.wb_link.specs.Tables.{Want as AbstractWant, Unmap_plain, Done as DoneThere, Order as AbstractOrder}
+use Rattle.wb_link.specs.World.{Shared, abstract_after_all}
 use Rattle.wb_link.specs.Clerk.{abstract_opened}
 use Rattle.wb_link.specs.Openings.{Site, AbstractPhase, site}
 use Rattle.wb_link.proofs.Link.{Linked, Ready}
@@ -34,26 +33,25 @@ use Rattle.wb_link.proofs.Opening.{Lived}
 use Rattle.wb_link.proofs.Runs.{fresh_noted}
 use Rattle.wb_link.proofs.Steps.{step_facts}
 use Rattle.wb_promise.specs.declared.job.Job.{Job}
-use Rattle.wb_promise.specs.States.{Shape, State, Actor, Target, Stands}
+use Rattle.wb_promise.specs.States.{Shape, Actor, Target, Stands}
 use Rattle.wb_promise.specs.Clerk.{Notes}
 use Rattle.wb_promise.specs.Effects.{actor_then, dropped, replacing, seen_then}
 use Rattle.wb_runs.proofs.Images.{Images, later_of}
 use Rattle.wb_runs.proofs.Metadata.{MetadataKept, AtDesk, unknowing, kept_readable}
 use Rattle.wb_runs.proofs.Desks.{unmapped_stands}
 use Rattle.wb_runs.proofs.Located.{stands_alone}
-use Rattle.wb_simulation.specs.Carried.{order_there, live_there}
+use Rattle.wb_simulation.specs.Carried.{order_there}
 use Rattle.wb_simulation.specs.Sites.{StateTakesClean}
 use Rattle.wb_simulation.specs.Telling.{Quietly}
-use Rattle.wb_simulation.specs.Worlds.{zeros, Situation, OrderIsThere, Unmaps, WorldFollowsBy}
-use Rattle.wb_simulation.specs.Laws.{HasNoOrder, UnmapFollowed, IsRequestJob, WantsNext, after_step}
+use Rattle.wb_simulation.specs.Worlds.{zeros, OrderIsThere, Unmaps}
+use Rattle.wb_simulation.specs.Laws.{HasNoOrder, UnmapFollowed, IsRequestJob, after_step}
 use Rattle.wb_simulation.proofs.Orders.{cache_there}
 use Rattle.wb_simulation.proofs.Noted.{notes_followed}
 use Rattle.wb_simulation.proofs.Opening.{images_followed}
 use Rattle.wb_simulation.proofs.Unmapping.{unmaps_followed}
 use Rattle.wb_headline.specs.Desks.{live_orders, orders_living, block_there}
 use Rattle.wb_headline.proofs.Desking.{desk_unmaps}
-use Rattle.wb_headline.proofs.Events.{Reached}
-use Rattle.wb_headline.proofs.Following.{situation, size, most, many, Followed, Goes}
+use Rattle.wb_headline.proofs.Following.{situation, size, many, Followed, Goes}
 use Rattle.wb_headline.proofs.Orders.{stands_so}
 use Rattle.wb_headline.proofs.Seeing.{slot_there}
 use Rattle.wb_headline.proofs.Targets.{standing, actor_is, beside, noted_within, leads_on}
