@@ -84,7 +84,7 @@ old_left image sectors_of before old New sectors places may size each =
       reached = λ place r.
           let there = held.reached place r in
           let w = element_beside shade.list sectors place there.sector (sym shade.size) there.there in
-          let P : Content → Type 0 = λ x. ReadsAs x (held.nodes place) in
+          let P : Content → Type 0 = λ x. ReadsAs old.root.version x (held.nodes place) in
           elim (shade.each place w.0 there.sector w.1 there.there).same [
             | inl same ↦ record { sector = w.0; there = w.1; reads = subst P same there.reads }
             | inr new ↦ absurd (

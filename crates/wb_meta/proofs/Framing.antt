@@ -1,6 +1,7 @@
 -- What is read of a tree depends on the places that it reaches alone.
 use Rattle.std.proofs.Common.{◌≡◌, ◌+◌, ◌*◌, ◌==◌, ℕ, zero, suc, Bool, true, false, cond, nat_eq, List, [], ◌∷◌, ◌++◌, Option, Some, None, Ok, Err, refl, sym, ◌∙◌, ap, subst}
 use Rattle.std.specs.Prelude.{slice_index, if◌then◌else◌}
+use Rattle.wb_types.specs.declared.version.Version.{Version}
 use Rattle.wb_types.specs.declared.entry.Entry.{Entry}
 use Rattle.wb_types.specs.declared.number.Place.{Place}
 use Rattle.wb_types.specs.Limits.{depth_of}
@@ -112,8 +113,8 @@ top_following a b root None next e agree = e
 top_following a b root (Some top) next e agree = (node_following a b root (depth_of root.geometry.cache_blocks) 0 top (nothing_found root) next e).same agree
 
 -- a sector reads as one node or none
-pub reads_one : (sector : Content) (a b : Option Node) → ReadsAs sector a → ReadsAs sector b → a ≡ b
-reads_one sector None None x y = refl
-reads_one sector None (Some node) x y = absurd (x node y)
-reads_one sector (Some node) None x y = absurd (y node x)
-reads_one sector (Some node) (Some other) x y = ap (λ n. Some n) (one_node sector node other x y)
+pub reads_one : (version : Version) (sector : Content) (a b : Option Node) → ReadsAs version sector a → ReadsAs version sector b → a ≡ b
+reads_one version sector None None x y = refl
+reads_one version sector None (Some node) x y = absurd (x node y)
+reads_one version sector (Some node) None x y = absurd (y node x)
+reads_one version sector (Some node) (Some other) x y = ap (λ n. Some n) (one_node sector node other x.spelled y.spelled)

@@ -7,6 +7,7 @@ use Rattle.wb_types.specs.Limits.{depth_of}
 use Rattle.wb_types.specs.declared.number.Place.{Place}
 use Rattle.wb_types.specs.declared.entry.Entry.{Entry}
 use Rattle.wb_types.specs.declared.geometry.Geometry.{Geometry}
+use Rattle.wb_types.specs.declared.version.Version.TheVariants.{One}
 use Rattle.wb_disk.specs.Device.{Content, History}
 use Rattle.wb_format.specs.declared.node.Node.{Node}
 use Rattle.wb_format.specs.declared.root.Root.{Root}
@@ -25,6 +26,7 @@ use Rattle.wb_disk.specs.Crashes.{MayLeave, AfterEveryCrash}
 use Rattle.wb_meta.specs.Representing.{RepresentsTree, RepresentsOldOrTree, Stored}
 use Rattle.wb_meta.specs.Placing.{HavePlaces, IsPlaced, MayCommit}
 use Rattle.wb_meta.specs.Imaging.{IsNextImage}
+use Rattle.wb_meta.proofs.Versions.{version_of, same_version, first_keeps}
 use Rattle.wb_meta.proofs.Crashing.{come_crash, failed_crash, done_crash}
 use Rattle.wb_meta.proofs.Storing.{same_place, Represents-stored}
 
@@ -143,6 +145,16 @@ module _ (m n : Mapping) (plan : ImagePlan) (image : Image) (device : List Histo
       ]
     ]
 
+    -- all is of the first version
+    new_version : image.root.version ≡ One
+    new_version = same_version image.root old.root (next.image_is.root_geometry ∙ sym next.same_geometry) ∙ (next.represents before left).newest.valid.version
+
+    -- the image writes the words of the tree
+    words_of : All (λ (node : Place × Node). HasWordsOf n node.1) image.nodes.items
+    words_of =
+        let one : plan.geometry.version ≡ One = sym (version_of image.root plan.geometry next.image_is.root_geometry) ∙ new_version in
+        subst (λ (k : Mapping). All (λ (node : Place × Node). HasWordsOf k node.1) image.nodes.items) (first_keeps plan.geometry.version n one) next.image_is.words
+
     new_generation : image.root.generation ≡ old.root.generation + 1
     new_generation = next.image_is.root_generation ∙ next.next
 
@@ -164,6 +176,7 @@ module _ (m n : Mapping) (plan : ImagePlan) (image : Image) (device : List Histo
           node = was.node;
           spelled = was.spelled;
           right = record {
+            mapping = right.mapping;
             name = right.name;
             not_newer = omega arith;
             words = λ j below. right.words j below
@@ -179,7 +192,8 @@ module _ (m n : Mapping) (plan : ImagePlan) (image : Image) (device : List Histo
         let is = sector_at place.0 inside.1 in
         let stands = each_at (λ node. place_of n node.1.level node.1.index ≡ Some node.0) image.nodes.items one.number one.node next.image_is.stands one.listed in
         let generation_is = each_at (λ node. node.1.generation ≡ plan.generation) image.nodes.items one.number one.node next.image_is.generations one.listed in
-        let words = each_at (λ node. HasWordsOf n node.1) image.nodes.items one.number one.node next.image_is.words one.listed in
+        let words = each_at (λ node. HasWordsOf n node.1) image.nodes.items one.number one.node words_of one.listed in
+        let mapping = each_at (λ node. node.1.dirty ≡ false) image.nodes.items one.number one.node next.image_is.mappings one.listed in
         let root_is = next.image_is.root_generation in
         let there : place_of n one.node.1.level one.node.1.index ≡ Some place = ap (λ (name : NodeName). place_of n name.level name.index) one.name ∙ known in
         let same : one.node.0 ≡ place = same_some (place_of n one.node.1.level one.node.1.index) one.node.0 place stands there in
@@ -188,7 +202,7 @@ module _ (m n : Mapping) (plan : ImagePlan) (image : Image) (device : List Histo
           there = is.1;
           node = one.node.1;
           spelled = placed.nodes place.0 is.0 is.1 one.number one.node (slice_get_within image.nodes.items one.number one.node one.listed) one.listed (ap (λ (p : Place). p.0) same);
-          right = record { name = one.name; not_newer = omega arith; words = words };
+          right = record { mapping = mapping; name = one.name; not_newer = omega arith; words = words };
         }
 
     stores_by : (level index : ℕ) (place : Place) → place_of n level index ≡ Some place → (o : Option Place) → place_of m level index ≡ o → StoresNode after n image.root.generation level index place.0
@@ -233,7 +247,7 @@ module _ (m n : Mapping) (plan : ImagePlan) (image : Image) (device : List Histo
           slot = image.root.generation % 2;
           sector = is.0;
           there = is.1;
-          valid = record { spelled = placed.root (image.root.generation % 2) is.0 is.1 refl; parity = refl };
+          valid = record { spelled = placed.root (image.root.generation % 2) is.0 is.1 refl; parity = refl; version = new_version };
           newest = older_root;
         }
 

@@ -7,6 +7,7 @@ pub mod Formatted
 pub mod Framing
 pub mod Imaging
 pub mod Storing
+pub mod Versions
 pub mod Sectors
 pub mod Counting
 pub mod Loaded

@@ -2,6 +2,7 @@
 use Rattle.std.proofs.Common.{◌≡◌, ◌⊎◌, ℕ, Bool, true, false, cond, nat_eq, List, [], ◌∷◌, ◌++◌, Option, Some, None, Ok, Err, length, refl, sym, ◌∙◌, ap, subst, arith, inl, inr}
 use Rattle.std.specs.List.{slice_get}
 use Rattle.std.proofs.lemmas.Bool.Decides.{nat_tests}
+use Rattle.wb_types.specs.declared.version.Version.{Version}
 use Rattle.wb_types.specs.declared.number.Place.{Place}
 use Rattle.wb_types.specs.declared.refusal.Refusal.{Refusal}
 use Rattle.wb_types.specs.declared.refusal.Refusal.TheVariants.{Range, Crosses, Busy, Defer, Io, Failed, Memory, Worn, Geometry, NotFormatted, Damaged, Mismatch, NotClean, BadMessage, WrongMode, BadTable, GenerationEnd}
@@ -61,46 +62,46 @@ IfErr-handed (Ok x) refusal P handed represents = tt
 IfErr-handed (Err e) refusal P handed represents = subst P (sym handed) represents
 
 -- a sector reads alike in all ways to read it
-pub there_one : (sectors : List Content) (a b : Nodes) (place : ℕ) → ReadsThere sectors a place → ReadsThere sectors b place → a place ≡ b place
-there_one sectors a b place x y =
+pub there_one : (version : Version) (sectors : List Content) (a b : Nodes) (place : ℕ) → ReadsThere version sectors a place → ReadsThere version sectors b place → a place ≡ b place
+there_one version sectors a b place x y =
     let same : x.sector ≡ y.sector = (let both : Some x.sector ≡ Some y.sector = sym x.there ∙ y.there in cc) in
-    let P : Content → Type 0 = λ s. ReadsAs s (a place) in
-    reads_one y.sector (a place) (b place) (subst P same x.reads) y.reads
+    let P : Content → Type 0 = λ s. ReadsAs version s (a place) in
+    reads_one version y.sector (a place) (b place) (subst P same x.reads) y.reads
 
 -- what was read, with one node more
 abbrev pub with_node : Nodes → ℕ → Option Node → Nodes
 with_node nodes here node place = cond (nat_eq here place) node (nodes place)
 
-with_node_there : (sectors : List Content) (nodes : Nodes) (here : ℕ) (node : Option Node) (place : ℕ) (test : Bool) → (nat_eq here place) ≡ test → ReadsThere sectors (λ _. node) here
-    → (test ≡ false → ReadsThere sectors nodes place) → ReadsThere sectors (with_node nodes here node) place
-with_node_there sectors nodes here node place true e there others =
+with_node_there : (version : Version) (sectors : List Content) (nodes : Nodes) (here : ℕ) (node : Option Node) (place : ℕ) (test : Bool) → (nat_eq here place) ≡ test → ReadsThere version sectors (λ _. node) here
+    → (test ≡ false → ReadsThere version sectors nodes place) → ReadsThere version sectors (with_node nodes here node) place
+with_node_there version sectors nodes here node place true e there others =
     let same : here ≡ place = grind (arith, nat_tests) in
     let is : node ≡ with_node nodes here node place = sym (ap (λ (b : Bool). cond b node (nodes place)) e) in
-    let P : Option Node → Type 0 = λ o. ReadsAs there.sector o in
+    let P : Option Node → Type 0 = λ o. ReadsAs version there.sector o in
     record { sector = there.sector; there = ap (λ (n : ℕ). slice_get sectors n) (sym same) ∙ there.there; reads = subst P is there.reads }
-with_node_there sectors nodes here node place false e there others =
+with_node_there version sectors nodes here node place false e there others =
     let was = others refl in
     let is : nodes place ≡ with_node nodes here node place = sym (ap (λ (b : Bool). cond b node (nodes place)) e) in
-    let P : Option Node → Type 0 = λ o. ReadsAs was.sector o in
+    let P : Option Node → Type 0 = λ o. ReadsAs version was.sector o in
     record { sector = was.sector; there = was.there; reads = subst P is was.reads }
 
 not_here : (test rest : Bool) → cond test true rest ≡ true → test ≡ false → rest ≡ true
 not_here true rest e f = absurd cc
 not_here false rest e f = e
 
-pub there_pushed : (sectors : List Content) (nodes : Nodes) (reached : List PlacedNode) (wanted : PlacedNode) (node : Option Node) → ReadThere sectors nodes reached → ReadsThere sectors (λ _. node) wanted.place.0
-    → ReadThere sectors (with_node nodes wanted.place.0 node) (reached ++ wanted ∷ [])
-there_pushed sectors nodes reached wanted node was there place r =
+pub there_pushed : (version : Version) (sectors : List Content) (nodes : Nodes) (reached : List PlacedNode) (wanted : PlacedNode) (node : Option Node) → ReadThere version sectors nodes reached → ReadsThere version sectors (λ _. node) wanted.place.0
+    → ReadThere version sectors (with_node nodes wanted.place.0 node) (reached ++ wanted ∷ [])
+there_pushed version sectors nodes reached wanted node was there place r =
     let split : cond (nat_eq wanted.place.0 place) true (is_reached place reached) ≡ true = sym (is_reached-push place reached wanted) ∙ r in
-    with_node_there sectors nodes wanted.place.0 node place (nat_eq wanted.place.0 place) refl there (λ off. was place (not_here (nat_eq wanted.place.0 place) (is_reached place reached) split off))
+    with_node_there version sectors nodes wanted.place.0 node place (nat_eq wanted.place.0 place) refl there (λ off. was place (not_here (nat_eq wanted.place.0 place) (is_reached place reached) split off))
 
 -- other sectors that read so at the nodes that were reached do so at those before, and there as the node that was told
-before_there : (sectors : List Content) (others : Nodes) (reached : List PlacedNode) (wanted : PlacedNode) → ReadThere sectors others (reached ++ wanted ∷ []) → ReadThere sectors others reached
-before_there sectors others reached wanted there place r = there place (reached_before place reached wanted r)
+before_there : (version : Version) (sectors : List Content) (others : Nodes) (reached : List PlacedNode) (wanted : PlacedNode) → ReadThere version sectors others (reached ++ wanted ∷ []) → ReadThere version sectors others reached
+before_there version sectors others reached wanted there place r = there place (reached_before place reached wanted r)
 
-told_there : (sectors : List Content) (others : Nodes) (reached : List PlacedNode) (wanted : PlacedNode) (node : Option Node) → ReadThere sectors others (reached ++ wanted ∷ []) → ReadsThere sectors (λ _. node) wanted.place.0
+told_there : (version : Version) (sectors : List Content) (others : Nodes) (reached : List PlacedNode) (wanted : PlacedNode) (node : Option Node) → ReadThere version sectors others (reached ++ wanted ∷ []) → ReadsThere version sectors (λ _. node) wanted.place.0
     → others wanted.place.0 ≡ node
-told_there sectors others reached wanted node there here = there_one sectors others (λ _. node) wanted.place.0 (there wanted.place.0 (reached_last wanted reached)) here
+told_there version sectors others reached wanted node there here = there_one version sectors others (λ _. node) wanted.place.0 (there wanted.place.0 (reached_last wanted reached)) here
 
 -- nothing of the tree was read
 pub loaded_none : (sectors : List Content) (root : Root) (l : Loading) → IsNewestRoot sectors root → l.found.reached ≡ [] → ((nodes : Nodes) → outcome l nodes ≡ tree_read root nodes) → HasLoaded sectors root l
@@ -112,18 +113,18 @@ loaded_none sectors root l newest nothing begun = record {
 }
 
 -- the loader was told what its wanted sector spells
-pub loaded_more : (sectors : List Content) (root : Root) (l more : Loading) (wanted : PlacedNode) (node : Option Node) → HasLoaded sectors root l → ReadsThere sectors (λ _. node) wanted.place.0
+pub loaded_more : (sectors : List Content) (root : Root) (l more : Loading) (wanted : PlacedNode) (node : Option Node) → HasLoaded sectors root l → ReadsThere root.version sectors (λ _. node) wanted.place.0
     → more.found.reached ≡ l.found.reached ++ wanted ∷ [] → ((nodes : Nodes) → nodes wanted.place.0 ≡ node → outcome more nodes ≡ outcome l nodes) → HasLoaded sectors root more
 loaded_more sectors root l more wanted node loaded here reached goes_on =
-    let P : List PlacedNode → Type 0 = λ list. ReadThere sectors (with_node loaded.nodes wanted.place.0 node) list in
+    let P : List PlacedNode → Type 0 = λ list. ReadThere root.version sectors (with_node loaded.nodes wanted.place.0 node) list in
     record {
       newest = loaded.newest;
       nodes = with_node loaded.nodes wanted.place.0 node;
-      reached = subst P (sym reached) (there_pushed sectors loaded.nodes l.found.reached wanted node loaded.reached here);
+      reached = subst P (sym reached) (there_pushed root.version sectors loaded.nodes l.found.reached wanted node loaded.reached here);
       rest = λ others there.
-          let Q : List PlacedNode → Type 0 = λ list. ReadThere sectors others list in
+          let Q : List PlacedNode → Type 0 = λ list. ReadThere root.version sectors others list in
           let all = subst Q reached there in
-          goes_on others (told_there sectors others l.found.reached wanted node all here) ∙ loaded.rest others (before_there sectors others l.found.reached wanted all);
+          goes_on others (told_there root.version sectors others l.found.reached wanted node all here) ∙ loaded.rest others (before_there root.version sectors others l.found.reached wanted all);
     }
 
 -- memory was wanted for a tree
@@ -134,7 +135,7 @@ memory_refused sectors root refusal newest size memory =
 
 -- it was refused
 pub loaded_refused : (sectors : List Content) (root : Root) (l : Loading) (wanted : PlacedNode) (node : Option Node) (refusal : Refusal) → root.geometry.meta_sectors ≡ length sectors → HasLoaded sectors root l
-    → ReadsThere sectors (λ _. node) wanted.place.0 → ((nodes : Nodes) → nodes wanted.place.0 ≡ node → FailsBy refusal (outcome l nodes)) → IsRefusedBy sectors refusal
+    → ReadsThere root.version sectors (λ _. node) wanted.place.0 → ((nodes : Nodes) → nodes wanted.place.0 ≡ node → FailsBy refusal (outcome l nodes)) → IsRefusedBy sectors refusal
 loaded_refused sectors root l wanted node refusal size loaded here fails = elim (fails_by refusal (outcome l (λ _. node)) (fails (λ _. node) refl)) [
   | inl memory ↦ memory_refused sectors root refusal loaded.newest size memory
   | inr named ↦
@@ -146,10 +147,10 @@ loaded_refused sectors root l wanted node refusal size loaded here fails = elim 
         size = size;
         nodes = with_node loaded.nodes wanted.place.0 node;
         reached = l.found.reached ++ wanted ∷ [];
-        there = there_pushed sectors loaded.nodes l.found.reached wanted node loaded.reached here;
+        there = there_pushed root.version sectors loaded.nodes l.found.reached wanted node loaded.reached here;
         reads = λ others all.
-            sym (loaded.rest others (before_there sectors others l.found.reached wanted all))
-            ∙ subst (λ (r : Refusal). Q r others) named.damaged (fails others (told_there sectors others l.found.reached wanted node all here));
+            sym (loaded.rest others (before_there root.version sectors others l.found.reached wanted all))
+            ∙ subst (λ (r : Refusal). Q r others) named.damaged (fails others (told_there root.version sectors others l.found.reached wanted node all here));
       } in
       subst P (sym named.damaged) made
 ]

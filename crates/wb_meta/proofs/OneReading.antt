@@ -5,6 +5,7 @@ use Rattle.std.proofs.lemmas.Bool.Decides.{nat_tests}
 use Rattle.wb_types.specs.declared.number.Place.{Place}
 use Rattle.wb_types.specs.declared.refusal.Refusal.{Refusal}
 use Rattle.wb_types.specs.declared.refusal.Refusal.TheVariants.{Range, Crosses, Busy, Defer, Io, Failed, Memory, Worn, Geometry, NotFormatted, Damaged, Mismatch, NotClean, BadMessage, WrongMode, BadTable, GenerationEnd}
+use Rattle.wb_types.specs.declared.version.Version.{Version}
 use Rattle.wb_disk.specs.Device.{Content}
 use Rattle.wb_format.specs.declared.root.Root.{Root}
 use Rattle.wb_format.specs.Layout.{SpellsRoot}
@@ -39,9 +40,9 @@ one_newest sectors a b x y = newest_by sectors a b (nat_eq x.slot y.slot) x y re
 joined : Nodes → Nodes → List PlacedNode → Nodes
 joined a b reached place = cond (is_reached place reached) (a place) (b place)
 
-there_as : (sectors : List Content) (a b : Nodes) (place : ℕ) → a place ≡ b place → ReadsThere sectors a place → ReadsThere sectors b place
-there_as sectors a b place same there =
-    let P : Option _ → Type 0 = λ o. ReadsAs there.sector o in
+there_as : (version : Version) (sectors : List Content) (a b : Nodes) (place : ℕ) → a place ≡ b place → ReadsThere version sectors a place → ReadsThere version sectors b place
+there_as version sectors a b place same there =
+    let P : Option _ → Type 0 = λ o. ReadsAs version there.sector o in
     record { sector = there.sector; there = there.there; reads = subst P same there.reads }
 
 joined_first : (a b : Nodes) (reached : List PlacedNode) (place : ℕ) → is_reached place reached ≡ true → a place ≡ joined a b reached place
@@ -52,21 +53,24 @@ joined_second : (a b : Nodes) (reached : List PlacedNode) (place : ℕ) → is_r
 unfolding joined
 joined_second a b reached place e = sym (ap (λ (test : Bool). cond test (a place) (b place)) e)
 
-joined_by : (sectors : List Content) (a b : Nodes) (reached : List PlacedNode) (place : ℕ) (test : Bool) → is_reached place reached ≡ test → ReadThere sectors a reached → ReadsThere sectors b place
-    → ReadsThere sectors (joined a b reached) place
-joined_by sectors a b reached place true e first second = there_as sectors a (joined a b reached) place (joined_first a b reached place e) (first place e)
-joined_by sectors a b reached place false e first second = there_as sectors b (joined a b reached) place (joined_second a b reached place e) second
+joined_by : (version : Version) (sectors : List Content) (a b : Nodes) (reached : List PlacedNode) (place : ℕ) (test : Bool) → is_reached place reached ≡ test → ReadThere version sectors a reached → ReadsThere version sectors b place
+    → ReadsThere version sectors (joined a b reached) place
+joined_by version sectors a b reached place true e first second = there_as version sectors a (joined a b reached) place (joined_first a b reached place e) (first place e)
+joined_by version sectors a b reached place false e first second = there_as version sectors b (joined a b reached) place (joined_second a b reached place e) second
 
-there_first : (sectors : List Content) (a b : Nodes) (reached : List PlacedNode) → ReadThere sectors a reached → ReadThere sectors (joined a b reached) reached
-there_first sectors a b reached first place r = there_as sectors a (joined a b reached) place (joined_first a b reached place r) (first place r)
+there_first : (version : Version) (sectors : List Content) (a b : Nodes) (reached : List PlacedNode) → ReadThere version sectors a reached → ReadThere version sectors (joined a b reached) reached
+there_first version sectors a b reached first place r = there_as version sectors a (joined a b reached) place (joined_first a b reached place r) (first place r)
 
-there_second : (sectors : List Content) (a b : Nodes) (reached other : List PlacedNode) → ReadThere sectors a reached → ReadThere sectors b other → ReadThere sectors (joined a b reached) other
-there_second sectors a b reached other first second place r = joined_by sectors a b reached place (is_reached place reached) refl first (second place r)
+there_second : (sectors : List Content) (p q : Root) (a b : Nodes) (reached other : List PlacedNode) → p ≡ q → ReadThere p.version sectors a reached → ReadThere q.version sectors b other
+    → ReadThere q.version sectors (joined a b reached) other
+there_second sectors p q a b reached other same first second place r =
+    let moved : ReadThere q.version sectors a reached = subst (λ (t : Root). ReadThere t.version sectors a reached) same first in
+    joined_by q.version sectors a b reached place (is_reached place reached) refl moved (second place r)
 
 -- what is held is read of whatever reads alike at its nodes
-held_read : (sectors : List Content) (root : Root) (found : Found) (others : Nodes) → Represents sectors root found → ReadThere sectors others found.reached → tree_read root others ≡ Ok found
+held_read : (sectors : List Content) (root : Root) (found : Found) (others : Nodes) → Represents sectors root found → ReadThere root.version sectors others found.reached → tree_read root others ≡ Ok found
 held_read sectors root found others held there =
-    top_following held.nodes others root root.top found held.reads (λ place r. there_one sectors held.nodes others place (held.reached place r) (there place r))
+    top_following held.nodes others root root.top found held.reads (λ place r. there_one root.version sectors held.nodes others place (held.reached place r) (there place r))
 
 -- ---- one state, or one refusal
 
@@ -74,8 +78,8 @@ pub one_fault : (sectors : List Content) (a b : Place) → IsDamagedAt sectors a
 one_fault sectors a b x y =
     let nodes = joined x.nodes y.nodes x.reached in
     let root = one_newest sectors x.root y.root x.newest y.newest in
-    let first : tree_read x.root nodes ≡ Err a = x.reads nodes (there_first sectors x.nodes y.nodes x.reached x.there) in
-    let second : tree_read y.root nodes ≡ Err b = y.reads nodes (there_second sectors x.nodes y.nodes x.reached y.reached x.there y.there) in
+    let first : tree_read x.root nodes ≡ Err a = x.reads nodes (there_first x.root.version sectors x.nodes y.nodes x.reached x.there) in
+    let second : tree_read y.root nodes ≡ Err b = y.reads nodes (there_second sectors x.root y.root x.nodes y.nodes x.reached y.reached root x.there y.there) in
     let both : ◌≡◌ {A = ReadOutcome} (Err a) (Err b) = sym first ∙ (ap (λ (r : Root). tree_read r nodes) root ∙ second) in
     cc
 
@@ -83,8 +87,8 @@ no_fault : (sectors : List Content) (root : Root) (found : Found) (place : Place
 no_fault sectors root found place held damage =
     let nodes = joined held.nodes damage.nodes found.reached in
     let same = one_newest sectors root damage.root held.newest damage.newest in
-    let first : tree_read root nodes ≡ Ok found = held_read sectors root found nodes held (there_first sectors held.nodes damage.nodes found.reached held.reached) in
-    let second : tree_read damage.root nodes ≡ Err place = damage.reads nodes (there_second sectors held.nodes damage.nodes found.reached damage.reached held.reached damage.there) in
+    let first : tree_read root nodes ≡ Ok found = held_read sectors root found nodes held (there_first root.version sectors held.nodes damage.nodes found.reached held.reached) in
+    let second : tree_read damage.root nodes ≡ Err place = damage.reads nodes (there_second sectors root damage.root held.nodes damage.nodes found.reached damage.reached same held.reached damage.there) in
     let both : ◌≡◌ {A = ReadOutcome} (Ok found) (Err place) = sym first ∙ (ap (λ (r : Root). tree_read r nodes) same ∙ second) in
     absurd cc
 
@@ -156,8 +160,8 @@ pub one_tree : (sectors : List Content) (a b : Root) (f g : Found) → Represent
 one_tree sectors a b f g x y =
     let nodes = joined x.nodes y.nodes f.reached in
     let same = one_newest sectors a b x.newest y.newest in
-    let first : tree_read a nodes ≡ Ok f = held_read sectors a f nodes x (there_first sectors x.nodes y.nodes f.reached x.reached) in
-    let second : tree_read b nodes ≡ Ok g = held_read sectors b g nodes y (there_second sectors x.nodes y.nodes f.reached g.reached x.reached y.reached) in
+    let first : tree_read a nodes ≡ Ok f = held_read sectors a f nodes x (there_first a.version sectors x.nodes y.nodes f.reached x.reached) in
+    let second : tree_read b nodes ≡ Ok g = held_read sectors b g nodes y (there_second sectors a b x.nodes y.nodes f.reached g.reached same x.reached y.reached) in
     let both : ◌≡◌ {A = ReadOutcome} (Ok f) (Ok g) = sym first ∙ (ap (λ (t : Root). tree_read t nodes) same ∙ second) in
     (same, cc)
 
@@ -211,9 +215,9 @@ one_reading sectors a b r t x y =
     let nodes = joined x.nodes y.nodes x.reached in
     let same = one_newest sectors a b x.newest y.newest in (
       same,
-      sym (x.reads nodes (there_first sectors x.nodes y.nodes x.reached x.there))
-          ∙ (ap (λ (q : Root). tree_read q nodes) same ∙ y.reads nodes (there_second sectors x.nodes y.nodes x.reached y.reached x.there y.there)),
+      sym (x.reads nodes (there_first a.version sectors x.nodes y.nodes x.reached x.there))
+          ∙ (ap (λ (q : Root). tree_read q nodes) same ∙ y.reads nodes (there_second sectors a b x.nodes y.nodes x.reached y.reached same x.there y.there)),
     )
 
-pub whole_read : (sectors : List Content) (nodes : Nodes) (root : Root) (reading : ReadOutcome) → RepresentsReading sectors root reading → AreNodes sectors nodes → tree_read root nodes ≡ reading
+pub whole_read : (sectors : List Content) (nodes : Nodes) (root : Root) (reading : ReadOutcome) → RepresentsReading sectors root reading → AreNodes root.version sectors nodes → tree_read root nodes ≡ reading
 whole_read sectors nodes root reading held are = held.reads nodes (λ here r. let w = held.there here r in record { sector = w.sector; there = w.there; reads = are here w.sector w.there })

@@ -1,10 +1,12 @@
 -- The root that an opening writes, over the same tree: the tree is read by it as before.
-use Rattle.std.proofs.Common.{◌≡◌, ◌≢◌, ◌≤◌, ◌<◌, ◌+◌, ◌*◌, ◌%◌, ◌==◌, ◌&&◌, ◌∙◌, sym, ap, subst, refl, ℕ, zero, suc, Bool, true, false, List, Option, Some, None, Ok, Err, length, slice_get, nat_le, arith, inl, inr}
+use Rattle.std.proofs.Common.{◌≡◌, ◌≢◌, ◌≤◌, ◌<◌, ◌+◌, ◌*◌, ◌%◌, ◌==◌, ◌&&◌, ◌∙◌, sym, ap, subst, refl, ℕ, zero, suc, Bool, true, false, not, List, Option, Some, None, Ok, Err, length, slice_get, nat_le, arith, inl, inr}
 use Rattle.std.specs.Prelude.{slice_index, if◌then◌else◌}
 use Rattle.std.proofs.lemmas.Bool.{cases_eq, leb-true, le-leb}
 use Rattle.std.proofs.lemmas.Option.{slice_get_cases, slice_get_within}
 use Rattle.wb_types.specs.Limits.{depth_of, node_count}
 use Rattle.wb_types.specs.declared.number.Place.{Place}
+use Rattle.wb_types.specs.declared.version.Version.{Version}
+use Rattle.wb_types.specs.declared.version.Version.TheVariants.{One}
 use Rattle.wb_disk.specs.Device.{Content, History}
 use Rattle.wb_disk.specs.Crashes.{AfterEveryCrash}
 use Rattle.wb_format.specs.declared.node.Node.{Node}
@@ -71,7 +73,7 @@ other_sector {root} image before after opening placed at content off there = eli
 
 module _ (old : Root) where
   node_is : (level index : ℕ) (node : Node) → is_node_of old level index node ≡ true → is_node_of (reopened old) level index node ≡ true
-  node_is level index node e = both_le ((node.level == level) && (node.index == index)) node.generation old.generation (old.generation + 1) (omega arith) e
+  node_is level index node e = both_le (not node.dirty && (node.level == level) && (node.index == index)) node.generation old.generation (old.generation + 1) (omega arith) e
 
   words_later : (level index : ℕ) (here : Place) (read other : Node → Found → ReadOutcome) → ((node : Node) → Later (read node) (other node)) → (is : Option Node) → Later (words_read old level index here read is) (words_read (reopened old) level index here other is)
   words_later level index here read other h None found next e = absurd (cc)
@@ -102,13 +104,15 @@ module _ (old : Root) where
       let slot = image.root.generation % 2 in
       let next : image.root.generation ≡ old.generation + 1 = ap (λ (r : Root). r.generation) opening.root_is in
       let parity = held.newest.valid.parity in
+      let kept : image.root.version ≡ old.version = ap (λ (r : Root). r.version) opening.root_is in
+      let version_is : image.root.version ≡ One = kept ∙ held.newest.valid.version in
       let root_at = sector_there after slot (omega (arith, placed.size, size)) in
       record {
         newest = record {
           slot = slot;
           sector = root_at.0;
           there = root_at.1;
-          valid = record { spelled = placed.root slot root_at.0 root_at.1 refl; parity = refl };
+          valid = record { spelled = placed.root slot root_at.0 root_at.1 refl; parity = refl; version = version_is };
           newest = λ other another older off there valid.
               let was = other_sector image before after opening placed other another off there in
               elim (cases_eq other held.newest.slot) [
@@ -129,7 +133,7 @@ module _ (old : Root) where
             let was = other_sector image before after opening placed place now.0 (λ e. absurd (let low : slot < 2 = omega arith in omega (arith, e, far, low))) now.1 in
             let both : Some now.0 ≡ Some there.sector = sym was ∙ there.there in
             let same : there.sector ≡ now.0 = cc in
-            record { sector = now.0; there = now.1; reads = subst (λ (c : Content). ReadsAs c (held.nodes place)) same there.reads };
+            record { sector = now.0; there = now.1; reads = subst (λ (v : Version). ReadsAs v now.0 (held.nodes place)) (sym kept) (subst (λ (c : Content). ReadsAs old.version c (held.nodes place)) same there.reads) };
         reads = ap (λ (r : Root). tree_read r held.nodes) opening.root_is ∙ top_later held.nodes old.top found held.reads;
       }
 
@@ -165,7 +169,7 @@ opening_may m image device old used stores opening = record {
               there = now.1 ∙ same;
               node = was.node;
               spelled = was.spelled;
-              right = record { name = was.right.name; not_newer = omega (arith, not_newer, next); words = was.right.words };
+              right = record { mapping = was.right.mapping; name = was.right.name; not_newer = omega (arith, not_newer, next); words = was.right.words };
             };
       };
 }

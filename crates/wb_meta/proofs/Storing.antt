@@ -3,6 +3,8 @@ use Rattle.std.proofs.Common.{◌≡◌, ◌≢◌, ◌&&◌, ◌==◌, ◌∙�
 use Rattle.std.proofs.lemmas.Bool.{false≢true, cases_eq, and_parts, eqb-true}
 use Rattle.wb_types.specs.Limits.{depth_of}
 use Rattle.wb_types.specs.declared.number.Place.{Place}
+use Rattle.wb_types.specs.declared.version.Version.{Version}
+use Rattle.wb_types.specs.declared.version.Version.TheVariants.{One}
 use Rattle.wb_disk.specs.Device.{Content}
 use Rattle.wb_format.specs.declared.node.Node.{Node}
 use Rattle.wb_format.specs.declared.root.Root.{Root}
@@ -13,6 +15,7 @@ use Rattle.wb_tree.specs.Images.{IsNodeOf, ReadsNode, AreRead, Stores}
 use Rattle.wb_tree.specs.Whole.{found_of}
 use Rattle.wb_tree.proofs.Stored.Whole.{StandsThere, reached_below-known, read_back}
 use Rattle.wb_meta.specs.Representing.{ReadsThere, Represents}
+use Rattle.wb_meta.proofs.Versions.{first_has}
 
 -- the first of two that is there
 either_of : {X : Type 0} → Option X → Option X → Option X
@@ -33,7 +36,7 @@ either_right None b h = h
 pub same_place : (a b : Place) → a.0 ≡ b.0 → a ≡ b
 same_place a b e = let made : ℕ → Place = λ n. record { 0 = n } in ap made e
 
-module _ (sectors : List Content) (m : Mapping) (generation : ℕ) (sound : IsSound m) (stores : Stores sectors m generation) where
+module _ (version : Version) (one : version ≡ One) (sectors : List Content) (m : Mapping) (generation : ℕ) (sound : IsSound m) (stores : Stores sectors m generation) where
   if_here : (level index place : ℕ) (there : Place) → place_of m level index ≡ Some there → (there.0 ≡ place) ⊎ (there.0 ≢ place) → Option (StandsThere m place)
   if_here level index place there known (inl same) = Some (record { level = level; index = index; where_it_is = there; known = known; here = same })
   if_here level index place there known (inr other) = None
@@ -107,18 +110,18 @@ module _ (sectors : List Content) (m : Mapping) (generation : ℕ) (sound : IsSo
           }
 
   -- where a node of the tree stands the sector reads so
-  stored_there : (place : ℕ) → StandsThere m place → ReadsThere sectors stored_nodes place
+  stored_there : (place : ℕ) → StandsThere m place → ReadsThere version sectors stored_nodes place
   unfolding stored_nodes node_here
   stored_there place stands = by_first (first_here place m.known) refl (stands_first place stands)
     where
-      by_first : (o : Option (StandsThere m place)) → first_here place m.known ≡ o → is_some o ≡ true → ReadsThere sectors stored_nodes place
+      by_first : (o : Option (StandsThere m place)) → first_here place m.known ≡ o → is_some o ≡ true → ReadsThere version sectors stored_nodes place
       by_first None e h = absurd (false≢true h)
       by_first (Some s) e h =
           let stored = stores s.level s.index s.where_it_is s.known in
           record {
             sector = stored.sector;
             there = ap (λ at. slice_get sectors at) (sym s.here) ∙ stored.there;
-            reads = subst (λ (o : Option Node). ReadsAs stored.sector o) (sym (ap (node_here place) e)) stored.spelled;
+            reads = subst (λ (o : Option Node). ReadsAs version stored.sector o) (sym (ap (node_here place) e)) (record { spelled = stored.spelled; version_has = first_has version stored.node one stored.right.mapping });
           }
 
 -- sectors that store a tree by their newest root represent it
@@ -126,7 +129,7 @@ pub Represents-stored : (sectors : List Content) (root : Root) (m : Mapping) →
     → changed m (depth_of root.geometry.cache_blocks) ≡ [] → root.top ≡ place_of m (depth_of root.geometry.cache_blocks) 0 → IsNewestRoot sectors root → Stores sectors m root.generation → Represents sectors root (found_of root m)
 Represents-stored sectors root m mapping sound inside none_changed top newest stores = record {
   newest = newest;
-  nodes = stored_nodes sectors m root.generation sound stores;
-  reached = λ place r. stored_there sectors m root.generation sound stores place (reached_below-known m (depth_of root.geometry.cache_blocks) 0 place r);
-  reads = read_back m root (stored_nodes sectors m root.generation sound stores) mapping sound inside none_changed top (stored_read sectors m root.generation sound stores);
+  nodes = stored_nodes root.version newest.valid.version sectors m root.generation sound stores;
+  reached = λ place r. stored_there root.version newest.valid.version sectors m root.generation sound stores place (reached_below-known m (depth_of root.geometry.cache_blocks) 0 place r);
+  reads = read_back m root (stored_nodes root.version newest.valid.version sectors m root.generation sound stores) mapping sound inside none_changed top (stored_read root.version newest.valid.version sectors m root.generation sound stores);
 }

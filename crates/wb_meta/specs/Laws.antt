@@ -237,5 +237,5 @@ OneReading = (sectors : List Content) (a b : Root) (x y : ReadOutcome) → Repre
 
 -- it is what is read of all that the sectors spell
 abbrev pub WholeIsRead : Type 0
-WholeIsRead = (sectors : List Content) (nodes : Nodes) (root : Root) (reading : ReadOutcome) → RepresentsReading sectors root reading → AreNodes sectors nodes
+WholeIsRead = (sectors : List Content) (nodes : Nodes) (root : Root) (reading : ReadOutcome) → RepresentsReading sectors root reading → AreNodes root.version sectors nodes
     → tree_read root nodes ≡ reading

@@ -58,8 +58,8 @@ steps_left sectors (Done state) = 0
 pub record HasLoaded (sectors : List Content) (root : Root) (l : Loading) : Type 0 where
   pub newest : IsNewestRoot sectors root
   pub nodes : Nodes
-  pub reached : ReadThere sectors nodes l.found.reached
-  pub rest : (others : Nodes) → ReadThere sectors others l.found.reached → outcome l others ≡ tree_read root others
+  pub reached : ReadThere root.version sectors nodes l.found.reached
+  pub rest : (others : Nodes) → ReadThere root.version sectors others l.found.reached → outcome l others ≡ tree_read root others
 
 -- a reading of these sectors has come so far
 abbrev pub HasRead : {A : Type 0} → List Content → ReadSteps A → Type 0

@@ -1,5 +1,6 @@
 -- Sectors that represent a mapping.
 use Rattle.std.specs.Prelude.{◌≡◌, ◌⊎◌, ℕ, true, Some, Ok, List, slice_get}
+use Rattle.wb_types.specs.declared.version.Version.{Version}
 use Rattle.wb_disk.specs.Device.{Content}
 use Rattle.wb_format.specs.declared.root.Root.{Root}
 use Rattle.wb_tree.specs.declared.placed.PlacedNode.{PlacedNode}
@@ -8,15 +9,15 @@ use Rattle.wb_tree.specs.Images.{Stores}
 use Rattle.wb_tree.specs.Whole.{found_of}
 use Rattle.wb_tree.specs.Reading.{Found, ReadOutcome, Nodes, ReadsAs, IsNewestRoot, is_reached, tree_read}
 
--- a sector that reads as this place is said to read
-pub record ReadsThere (sectors : List Content) (nodes : Nodes) (place : ℕ) : Type 0 where
+-- a sector of metadata of this version that reads as this place is said to read
+pub record ReadsThere (version : Version) (sectors : List Content) (nodes : Nodes) (place : ℕ) : Type 0 where
   pub sector : Content
   pub there : slice_get sectors place ≡ Some sector
-  pub reads : ReadsAs sector (nodes place)
+  pub reads : ReadsAs version sector (nodes place)
 
 -- the places of these nodes read so
-abbrev pub ReadThere : List Content → Nodes → List PlacedNode → Type 0
-ReadThere sectors nodes reached = (place : ℕ) → is_reached place reached ≡ true → ReadsThere sectors nodes place
+abbrev pub ReadThere : Version → List Content → Nodes → List PlacedNode → Type 0
+ReadThere version sectors nodes reached = (place : ℕ) → is_reached place reached ≡ true → ReadsThere version sectors nodes place
 
 -- What sectors represent: the valid root of higher generation, and what is read of its tree or the place that its first
 -- fault names, whatever other sectors than those of the nodes that are reached read as. No other root counts.
@@ -24,15 +25,15 @@ pub record RepresentsReading (sectors : List Content) (root : Root) (reading : R
   pub newest : IsNewestRoot sectors root
   pub nodes : Nodes
   pub reached : List PlacedNode
-  pub there : ReadThere sectors nodes reached
-  pub reads : (others : Nodes) → ReadThere sectors others reached → tree_read root others ≡ reading
+  pub there : ReadThere root.version sectors nodes reached
+  pub reads : (others : Nodes) → ReadThere root.version sectors others reached → tree_read root others ≡ reading
 
 -- The sectors represent a root and its tree: it is the valid root of higher generation, and the tree is read from it
 -- without a fault. Of the other sectors, those that the tree does not reach, nothing is said.
 pub record Represents (sectors : List Content) (root : Root) (found : Found) : Type 0 where
   pub newest : IsNewestRoot sectors root
   pub nodes : Nodes
-  pub reached : ReadThere sectors nodes found.reached
+  pub reached : ReadThere root.version sectors nodes found.reached
   pub reads : tree_read root nodes ≡ Ok found
 
 -- They represent a root and its tree, and store what is known of a mapping.

@@ -47,8 +47,8 @@ pub record IsDamagedAt (sectors : List Content) (place : Place) : Type 0 where
   pub size : root.geometry.meta_sectors ≡ length sectors
   pub nodes : Nodes
   pub reached : List PlacedNode
-  pub there : ReadThere sectors nodes reached
-  pub reads : (others : Nodes) → ReadThere sectors others reached → tree_read root others ≡ Err place
+  pub there : ReadThere root.version sectors nodes reached
+  pub reads : (others : Nodes) → ReadThere root.version sectors others reached → tree_read root others ≡ Err place
 
 -- the newest root is one of this device
 pub record HasFittingRoot (sectors : List Content) : Type 0 where

@@ -26,6 +26,7 @@ pub fn opening_image(global: Global, root: &Root) -> Result<Image, Refusal>
         clean: false,
         geometry: root.geometry,
         top: root.top,
+        top_dirty: None,
     };
     Ok(Image {
         root,

@@ -80,7 +80,7 @@ pub(crate) fn sync<D: Disk>(disk: &mut D) -> Result<(), Refusal>
     disk.sync().map_err(|_| Refusal::Io(Dev::Metadata))
 }
 
-/// The node that a sector of a version spells, where it spells one. `Io` where the device fails.
+/// The node that a sector spells in metadata of a version, where it spells one. `Io` where the device fails.
 pub(crate) fn get_node<D: Disk>(
     disk: &mut D,
     at: u64,
@@ -90,7 +90,8 @@ pub(crate) fn get_node<D: Disk>(
     ensures size { D.size disk.new ≡ D.size disk.old }
     ensures same { D.tells → D.contents disk.new ≡ D.contents disk.old }
     ensures how { D.tells → OnErr result (MayLand (D.falters disk.old Reading)) }
-    ensures found { D.tells → IfOk result (λ node. ReadsThere (map newest (D.contents disk.old)) (λ _. node) at) }
+    ensures found { D.tells → IfOk result (λ node. ReadsThere version (map newest (D.contents disk.old))
+        (λ _. node) at) }
     ensures fails { D.fails disk.old → IsErr result }
     ensures refused { IfErr result (λ refusal. refusal ≡ Io Metadata) }
     ensures no_fault { D.tells → OnOk result (D.faults disk.new ≡ D.faults disk.old) }

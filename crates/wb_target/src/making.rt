@@ -121,6 +121,7 @@ impl<'k, D: Disk + Drop, P: Policy> MakingStage<'k, D, P> {
             clean: false,
             geometry: root.geometry,
             top: root.top,
+            top_dirty: None,
         };
         let state = State { root, tree, used };
         let made = office_over(self.alloc, state, was_clean, self.stage.mode, self.keys);

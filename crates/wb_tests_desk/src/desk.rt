@@ -64,6 +64,7 @@ fn root(geometry: Geometry, generation: u64) -> Root
         clean: false,
         geometry,
         top: None,
+        top_dirty: None,
     }
 }
 

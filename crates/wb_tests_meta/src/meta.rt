@@ -81,6 +81,7 @@ fn first_image(alloc: Global) -> Result<Image, Refusal> {
         clean: false,
         geometry: Geometry::new(64, 4, 10, 4)?,
         top: Some(Place(2)),
+        top_dirty: None,
     };
     let Some(leaf) = Node::read(&sector_of(&LEAF), Version::One) else {
         return Err(Refusal::Damaged(Place(2)));

@@ -29,6 +29,7 @@ pub fn stored_as(
         clean,
         geometry: Geometry::new(64, 4, 10, 4)?,
         top: Some(Place(2)),
+        top_dirty: None,
     };
     let mut leaf = leaf();
     if dirty {

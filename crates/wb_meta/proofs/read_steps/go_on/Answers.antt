@@ -36,5 +36,5 @@ returns-clause-read g c sectors on has =
       entries = c.in_ok-tree.ensures.entries;
       used_are = c.in_ok-tree.ensures.places;
       loaded = loaded;
-      stores = read_stores sectors has.nodes c.in_ok-tree.tree c.args.root.generation (loaded.read has.nodes reads) (λ place known. has.reached place.0 (loaded.reached place known));
+      stores = read_stores c.args.root.version sectors has.nodes c.in_ok-tree.tree c.args.root.generation (loaded.read has.nodes reads) (λ place known. has.reached place.0 (loaded.reached place known));
     }

@@ -5,4 +5,4 @@ use Rattle.wb_meta.proofs.sector.get_node.Goals as goal
 pub returns-clause-found : goal.returns-clause-found
 returns-clause-found g c tells =
     let given = on_ok c.read.result (sym c.is_err.ensures.value ∙ c.if-is_err.false) (c.read.ensures.given tells) in
-    node_there (g.D.Disk.contents c.args.disk.now) c.args.at _ c.read-2.result given c.read-2.ensures.found c.read-2.ensures.only
+    node_there c.args.version (g.D.Disk.contents c.args.disk.now) c.args.at _ c.read-2.result given c.read-2.ensures.found c.read-2.ensures.only

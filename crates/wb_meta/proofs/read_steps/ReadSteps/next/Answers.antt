@@ -1,6 +1,7 @@
 use Rattle.std.proofs.Common.{◌≡◌, ◌≤◌, ◌<◌, ◌⊎◌, ◌∙◌, ◌-◌, ◌+◌, ℕ, List, length, map, refl, sym, ap, arith, subst, inr}
 use Rattle.std.proofs.lemmas.Result.{IfErr-weaker, IfOk-weaker}
 use Rattle.std.specs.Prelude.{Option, Some, None, Result, Ok, Err, IfOk, IfErr, slice_get}
+use Rattle.wb_types.specs.declared.version.Version.{Version}
 use Rattle.wb_types.specs.declared.refusal.Refusal.{Refusal}
 use Rattle.wb_disk.specs.Device.{Content, History, newest}
 use Rattle.wb_format.specs.declared.root.Root.{Root}
@@ -36,8 +37,8 @@ slot_found : (sectors others : List Content) (slot : ℕ) (o : Option Root) → 
 slot_found sectors others slot None same none = λ sector root there. none sector root (sym same ∙ there)
 slot_found sectors others slot (Some root) same has = record { sector = has.sector; there = same ∙ has.there; valid = has.valid }
 
-node_found : (sectors others : List Content) (nodes : Nodes) (at : ℕ) → slice_get sectors at ≡ slice_get others at → ReadsThere others nodes at → ReadsThere sectors nodes at
-node_found sectors others nodes at same there = record { sector = there.sector; there = same ∙ there.there; reads = there.reads }
+node_found : (version : Version) (sectors others : List Content) (nodes : Nodes) (at : ℕ) → slice_get sectors at ≡ slice_get others at → ReadsThere version others nodes at → ReadsThere version sectors nodes at
+node_found version sectors others nodes at same there = record { sector = there.sector; there = same ∙ there.there; reads = there.reads }
 
 pub returns-in_err-tell-in-Some-clause-refused : goal.returns-in_err-tell-in-Some-clause-refused
 returns-in_err-tell-in-Some-clause-refused g c tells = stops c.args.self (g.D.Disk.contents c.args.disk.now) c.from_residual-in_err-tell-in-Some.result (λ sectors agrees has.
@@ -47,9 +48,9 @@ returns-in_err-tell-in-Some-clause-refused g c tells = stops c.args.self (g.D.Di
     let on = (subst Q c.in-RootFound.is c.requires).0 in
     let R : ReadSteps _ → Type 0 = λ s. HasRead sectors s in
     let loaded = subst R c.in-RootFound.is has in
-    let S : ℕ → Type 0 = λ at. ReadsThere (map newest device) (λ _. c.in_ok-node-in-Some.node) at in
+    let S : ℕ → Type 0 = λ at. ReadsThere c.in-RootFound.root.version (map newest device) (λ _. c.in_ok-node-in-Some.node) at in
     let comes = ap (λ s. coming_sector s) c.in-RootFound.is ∙ (ap number_of_place (sym c.wanted.ensures.place ∙ c.in-Some.is) ∙ ap (λ (p : Place). Some p.0) (sym wanted.there)) in
-    let here = node_found sectors (map newest device) (λ _. c.in_ok-node-in-Some.node) wanted.node.place.0 (agrees.here wanted.node.place.0 comes) (subst S (c.from.ensures ∙ sym (ap (λ (p : Place). p.0) wanted.there)) (c.in_ok-node-in-Some.ensures.found tells)) in
+    let here = node_found c.in-RootFound.root.version sectors (map newest device) (λ _. c.in_ok-node-in-Some.node) wanted.node.place.0 (agrees.here wanted.node.place.0 comes) (subst S (c.from.ensures ∙ sym (ap (λ (p : Place). p.0) wanted.there)) (c.in_ok-node-in-Some.ensures.found tells)) in
     IfErr-handed c.from_residual-in_err-tell-in-Some.result c.in_err-tell-in-Some.field-0.0 (IsRefusedBy sectors) c.from_residual-in_err-tell-in-Some.ensures.1
     (loaded_refused sectors c.in-RootFound.root c.in-RootFound.loader wanted.node c.in_ok-node-in-Some.node c.in_err-tell-in-Some.field-0.0 (on.size ∙ sym (whole_size sectors device _ agrees.size (g.met.D.Disk.whole c.args.disk.now tells))) loaded here
     (λ nodes. c.in_err-tell-in-Some.ensures.err wanted.node nodes wanted.some)))
@@ -162,9 +163,9 @@ returns-in_ok-tell-in-Some-clause-read g c tells = goes c.args.self (g.D.Disk.co
     let on = (subst Q c.in-RootFound.is c.requires).0 in
     let R : ReadSteps _ → Type 0 = λ s. HasRead sectors s in
     let loaded = subst R c.in-RootFound.is has in
-    let S : ℕ → Type 0 = λ at. ReadsThere (map newest device) (λ _. c.in_ok-node-in-Some.node) at in
+    let S : ℕ → Type 0 = λ at. ReadsThere c.in-RootFound.root.version (map newest device) (λ _. c.in_ok-node-in-Some.node) at in
     let comes = ap (λ s. coming_sector s) c.in-RootFound.is ∙ (ap number_of_place (sym c.wanted.ensures.place ∙ c.in-Some.is) ∙ ap (λ (p : Place). Some p.0) (sym wanted.there)) in
-    let here = node_found sectors (map newest device) (λ _. c.in_ok-node-in-Some.node) wanted.node.place.0 (agrees.here wanted.node.place.0 comes) (subst S (c.from.ensures ∙ sym (ap (λ (p : Place). p.0) wanted.there)) (c.in_ok-node-in-Some.ensures.found tells)) in
+    let here = node_found c.in-RootFound.root.version sectors (map newest device) (λ _. c.in_ok-node-in-Some.node) wanted.node.place.0 (agrees.here wanted.node.place.0 comes) (subst S (c.from.ensures ∙ sym (ap (λ (p : Place). p.0) wanted.there)) (c.in_ok-node-in-Some.ensures.found tells)) in
     let P : Place → Type 0 = λ place. IsFresh c.in-RootFound.loader.root c.in-RootFound.loader.found.reached place in
     let told = c.in_ok-tell-in-Some.ensures in
     let made = tree_pushed (g.D.Disk.size c.args.disk.now) c.in-RootFound.root c.in-RootFound.loader c.in_ok-tell-in-Some.field-0 wanted.node on (subst P (sym wanted.there) c.in-Some.ensures.fresh) told.root (told.reached wanted.node wanted.some) in
