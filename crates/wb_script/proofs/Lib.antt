@@ -3,3 +3,4 @@ pub mod Ranges
 pub mod Showing
 pub mod Laid
 pub mod FirstLine
+pub mod Three

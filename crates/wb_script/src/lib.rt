@@ -22,6 +22,7 @@ mod shown;
 mod status;
 mod tally;
 mod told;
+mod usual;
 
 pub use ahead::Ahead;
 pub use ended::{Ended, refused};

@@ -7,6 +7,7 @@ ghost use Rattle.wb_table.specs.Words.{words_of};
 ghost use Rattle.wb_script.specs.declared.line.Call.{Call as Asked};
 ghost use Rattle.wb_script.specs.declared.line.Line.{Line as Said};
 
+use crate::usual::read_usual;
 use std::str;
 use wb_table::{SplitSpaces, is_comment, read_fill, read_sectors};
 use wb_types::Sector;
@@ -58,6 +59,9 @@ pub fn read_line(line: &[u8]) -> Option<Line>
     ensures found { IfSome result (IsLine line.now) }
     ensures none { IfNone result ((said : Said) → ¬ IsLine line.now said) }
 {
+    if let Some((at, count)) = read_usual(line) {
+        return Some(Line::Asks(Call::Read { at, count }));
+    }
     if is_comment(line) {
         return Some(Line::Nothing);
     }
