@@ -3,8 +3,9 @@
     twin.py WBCACHE [SCRIPTS]
 
 In each mode, behind a first life that ends clean, 200 scripts of 40 lines by a fixed generator are run by `wbcache run` and as the same tasks by
-`wbcache replay`: each block of a request, each flush (a tick's and a durable write's too), each order that a `work` answered, and in every
-second script a suspend at the end. All answers are compared; and opened again in write-back over the files as they were synced last, as they were
+`wbcache replay`: each block of a request, each flush (a tick's and a durable write's too), each order that a `work` answered, each mapped block that a message
+invalidates, and in every second script a suspend at the end. A replay has no line for an invalidation, and stands in for it by a write of what a sector of
+the block holds: in passthrough that takes the block out of the cache, and shows nothing else. All answers are compared; and opened again in write-back over the files as they were synced last, as they were
 written last, and with one of the contents since the last sync for each sector of cache and origin, behind `stop old`, `stop new` and one with these
 positions: the generation, how many blocks are mapped and dirty, and each sector of the origin. A position past the last is refused. It prints
 what differs, what was tried, and at the end 'N passed, N failed': a check for each mode, with a suspend and without.
@@ -27,6 +28,11 @@ FILES = ("m.img", "c.img", "o.img")
 FIRST_LIFE = ["w 0 2 a1", "w 64 1 a2", "w 128 1 a3", "r 0 1", "work", "r 64 1", "work", "r 128 1", "work", "w 1 1 a4", "suspend"]
 
 
+NAMED = ("0", "1", "2", "3", "0-2", "1-4", "0-4", "2 0")
+# The sector of a block by which its invalidation is stood in for.
+STANDS_IN = 40
+
+
 def table(mode):
     return f"cache m.img c.img o.img {BLOCK} 1 {mode} tinylfu 0"
 
@@ -47,6 +53,8 @@ def script_of(mode, number):
             lines.append(f"wf {at} {many} {call + 1:02x}")
         elif kind < 16:
             lines.append("work")
+        elif mode == "passthrough" and kind == 19:
+            lines.append(f"message invalidate_cblocks {dice.choice(NAMED)}")
         else:
             lines.append(dice.choice(("flush", "tick", "settle", "message promote_min 1", "message migration_threshold 4294967295")))
     return lines + ["suspend"] * (number % 2)
@@ -60,9 +68,39 @@ def parts(at, many):
         at, many = at + here, many - here
 
 
-def tasks_of(line, answer):
+class Shown:
+    """What sectors hold, which origin block each cache block has, and the sectors that stand in for a block."""
+
+    def __init__(self):
+        self.contents, self.cached, self.standing = collections.defaultdict(lambda: "00"), {}, set()
+
+    def note(self, mode, line, answer):
+        word, *rest = line.split()
+        if word in ("w", "wf"):
+            at, many = int(rest[0]), int(rest[1])
+            self.contents.update((sector, rest[2]) for sector in range(at, at + many))
+            if mode == "passthrough":
+                written = {sector // BLOCK for sector in range(at, at + many)}
+                self.cached = {place: block for place, block in self.cached.items() if block not in written}
+        elif answer.startswith("promoted"):
+            self.cached[int(answer.split()[3])] = int(answer.split()[1])
+
+    def invalidate(self, ranges):
+        """The writes that stand in for the blocks which leave the cache."""
+        for one in ranges:
+            begin, _, end = one.partition("-")
+            for place in range(int(begin), int(end or int(begin) + 1)):
+                if place in self.cached:
+                    sector = BLOCK * self.cached.pop(place) + STANDS_IN
+                    self.standing.add(("o", sector))
+                    yield f"w {sector} 1 {self.contents[sector]}"
+
+
+def tasks_of(line, answer, shown):
     """The tasks that a line stands for, by its answer where it is an order."""
     word, *rest = line.split()
+    if rest[:1] == ["invalidate_cblocks"]:
+        return list(shown.invalidate(rest[1:]))
     if word in ("r", "w", "wf"):
         fill = f" {rest[2]}" if word != "r" else ""
         tasks = [f"{word[0]} {at} {many}{fill}" for at, many in parts(int(rest[0]), int(rest[1]))]
@@ -146,12 +184,14 @@ def since_sync(initial):
     return files, pending
 
 
-def any_contents(initial, dice):
+def any_contents(initial, dice, standing):
     """Writes files in which each sector of cache and origin has one of the contents since the last sync: their names for a stop, and one that
-    no sector has."""
+    no sector has. Those that stand in for a block have more contents in the machine, and keep the oldest."""
     files, pending = since_sync(initial)
     names, none = [], None
     for (device, sector), contents in sorted(pending.items()):
+        if (device, sector) in standing:
+            continue
         position = dice.randrange(len(contents) + 1)
         if device != "m" and position > 0:
             names.append(f"{device}:{sector}:{position}")
@@ -168,7 +208,7 @@ def compare(program, library, mode, number):
         write(name, bytes(size))
     subprocess.run([program, "format", table(mode)], check=True, capture_output=True)
     lives = [("writethrough", FIRST_LIFE), (mode, script_of(mode, number))]
-    events, wanted = ["setup writethrough 64 4 10 4"], []
+    events, wanted, shown, invalidated = ["setup writethrough 64 4 10 4"], [], Shown(), 0
     for life, (its_mode, lines) in enumerate(lives):
         initial = {name: read(name) for name in FILES}
         if os.path.exists("journal"):
@@ -180,7 +220,10 @@ def compare(program, library, mode, number):
             events.append(f"open {its_mode}")
             wanted.append(None)
         for line, answer in zip(lines, answers_of(lines, told)):
-            for task in tasks_of(line, answer[0]):
+            tasks = tasks_of(line, answer[0], shown)
+            invalidated += len(tasks) * line.startswith("message")
+            shown.note(its_mode, line, answer[0])
+            for task in tasks:
                 events += [f"start 0 {task}", "end 0"]
                 if task.startswith("r "):
                     here, answer = answer[:int(task.split()[2])], answer[int(task.split()[2]):]
@@ -195,7 +238,7 @@ def compare(program, library, mode, number):
                 write(name, newest[name])
         stop = f"stop {base}"
         if base == "any":
-            names, none = any_contents(initial, random.Random(number))
+            names, none = any_contents(initial, random.Random(number), shown.standing)
             stop = " ".join(["stop old", *names])
             if none:
                 weather.need(replayed(program, events + [f"stop old {none}"])[-1] == "skipped", f"the machine has a content {none}")
@@ -205,7 +248,7 @@ def compare(program, library, mode, number):
             weather.need(other is None and one.startswith("open ") or one == other, f"the machine answers '{one}', and the target '{other}'")
         for one, other in zip(told[len(wanted):], found_again(program)):
             weather.need(one == other, f"behind {stop} the machine has '{one}', and the files '{other}'")
-    counts = collections.Counter({"chosen content": len(names)})
+    counts = collections.Counter({"chosen content": len(names), "invalidated block": invalidated})
     return counts + collections.Counter(line.split()[0] for line in events[1:] if not line.startswith("end") for line in [line.removeprefix("start 0 ")])
 
 

@@ -4,7 +4,7 @@ ghost use Rattle.std.specs.Prelude.{◌≡◌, ◌++◌, ℕ, List, OnOk, IfErr,
 ghost use Rattle.std.specs.Io.KnownBytes.{Consumes};
 
 use crate::broken::Broken;
-use std::io::Read;
+use std::io::{ErrorKind, Read};
 
 /// Reads as many bytes as there is room for. `Reader` where there are fewer, or they cannot be read; then some may be read.
 pub(crate) fn fill<R: Read>(reader: &mut R, bytes: &mut [u8]) -> Result<(), Broken>
@@ -29,9 +29,9 @@ pub(crate) fn begin<R: Read>(
     ensures read { OnOk result (Consumes (R.remaining reader.old) (R.remaining reader.new) (first.new ++ others.new)) }
     ensures many { (length first.new ≡ length first.old) × (length others.new ≡ length others.old) }
 {
-    match reader.read(first) {
-        Ok(0) => Err(Broken::Gone),
-        Ok(_) => fill(reader, others),
+    match reader.read_exact(first) {
+        Ok(()) => fill(reader, others),
+        Err(error) if error.kind() == ErrorKind::UnexpectedEof => Err(Broken::Gone),
         Err(_) => Err(Broken::Reader),
     }
 }

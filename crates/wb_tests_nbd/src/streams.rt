@@ -1,6 +1,7 @@
 //! Streams that fail, or give and take a byte at a time.
 
 use crate::memory::Memory;
+use std::alloc::Global;
 use std::io;
 use std::io::{Error, ErrorKind, Read, Write};
 use std::test::Fail;
@@ -86,5 +87,50 @@ fn a_reader_that_fails_ends_it(rt: HostRuntime) -> Result<(), Fail> {
         assert!(rt; ended == wanted, "after {left} bytes");
         assert!(rt; memory.flushes == left / 28 - left / 84);
     }
+    Ok(())
+}
+
+/// Gives one byte at a time, each after a read that a signal interrupts.
+#[derive(Drop)]
+struct Interrupted<'a> {
+    bytes: &'a [u8],
+    gives: bool,
+}
+
+impl<'a> Read for Interrupted<'a> {
+    fn read(&mut self, buf: &mut [u8]) -> io::Result<usize> {
+        self.gives = !self.gives;
+        if !self.gives {
+            return Err(Error::from(ErrorKind::Interrupted));
+        }
+        if buf.is_empty() || self.bytes.is_empty() {
+            return Ok(0);
+        }
+        buf[0] = self.bytes[0];
+        self.bytes = &self.bytes[1..];
+        Ok(1)
+    }
+}
+
+/// How a connection ends of which so many bytes come, each read of which is interrupted once, and how many flushes it made.
+fn ended_after(alloc: Global, bytes: usize) -> Result<(Result<(), Broken>, u64), Fail> {
+    let mut memory = Memory::new(alloc, None)?;
+    let mut reader = Interrupted {
+        bytes: &FLUSHES[..bytes],
+        gives: true,
+    };
+    let mut told = Vec::new(alloc);
+    let ended = transmit(alloc, &mut memory, &mut reader, &mut told);
+    Ok((ended, memory.flushes))
+}
+
+#[test]
+fn a_read_that_is_interrupted_is_tried_again(rt: HostRuntime) -> Result<(), Fail> {
+    let (whole, flushes) = ended_after(rt.alloc(), 84)?;
+    assert!(rt; whole == Ok(()) && flushes == 2);
+    let (gone, flushes) = ended_after(rt.alloc(), 56)?;
+    assert!(rt; gone == Err(Broken::Gone) && flushes == 2);
+    let (cut, flushes) = ended_after(rt.alloc(), 57)?;
+    assert!(rt; cut == Err(Broken::Reader) && flushes == 2);
     Ok(())
 }

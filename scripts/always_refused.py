@@ -1,0 +1,108 @@
+"""Bodies that always refuse memory, and the tests that refuse them.
+
+    always_refused.py [WORD ..]
+
+A body that answers `Memory` and does nothing meets a contract that says `Memory`. Each row here is a public call with the answer that it then gives, put in
+front of its body in a copy of the sources, and a test that asks for the answer there is with ample memory: it has to fail. The copy is compiled
+without a proof by `rt try`; a test 'wbcache' or 'wbnbd' is a run of that program with what it has to print. With words, the rows whose call has
+one of them are tried. It prints for each row which tests failed, and at the end 'N passed, N failed'. One row takes half a minute or more, all of
+them some 40 minutes, so the gate does not call it.
+"""
+import os
+import re
+import shutil
+import subprocess
+import sys
+import tempfile
+
+TOP = os.path.dirname(os.path.dirname(os.path.abspath(__file__)))
+MEMORY = "return Err(Refusal::Memory);"
+BACK = "return (devices, Err(Refusal::Memory));"
+# The call, its file, the function there, what it then does (with `if` and a condition: then alone), the crate of tests, and the test.
+ROWS = [
+    ("Target::open", "wb_target/opening", "open", BACK, "wb_tests_target", "a_status_line_tells_how_a_target_is"),
+    ("Target::client", "wb_target/target", "client", "return Err((devices, Refusal::Memory));", "wb_tests_target", "a_block_is_cached_at_its_second_access"),
+    ("Target::status", "wb_target/target", "status", MEMORY, "wb_tests_target", "a_status_line_tells_how_a_target_is"),
+    ("Target::suspend", "wb_target/target", "suspend", BACK, "wb_tests_target", "a_suspended_cache_is_opened_as_it_was"),
+    ("Client::read", "wb_target/blocking", "read", "return Err(Stopped { done: 0, refusal: Refusal::Memory });", "wb_tests_target", "a_block_is_cached_at_its_second_access"),
+    ("Client::write", "wb_target/blocking", "write", "return Err(Stopped { done: 0, refusal: Refusal::Memory });", "wb_tests_target", "a_block_is_cached_at_its_second_access"),
+    ("Client::message, a setting", "wb_target/messages", "set", MEMORY, "wb_tests_target", "a_setting_takes_the_values_in_its_range"),
+    ("Client::message, ranges", "wb_target/invalidating", "invalidate", MEMORY, "wb_tests_target", "invalidated_blocks_leave_the_cache"),
+    ("Client::flush", "wb_target/carrying", "flush", MEMORY, "wb_tests_target", "what_was_flushed_is_found_in_the_cache"),
+    ("Client::tick", "wb_target/carrying", "tick", MEMORY, "wb_tests_target", "a_tick_has_a_dirty_block_written_back"),
+    ("Client::work_one, a promotion", "wb_target/carrying", "carry_out", "if matches!(order, Order::Promote(_, _)) " + MEMORY, "wb_tests_target", "a_block_is_cached_at_its_second_access"),
+    ("Client::work_one, a replacement", "wb_target/carrying", "carry_out", "if matches!(order, Order::Replace(_, _, _)) " + MEMORY, "wb_tests_target", "a_block_that_is_wanted_more_replaces_the_least_recent"),
+    ("Client::work_one, a write-back", "wb_target/carrying", "carry_out", "if matches!(order, Order::Clean(_)) " + MEMORY, "wb_tests_target", "a_tick_has_a_dirty_block_written_back"),
+    ("Desk::new", "wb_desk/desk", "new", MEMORY, "wb_tests_desk", "orders_are_given_and_given_up"),
+    ("Desk::map", "wb_desk/desk/mapping", "map", MEMORY, "wb_tests_desk", "orders_are_given_and_given_up"),
+    ("Desk::begin_commit", "wb_desk/desk/commit", "begin_commit", MEMORY, "wb_tests_desk", "commits_follow_on_each_other"),
+    ("Desk::arrive", "wb_desk/desk/sharing", "arrive", MEMORY, "wb_tests_desk", "flushes_that_wait_share_the_next_commit"),
+    ("Desk::ask", "wb_desk/desk/sharing", "ask", MEMORY, "wb_tests_desk", "flushes_that_wait_share_the_next_commit"),
+    ("Tree::set", "wb_tree/tree", "set", MEMORY, "wb_tests_meta", "entries_come_and_go"),
+    ("Tree::plan", "wb_tree/tree", "plan", MEMORY, "wb_tests_meta", "a_leaf_alone_is_planned"),
+    ("Tree::places", "wb_tree/tree", "places", MEMORY, "wb_tests_meta", "a_leaf_alone_is_planned"),
+    ("Loader::new", "wb_tree/loader", "new", MEMORY, "wb_tests_meta", "a_device_of_one_node_is_read_in_three_steps"),
+    ("Loader::tell", "wb_tree/loader", "tell", MEMORY, "wb_tests_meta", "a_device_of_one_node_is_read_in_three_steps"),
+    ("Loader::finish", "wb_tree/loader", "finish", MEMORY, "wb_tests_meta", "a_device_of_one_node_is_read_in_three_steps"),
+    ("read_state", "wb_meta/read_steps", "read_state", MEMORY, "wb_tests_meta", "rounds_follow_one_another"),
+    ("ReadSteps::next", "wb_meta/read_steps", "next", MEMORY, "wb_tests_meta", "a_device_of_one_node_is_read_in_three_steps"),
+    ("TinyLfu::new", "wb_policy/tiny_lfu", "new", MEMORY, "wb_tests_policy", "mapped_blocks_are_placed_by_hint_then_by_cache_block"),
+    ("TinyLfu::mapped", "wb_policy/tiny_lfu", "mapped", MEMORY, "wb_tests_policy", "mapped_blocks_are_placed_by_hint_then_by_cache_block"),
+    ("Cleaner::new", "wb_policy/cleaner", "new", MEMORY, "wb_tests_policy", "?"),
+    ("Cleaner::mapped", "wb_policy/cleaner", "mapped", MEMORY, "wb_tests_policy", "?"),
+    ("Sketch::new", "wb_sketch/sketch", "new", MEMORY, "wb_tests_policy", "a_block_accessed_past_the_reset"),
+    ("read_table", "wb_table/table", "read_table", MEMORY, "wb_tests_disk", "?"),
+    ("read_message", "wb_table/message", "read_message", MEMORY, "wb_tests_disk", "ranges_are_named_in_their_order"),
+    ("status_text", "wb_table/status", "status_text", MEMORY, "wb_tests_disk", "each_figure_has_its_place"),
+    ("MemDisk::new", "wb_disk/memory", "new", MEMORY, "wb_tests_disk", "a_read_gives_the_latest_write"),
+    ("MemDisk::room", "wb_disk/memory", "room", MEMORY, "wb_tests_disk", "?"),
+    ("Cells::new", "wb_cells/cells", "new", "return Err(Refusal::Memory);", "wb_tests_cells", "four_threads_finish_a_thousand_writes_each"),
+    ("World::new", "wb_world/world", "new", MEMORY, "wb_tests_world", "a_list_of_events_is_run_to_its_end"),
+    ("World::event", "wb_world/world", "event", MEMORY, "wb_tests_world", "a_list_of_events_is_run_to_its_end"),
+    ("wb_world::run", "wb_world/running", "run", MEMORY, "wb_tests_world", "a_list_of_events_is_run_to_its_end"),
+    ("Connection::serve", "wb_nbd/connection", "serve", "return Err(Broken::Memory);", "wb_tests_nbd", "?"),
+    ("transmit", "wb_nbd/transmission", "transmit", "return Err(Broken::Memory);", "wb_tests_nbd", "each_request_has_its_reply"),
+]
+
+
+def refuse(folder, path, function, what):
+    """Puts the answer in front of the function's body."""
+    name = f"{folder}/crates/{path.replace('/', '/src/', 1)}.rt"
+    with open(name, encoding="utf-8") as file:
+        lines = file.read().split("\n")
+    at = next(i for i, line in enumerate(lines) if re.search(rf"\bfn {function}\b", line))
+    while not (lines[at].strip() == "{" or lines[at].endswith(" {") and not re.match(r" *(ensures|requires)", lines[at])):
+        at += 1
+    condition, answer = re.match(r"(?:if (.*) )?(return .*)", what).groups()
+    lines.insert(at + 1, f"if {condition or 'true'} {{ {answer} }}")
+    with open(name, "w", encoding="utf-8") as file:
+        file.write("\n".join(lines))
+
+
+def failing(folder, crate):
+    """The tests that fail, none of them where the copy is not compiled, and what was said last."""
+    done = subprocess.run(["rt", "try", "--test"], cwd=f"{folder}/crates/{crate}", stdout=subprocess.PIPE, stderr=subprocess.STDOUT, text=True)
+    tests = re.findall(r"^test (?:\w+::)*(\w+) \.\.\. ?(\w*)", done.stdout, re.M)
+    return [name for name, answer in tests if answer != "ok"], done.stdout[-600:]
+
+
+def main():
+    words, passed, failed = sys.argv[1:], 0, 0
+    for call, path, function, what, crate, test in ROWS:
+        if words and not any(word in call for word in words):
+            continue
+        with tempfile.TemporaryDirectory() as folder:
+            shutil.copy(f"{TOP}/crates.txt", folder)
+            shutil.copy(f"{TOP}/HANDLES", folder)
+            shutil.copytree(f"{TOP}/crates", f"{folder}/crates", ignore=shutil.ignore_patterns("out", "bugs", "must-fail"))
+            refuse(folder, path, function, what)
+            tests, said = failing(folder, crate)
+        is_right = test in tests
+        passed, failed = passed + is_right, failed + (not is_right)
+        print(f"{'ok' if is_right else 'failed'}: {call}: {len(tests)} of {crate}: {' '.join(tests)}" if tests else f"failed: {call}: {said}", flush=True)
+    print(f"{passed} passed, {failed} failed")
+    sys.exit(failed > 0)
+
+
+if __name__ == "__main__":
+    main()
