@@ -40,7 +40,7 @@ class Life:
     """From the start of a server to its end: the origin as a file."""
 
     def __init__(self, server, table):
-        self.process = subprocess.Popen([sys.executable, f"{HERE}/fuse_nbd.py", "disk", server, table], stdout=subprocess.PIPE, text=True)
+        self.process = subprocess.Popen([sys.executable, f"{HERE}/fuse_nbd.py", "disk", server, table], stdout=subprocess.PIPE, stderr=subprocess.DEVNULL, text=True)
         self.server = int(self.process.stdout.readline())
 
     def end(self):
