@@ -90,10 +90,11 @@ fn a_reader_that_fails_ends_it(rt: HostRuntime) -> Result<(), Fail> {
     Ok(())
 }
 
-/// Gives one byte at a time, each after a read that a signal interrupts.
+/// Gives one byte at a time, so many in all, each after a read that a signal interrupts.
 #[derive(Drop)]
 struct Interrupted<'a> {
     bytes: &'a [u8],
+    left: u64,
     gives: bool,
 }
 
@@ -103,9 +104,10 @@ impl<'a> Read for Interrupted<'a> {
         if !self.gives {
             return Err(Error::from(ErrorKind::Interrupted));
         }
-        if buf.is_empty() || self.bytes.is_empty() {
+        if self.left == 0 || buf.is_empty() || self.bytes.is_empty() {
             return Ok(0);
         }
+        self.left -= 1;
         buf[0] = self.bytes[0];
         self.bytes = &self.bytes[1..];
         Ok(1)
@@ -113,10 +115,11 @@ impl<'a> Read for Interrupted<'a> {
 }
 
 /// How a connection ends of which so many bytes come, each read of which is interrupted once, and how many flushes it made.
-fn ended_after(alloc: Global, bytes: usize) -> Result<(Result<(), Broken>, u64), Fail> {
+fn ended_after(alloc: Global, left: u64) -> Result<(Result<(), Broken>, u64), Fail> {
     let mut memory = Memory::new(alloc, None)?;
     let mut reader = Interrupted {
-        bytes: &FLUSHES[..bytes],
+        bytes: FLUSHES,
+        left,
         gives: true,
     };
     let mut told = Vec::new(alloc);
