@@ -13,11 +13,13 @@ use Rattle.wb_types.specs.declared.geometry.Geometry.{Geometry}
 use Rattle.wb_types.specs.declared.number.Place.{Place}
 use Rattle.wb_disk.specs.Device.{History}
 use Rattle.wb_format.specs.declared.node.Node.{Node}
-use Rattle.wb_format.specs.NodeWords.{IsEntry, IsLeafWord, IsNodeWord, entry_word}
+use Rattle.wb_types.specs.declared.version.Version.{Version}
+use Rattle.wb_types.specs.declared.version.Version.TheVariants.{One, Two}
+use Rattle.wb_format.specs.NodeWords.{IsEntry, IsLeafWord, IsNodeWordOf, entry_word, kept}
 use Rattle.wb_format.proofs.WordLemmas.{IsWord-everywhere}
 use Rattle.wb_tree.specs.declared.image.Image.{Image}
 use Rattle.wb_tree.specs.Mapping.{Mapping, NodeName, IsMapping, AreInside, nodes_of, place_of, changed, changed_of}
-use Rattle.wb_tree.specs.Images.{AreFree, IsImage, name_of, word_at, place_word}
+use Rattle.wb_tree.specs.Images.{AreFree, IsImage, name_of, word_at, place_word, kept_tree}
 use Rattle.wb_tree.specs.Planning.{planned, levels, names, Begins, MayPlan, IsWritten, AreWritten}
 use Rattle.wb_tree.specs.Fields.{AreApart}
 use Rattle.wb_tree.proofs.Nodes.Names.{IsBelow, nodes_below-below}
@@ -110,7 +112,8 @@ small_of desk imaged tree flag c may size is whole = record {
       let new = named_at (IsNew imaged) c.image.nodes.items k node (subst (AllByRecursion (IsNew imaged)) (ap (λ (n : ℕ). changed imaged (depth_of n)) size ∙ sym is.nodes_are) (changes_new imaged)) e in
       let written = all_at (λ (n : Place × Node). n.1.generation ≡ desk.generation + 1) c.image.nodes.items k node (recursion_from_All (λ (n : Place × Node). n.1.generation ≡ desk.generation + 1) c.image.nodes.items is.generations) e in
       let words = all_at (λ (n : Place × Node). length n.1.words ≡ 32) c.image.nodes.items k node (recursion_from_All (λ (n : Place × Node). length n.1.words ≡ 32) c.image.nodes.items whole) e in
-      record { words = words; generation = omega (arith, written, may.next); index = new.few };
+      let mapping = all_at (λ (n : Place × Node). n.1.dirty ≡ false) c.image.nodes.items k node (recursion_from_All (λ (n : Place × Node). n.1.dirty ≡ false) c.image.nodes.items is.mappings) e in
+      record { mapping = mapping; words = words; generation = omega (arith, written, may.next); index = new.few };
 }
 
 pub image_small : {P : Type 0} (g : Geometry) (desk : DeskState P) (tree : Mapping) (c : RunningCommit) → desk.geometry ≡ g → IsMapping desk.geometry.cache_blocks desk.geometry.origin_blocks desk.tree.entries
@@ -152,11 +155,21 @@ leaf_word (Some entry) f = by_dirty entry.dirty (f entry refl)
     by_dirty true is = record { present = λ n. omega arith; bits_2_and_3 = omega (arith, is.hint); hint = omega (arith, is.hint); bits_9_to_15 = omega (arith, is.hint); bits_from_36 = omega (arith, is.hint, is.origin) }
     by_dirty false is = record { present = λ n. omega arith; bits_2_and_3 = omega (arith, is.hint); hint = omega (arith, is.hint); bits_9_to_15 = omega (arith, is.hint); bits_from_36 = omega (arith, is.hint, is.origin) }
 
+-- what a version keeps of an entry is one
+kept_entry : (version : Version) (o : Option Entry) → ((entry : Entry) → o ≡ Some entry → IsEntry entry) → (entry : Entry) → kept version o ≡ Some entry → IsEntry entry
+kept_entry One o each entry e = each entry e
+kept_entry Two None each entry e = absurd (cc)
+kept_entry Two (Some was) each entry e = let is = each was refl in let same : record was { dirty = false } ≡ entry = cc in subst IsEntry same (record { origin = is.origin; hint = is.hint })
+
 -- ---- an image of a tree
 
 module _ (heap : Global) (m : Mapping) (geometry : Geometry) (free : List Place) (generation : ℕ) (can : CanPlace m geometry free) (mapping : IsMapping geometry.cache_blocks geometry.origin_blocks m.entries) where
   abbrev n : Mapping
   n = planned m free
+
+  -- and what the words of the version keep of it
+  abbrev kn : Mapping
+  kn = kept_tree geometry.version n
 
   may : MayPlan m free
   may = may-plan m geometry free can mapping
@@ -168,32 +181,37 @@ module _ (heap : Global) (m : Mapping) (geometry : Geometry) (free : List Place)
   place_small level index None e = omega arith
   place_small level index (Some p) e = let i = inside p (record { level = level; index = index; known = e }) in omega (arith, i.1, geometry.within.meta_to)
 
-  word_is : (level index j : ℕ) → 1 ≤ level → IsNodeWord level (word_at n level index j)
+  word_is : (level index j : ℕ) → 1 ≤ level → IsNodeWordOf One false level (word_at kn level index j)
   word_is zero index j l = absurd (omega (arith, l))
-  word_is (suc zero) index j l = record {
-    leaf = λ e. subst IsLeafWord (sym (leaf-word m free 1 index j refl)) (leaf_word (slice_index_or m.entries (32 * index + j) None) (may.spelled (32 * index + j)));
-    inner = λ o. absurd (o refl);
-  }
+  word_is (suc zero) index j l =
+      let leaf : IsLeafWord (word_at kn 1 index j) = subst IsLeafWord (sym (leaf-word geometry.version m free 1 index j refl))
+      (leaf_word (kept geometry.version (slice_index_or m.entries (32 * index + j) None)) (kept_entry geometry.version (slice_index_or m.entries (32 * index + j) None) (may.spelled (32 * index + j)))) in
+      record {
+        any = record { leaf = λ mapping e. leaf; inner = λ o. absurd (o refl) };
+        leaf = λ mapping e. record { leaf = leaf; no_dirty_bit = λ two. absurd (cc) };
+      }
   word_is (suc (suc level)) index j l = record {
-    leaf = λ e. absurd (omega (arith, e));
-    inner = λ o. inner-word m free (suc level) (32 * index + j) (place_of n (suc level) (32 * index + j)) (place_word (place_of n (suc level) (32 * index + j))) may refl refl (place_small (suc level) (32 * index + j) (place_of n (suc level) (32 * index + j)) refl);
+    leaf = λ mapping e. absurd (omega (arith, e));
+    any = record { leaf = λ mapping e. absurd (omega (arith, e)); inner = λ o. inner-word m free (suc level) (32 * index + j) (place_of n (suc level) (32 * index + j)) (place_word (place_of n (suc level) (32 * index + j))) may refl refl (place_small (suc level) (32 * index + j) (place_of n (suc level) (32 * index + j)) refl) };
   }
 
   abbrev words_of : NodeName → List ℕ
-  words_of name = words_from (word_at n name.level name.index) 32 0
+  words_of name = words_from (word_at kn name.level name.index) 32 0
 
-  words_there : (name : NodeName) (j : ℕ) → j < 32 → slice_index (words_of name) j ≡ word_at n name.level name.index j
-  words_there name j l = word_there (word_at n name.level name.index) 32 0 j l ∙ (let same : 0 + j ≡ j = omega arith in ap (word_at n name.level name.index) same)
+  words_there : (name : NodeName) (j : ℕ) → j < 32 → slice_index (words_of name) j ≡ word_at kn name.level name.index j
+  words_there name j l = word_there (word_at kn name.level name.index) 32 0 j l ∙ (let same : 0 + j ≡ j = omega arith in ap (word_at kn name.level name.index) same)
 
   abbrev node_for : (name : NodeName) → 1 ≤ name.level → name.level ≤ 4 → Node
   node_for name from to = record {
     generation = generation;
+    dirty = false;
     level = name.level;
     index = name.index;
     words = words_of name;
     level_from = from;
     level_to = to;
-    spelled = IsWord-everywhere name.level (words_of name) (λ k below. subst (IsNodeWord name.level) (sym (words_there name k (omega (arith, below, length-words_from (word_at n name.level name.index) 32 0)))) (word_is name.level name.index k from));
+    dirty_to = λ e. absurd (cc);
+    spelled = λ j. (IsWord-everywhere One false name.level (words_of name) (λ k below. subst (IsNodeWordOf One false name.level) (sym (words_there name k (omega (arith, below, length-words_from (word_at kn name.level name.index) 32 0)))) (word_is name.level name.index k from)) j).any;
   }
 
   abbrev Whole : Place × Node → Type 0
@@ -202,11 +220,11 @@ module _ (heap : Global) (m : Mapping) (geometry : Geometry) (free : List Place)
   record Made : Type 0 where
     nodes : List (Place × Node)
     named : names nodes ≡ changed m (levels m)
-    written : AreWritten n generation free nodes
+    written : AreWritten geometry.version n generation free nodes
     whole : All Whole nodes
 
   -- one node after the other
-  makes : (front rest : List NodeName) (nodes : List (Place × Node)) → changed m (levels m) ≡ front ++ rest → AllByRecursion (IsNew m) rest → names nodes ≡ front → AreWritten n generation free nodes → All Whole nodes → Made
+  makes : (front rest : List NodeName) (nodes : List (Place × Node)) → changed m (levels m) ≡ front ++ rest → AllByRecursion (IsNew m) rest → names nodes ≡ front → AreWritten geometry.version n generation free nodes → All Whole nodes → Made
   makes front [] nodes e new is written whole = record { nodes = nodes; named = is ∙ sym (e ∙ append-nil front); written = written; whole = whole }
   makes front (name ∷ rest) nodes e new is written whole =
       let begins : Begins m (front ++ name ∷ []) = record { rest = rest; is = e ∙ sym (append_assoc front (name ∷ []) rest) } in
@@ -216,10 +234,10 @@ module _ (heap : Global) (m : Mapping) (geometry : Geometry) (free : List Place)
       let there : slice_get free (length nodes) ≡ Some place = slice_get-get_or free (length nodes) (record { 0 = 0 }) (omega (arith, less, long)) in
       let stands : place_of n name.level name.index ≡ Some place = next-place m free front name may new.0.unknown begins ∙ ap (λ k. slice_get free k) (sym long) ∙ there in
       let node : Place × Node = (place, node_for name new.0.from new.0.to) in
-      let one : IsWritten n generation node = record { stands = stands; written_in = refl; words = λ j l. words_there name j l } in
+      let one : IsWritten geometry.version n generation node = record { stands = stands; written_in = refl; mapping = refl; words = λ j l. words_there name j l } in
       makes (front ++ name ∷ []) rest (nodes ++ node ∷ []) (e ∙ sym (append_assoc front (name ∷ []) rest)) new.1
       (map-append (λ (k : Place × Node). name_of k.1) nodes (node ∷ []) ∙ ap (λ (xs : List NodeName). xs ++ name ∷ []) is)
-      (written-more n generation free nodes node written (omega (arith, less, long)) there one) (All-push Whole nodes node whole (length-words_from (word_at n name.level name.index) 32 0))
+      (written-more geometry.version n generation free nodes node written (omega (arith, less, long)) there one) (All-push Whole nodes node whole (length-words_from (word_at kn name.level name.index) 32 0))
 
   made : Made
   made = makes [] (changed m (levels m)) [] refl (changes_new m) refl (record { places = refl; each = All-nil _ }) (All-nil _)
@@ -230,14 +248,14 @@ module _ (heap : Global) (m : Mapping) (geometry : Geometry) (free : List Place)
 
   abbrev image : Image
   image = record {
-    root = record { generation = generation; version = geometry.version; clean = false; geometry = geometry; top = place_of n (depth_of geometry.cache_blocks) 0; same_version = refl; top_inside = λ place top. inside place (record { level = depth_of geometry.cache_blocks; index = 0; known = top }) };
+    root = record { generation = generation; version = geometry.version; clean = false; geometry = geometry; top = place_of n (depth_of geometry.cache_blocks) 0; top_dirty = None; dirty_inside = λ p e. absurd (cc); dirty_clean = λ p e. absurd (cc); same_version = refl; top_inside = λ place top. inside place (record { level = depth_of geometry.cache_blocks; index = 0; known = top }) };
     nodes = record { ptr = null_ptr; len = length made.nodes; cap = length made.nodes; alloc = heap; items = made.nodes; ok = (refl, omega arith); small = omega (arith, many, geometry.within.meta_from, geometry.within.meta_to) };
   }
 
   image_is : IsImage m n (record { geometry = geometry; generation = generation; clean = false; free = free }) image
   image_is = let complete = planned-complete m geometry free can in
       image-is m n geometry generation false free image (written_is m geometry generation free made.nodes can made.named made.written) complete.all
-      (used-places n geometry.cache_blocks (planned-sound m geometry free can) complete.once complete.few) (planned-comes m free made.nodes made.named made.written.places) (planned-more m generation free made.nodes made.named made.written) refl refl refl refl
+      (used-places n geometry.cache_blocks (planned-sound m geometry free can) complete.once complete.few) (planned-comes m free made.nodes made.named made.written.places) (planned-more geometry.version m generation free made.nodes made.named made.written) refl refl refl refl
 
 -- ---- a commit begins
 

@@ -21,7 +21,7 @@ use Rattle.wb_meta.specs.declared.read_steps.ReadSteps.TheVariants.{Begun, First
 use Rattle.wb_tasks.specs.declared.step.Got.{Got}
 use Rattle.wb_tasks.specs.declared.step.Got.TheVariants.{Refused as GotRefused, More}
 use Rattle.wb_promise.specs.Happenings.{Chosen, Reaches, DoesRead}
-use Rattle.wb_runs.proofs.Spelling.{root_or_none}
+use Rattle.wb_runs.proofs.Spelling.{first_root_or_none}
 use Rattle.wb_runs.proofs.Images.{Images}
 use Rattle.wb_runs.proofs.Metadata.{HasReached}
 
@@ -77,9 +77,9 @@ same_newest s t first f g same r n =
 
 -- what a slot holds is a root or none
 in_slot : (s : List Bytes) (c : Bytes) → slice_get s 0 ≡ Some c → (first : Option Root) × IsInSlot s 0 first
-in_slot s c e = elim (root_or_none c) [
+in_slot s c e = elim (first_root_or_none c) [
   | inl found ↦ elim (cases_eq (found.0.generation % 2) 0) [
-    | inl even ↦ (Some found.0, record { sector = c; there = e; valid = record { spelled = found.1; parity = even } })
+    | inl even ↦ (Some found.0, record { sector = c; there = e; valid = record { spelled = found.1; parity = even; version = found.2 } })
     | inr odd ↦ (
       None,
       λ sector r there v.
@@ -94,7 +94,7 @@ in_slot s c e = elim (root_or_none c) [
     λ sector r there v.
         let both : Some sector ≡ Some c = sym there ∙ e in
         let same : sector ≡ c = cc in
-        none r (subst (λ (x : Bytes). SpellsRoot x r) same v.spelled),
+        none r (subst (λ (x : Bytes). SpellsRoot x r) same v.spelled) v.version,
   )
 ]
 

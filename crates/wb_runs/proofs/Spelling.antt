@@ -1,20 +1,21 @@
--- Every root has a spelling, and a sector spells a root or none.
-use Rattle.std.proofs.Common.{◌≡◌, ◌∙◌, ◌≤◌, ◌<◌, ◌+◌, ◌-◌, ◌*◌, ◌%◌, ◌^◌, ◌++◌, ◌⊎◌, inl, inr, ℕ, zero, suc, Bool, true, false, cond, List, [], ◌∷◌, Option, Some, None, refl, sym, subst, arith, length, replicate, slice_index}
+-- Every root has a spelling, and a sector spells a root of the first version or none.
+use Rattle.std.proofs.Common.{◌≡◌, ◌∙◌, ◌≤◌, ◌<◌, ◌+◌, ◌-◌, ◌*◌, ◌%◌, ◌^◌, ◌++◌, ◌⊎◌, inl, inr, ℕ, zero, suc, Bool, true, false, cond, List, [], ◌∷◌, Option, Some, None, refl, sym, ap, subst, arith, length, replicate, slice_index}
 use Rattle.std.specs.Prelude.{slice_range, All}
 use Rattle.std.proofs.lemmas.Bool.{cases_eq, cases_lt}
 use Rattle.std.proofs.lemmas.List.{get_or-append_right}
 use Rattle.std.proofs.lemmas.List.Elements.{All-cons, All-nil, All-from_recursion, recursion_from_All}
 use Rattle.std.specs.Int.{bytes_low_first}
-use Rattle.wb_types.specs.Limits.{IsWithinLimits, node_count}
+use Rattle.wb_types.specs.Limits.{IsWithinLimits, HasRoom, node_count}
 use Rattle.wb_types.specs.declared.geometry.Geometry.{Geometry}
 use Rattle.wb_types.specs.declared.number.Place.{Place}
 use Rattle.wb_format.specs.Bytes.{IsSector, number_at}
-use Rattle.wb_format.specs.Sizes.{IsTop, top_number}
+use Rattle.wb_format.specs.Sizes.{IsTop, MayNameDirty, top_number}
 use Rattle.wb_types.specs.Versions.{version_number}
-use Rattle.wb_format.specs.Layout.{SpellsRoot, root_magic}
+use Rattle.wb_format.specs.Letters.{root_magic}
+use Rattle.wb_format.specs.Layout.{SpellsRoot}
 use Rattle.wb_format.specs.declared.root.Root.{Root}
 use Rattle.wb_types.specs.declared.version.Version.{Version}
-use Rattle.wb_types.specs.declared.version.Version.TheVariants.{One}
+use Rattle.wb_types.specs.declared.version.Version.TheVariants.{One, Two}
 use Rattle.wb_format.proofs.Numbers.{number_at-written, zero-from_bytes, zeros_all, little_bytes-below}
 
 -- ---- a root is spelled
@@ -37,10 +38,13 @@ abbrev pub four : ℕ → List ℕ
 four n = bytes_low_first 0 4 n
 
 abbrev zeros : List ℕ
-zeros = replicate 468 0
+zeros = replicate 464 0
+
+abbrev from_dirty : Root → List ℕ
+from_dirty r = four (top_number r.top_dirty) ++ zeros
 
 abbrev from_top : Root → List ℕ
-from_top r = four (top_number r.top) ++ zeros
+from_top r = four (top_number r.top) ++ from_dirty r
 
 abbrev from_meta : Root → List ℕ
 from_meta r = four r.geometry.meta_sectors ++ from_top r
@@ -74,7 +78,8 @@ spelled_root r fits = record {
         (below_append (four (version_number r.version)) (from_flags r) (little_bytes-below 0 4 (version_number r.version)) (below_append (four (cond r.clean 1 0)) (from_block r) (little_bytes-below 0 4 (cond r.clean 1 0))
         (below_append (four g.block) (from_cache r) (little_bytes-below 0 4 g.block) (below_append (four g.cache_blocks) (from_origin r) (little_bytes-below 0 4 g.cache_blocks)
         (below_append (four g.origin_blocks) (from_meta r) (little_bytes-below 0 4 g.origin_blocks) (below_append (four g.meta_sectors) (from_top r) (little_bytes-below 0 4 g.meta_sectors)
-        (below_append (four (top_number r.top)) (zeros) (little_bytes-below 0 4 (top_number r.top)) (λ k. let z = zeros_all 468 k in omega (arith, z))))))))));
+        (below_append (four (top_number r.top)) (from_dirty r) (little_bytes-below 0 4 (top_number r.top))
+        (below_append (four (top_number r.top_dirty)) (zeros) (little_bytes-below 0 4 (top_number r.top_dirty)) (λ k. let z = zeros_all 464 k in omega (arith, z)))))))))));
   };
   magic = number_at-written [] (from_generation r) 0 8 root_magic refl (omega arith);
   generation = number_at-written (eight root_magic) (from_version r) 8 8 r.generation refl (omega (arith, fits));
@@ -87,8 +92,9 @@ spelled_root r fits = record {
     meta_sectors = number_at-written (f24 ++ (four g.block ++ (four g.cache_blocks ++ four g.origin_blocks))) (from_top r) 36 4 g.meta_sectors refl (omega (arith, g.within.meta_to));
     version = version ∙ r.same_version;
   };
-  top = number_at-written (f24 ++ (four g.block ++ (four g.cache_blocks ++ (four g.origin_blocks ++ four g.meta_sectors)))) (zeros) 40 4 (top_number r.top) refl (small_top g.meta_sectors r.top r.top_inside g.within.meta_to);
-  rest = zero-from_bytes (spelling r) 44 512 (λ k from to. get_or-append_right f44 zeros 44 k 0 refl from ∙ zeros_all 468 (k - 44));
+  top = number_at-written (f24 ++ (four g.block ++ (four g.cache_blocks ++ (four g.origin_blocks ++ four g.meta_sectors)))) (from_dirty r) 40 4 (top_number r.top) refl (small_top g.meta_sectors r.top r.top_inside g.within.meta_to);
+  top_dirty = number_at-written f44 (zeros) 44 4 (top_number r.top_dirty) refl (small_top g.meta_sectors r.top_dirty r.dirty_inside g.within.meta_to);
+  rest = zero-from_bytes (spelling r) 48 512 (λ k from to. get_or-append_right f48 zeros 48 k 0 refl from ∙ zeros_all 464 (k - 48));
 }
   where
     g : Geometry
@@ -103,8 +109,12 @@ spelled_root r fits = record {
     f44 : List ℕ
     f44 = f24 ++ (four g.block ++ (four g.cache_blocks ++ (four g.origin_blocks ++ (four g.meta_sectors ++ four (top_number r.top)))))
 
+    f48 : List ℕ
+    f48 = f24 ++ (four g.block ++ (four g.cache_blocks ++ (four g.origin_blocks ++ (four g.meta_sectors ++ (four (top_number r.top) ++ four (top_number r.top_dirty))))))
+
     small_version : (v : Version) → version_number v < 256 ^ 4
     small_version One = omega arith
+    small_version Two = omega arith
 
     version : number_at (spelling r) 16 4 ≡ version_number r.version
     version = number_at-written f16 (from_flags r) 16 4 (version_number r.version) refl (small_version r.version)
@@ -193,19 +203,46 @@ flag_in (suc (suc n)) = inr (λ x. bad x.0 x.1)
     bad true e = omega (arith, e)
     bad false e = omega (arith, e)
 
-pub root_or_none : (s : List ℕ) → ((r : Root) × SpellsRoot s r) ⊎ ((r : Root) → ¬ SpellsRoot s r)
-root_or_none s = elim (two_of (two_of (is_sector s) (two_of (cases_eq (number_at s 0 8) root_magic) (cases_eq (number_at s 16 4) 1))) (two_of (all_zero (slice_range s 44 512)) (two_of (flag_in (number_at s 20 4))
+-- so has a mapping room that is within limits, in the first version
+room_first : (b c o m : ℕ) → IsWithinLimits b c o m → HasRoom One c m
+room_first b c o m within = let least = within.meta_from in omega (arith, least)
+
+-- a root of the first version names no dirty bits
+none_dirty : (version : Version) (clean : Bool) (top_dirty : Option Place) → MayNameDirty version clean top_dirty → version ≡ One → ◌≡◌ {A = ℕ} (top_number top_dirty) 0
+none_dirty version clean None may first = refl
+none_dirty version clean (Some p) may first = let two = (may p refl).0 in let one : version_number version ≡ version_number One = ap version_number first in absurd (omega (arith, two, one))
+
+-- a sector spells a root of the first version or none
+pub first_root_or_none : (s : List ℕ) → ((r : Root) × SpellsRoot s r × (r.version ≡ One)) ⊎ ((r : Root) → SpellsRoot s r → ¬ (r.version ≡ One))
+first_root_or_none s = elim (two_of (two_of (is_sector s) (two_of (cases_eq (number_at s 0 8) root_magic) (two_of (cases_eq (number_at s 16 4) 1) (cases_eq (number_at s 44 4) 0)))) (two_of (all_zero (slice_range s 48 512)) (two_of (flag_in (number_at s 20 4))
     (two_of (within_limits (number_at s 24 4) (number_at s 28 4) (number_at s 32 4) (number_at s 36 4)) (top_in (number_at s 36 4) (number_at s 40 4)))))) [
       | inl d ↦ inl (
-        record { generation = number_at s 8 8; version = One; clean = d.1.1.0.0; geometry = record { block = number_at s 24 4; cache_blocks = number_at s 28 4; origin_blocks = number_at s 32 4; meta_sectors = number_at s 36 4; version = One; within = d.1.1.1.0 }; top = d.1.1.1.1.0; same_version = refl; top_inside = d.1.1.1.1.1 },
-        record { bytes = d.0.0; magic = d.0.1.0; generation = refl; version = d.0.1.1; flags = d.1.1.0.1; geometry = record { block = refl; cache_blocks = refl; origin_blocks = refl; meta_sectors = refl; version = d.0.1.1 }; top = d.1.1.1.1.2; rest = d.1.0 },
+        record {
+          generation = number_at s 8 8;
+          version = One;
+          clean = d.1.1.0.0;
+          geometry = record {
+            block = number_at s 24 4;
+            cache_blocks = number_at s 28 4;
+            origin_blocks = number_at s 32 4;
+            meta_sectors = number_at s 36 4;
+            version = One;
+            within = d.1.1.1.0;
+            room = room_first (number_at s 24 4) (number_at s 28 4) (number_at s 32 4) (number_at s 36 4) d.1.1.1.0;
+          };
+          top = d.1.1.1.1.0;
+          top_dirty = None;
+          same_version = refl;
+          top_inside = d.1.1.1.1.1;
+          dirty_inside = λ p e. absurd (cc);
+          dirty_clean = λ p e. absurd (cc);
+        },
+        record { bytes = d.0.0; magic = d.0.1.0; generation = refl; version = d.0.1.1.0; flags = d.1.1.0.1; geometry = record { block = refl; cache_blocks = refl; origin_blocks = refl; meta_sectors = refl; version = d.0.1.1.0 }; top = d.1.1.1.1.2; top_dirty = d.0.1.1.1; rest = d.1.0 },
+        refl,
       )
-      | inr none ↦ inr (λ r p. none ((p.bytes, (p.magic, p.version ∙ one_version r.version)), (p.rest, ((r.clean, p.flags), (fits r p, (r.top, top_fits r p, p.top))))))
+      | inr none ↦ inr (λ r p first. none ((p.bytes, (p.magic, (p.version ∙ ap version_number first, p.top_dirty ∙ none_dirty r.version r.clean r.top_dirty r.dirty_clean first))), (p.rest, ((r.clean, p.flags), (fits r p, (r.top, top_fits r p, p.top))))))
     ]
   where
-    one_version : (v : Version) → version_number v ≡ 1
-    one_version One = refl
-
     fits : (r : Root) → SpellsRoot s r → IsWithinLimits (number_at s 24 4) (number_at s 28 4) (number_at s 32 4) (number_at s 36 4)
     fits r p = rw (p.geometry.block, p.geometry.cache_blocks, p.geometry.origin_blocks, p.geometry.meta_sectors) r.geometry.within
 
