@@ -105,6 +105,7 @@ spelled_root r fits = record {
 
     small_version : (v : Version) → version_number v < 256 ^ 4
     small_version One = omega arith
+    small_version Two = omega arith
 
     version : number_at (spelling r) 16 4 ≡ version_number r.version
     version = number_at-written f16 (from_flags r) 16 4 (version_number r.version) refl (small_version r.version)
