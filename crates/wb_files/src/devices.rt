@@ -2,6 +2,7 @@
 
 ghost use Rattle.std.specs.Prelude.{◌≡◌, ◌<◌, ◌*◌, ◌^◌, ℕ, IfOk, IfErr};
 ghost use Rattle.wb_types.specs.Limits.{IsWithinLimits};
+ghost use Rattle.wb_types.specs.declared.version.Version.TheVariants.{One};
 
 use crate::patience::Patience;
 use crate::sizes::find_size_fault;
@@ -160,6 +161,7 @@ pub fn measure(block: u64, metadata: u64, cache: u64, origin: u64) -> Result<Geo
     ensures metadata { IfOk result (λ geometry. geometry.meta_sectors ≡ metadata) }
     ensures cache { IfOk result (λ geometry. geometry.cache_blocks * block ≡ cache) }
     ensures origin { IfOk result (λ geometry. geometry.origin_blocks * block ≡ origin) }
+    ensures version { IfOk result (λ geometry. geometry.version ≡ One) }
     ensures refused { IfErr result (λ refusal. refusal ≡ Refusal.Geometry) }
     ensures outside { IfErr result (λ _. (cache_blocks origin_blocks : ℕ) → cache_blocks * block ≡ cache
         → origin_blocks * block ≡ origin → ¬ IsWithinLimits block cache_blocks origin_blocks metadata) }
