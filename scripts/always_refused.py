@@ -1,11 +1,12 @@
 """Bodies that always refuse memory, and the tests that refuse them.
 
-    always_refused.py [WORD ..]
+    always_refused.py [together] [WORD ..]
 
 A body that answers `Memory` and does nothing meets a contract that says `Memory`. Each row here is a public call with the answer that it then gives, put in
 front of its body in a copy of the sources, and a test that asks for the answer there is with ample memory: it has to fail. The copy is compiled
 without a proof by `rt try`; a test 'wbcache' or 'wbnbd' is a run of that program with what it has to print. With words, the rows whose call has
-one of them are tried. It prints for each row which tests failed, and at the end 'N passed, N failed'. One row takes half a minute or more, all of
+one of them are tried; 'together' tries those of one crate of tests in one copy, which says what it says where none of these calls is made by the tests of
+another one of them. It prints for each row which tests failed, and at the end 'N passed, N failed'. One row takes half a minute or more, all of
 them some 40 minutes, so the gate does not call it.
 """
 import os
@@ -48,19 +49,18 @@ ROWS = [
     ("ReadSteps::next", "wb_meta/read_steps", "next", MEMORY, "wb_tests_meta", "a_device_of_one_node_is_read_in_three_steps"),
     ("TinyLfu::new", "wb_policy/tiny_lfu", "new", MEMORY, "wb_tests_policy", "mapped_blocks_are_placed_by_hint_then_by_cache_block"),
     ("TinyLfu::mapped", "wb_policy/tiny_lfu", "mapped", MEMORY, "wb_tests_policy", "mapped_blocks_are_placed_by_hint_then_by_cache_block"),
-    ("Cleaner::new", "wb_policy/cleaner", "new", MEMORY, "wb_tests_policy", "?"),
-    ("Cleaner::mapped", "wb_policy/cleaner", "mapped", MEMORY, "wb_tests_policy", "?"),
+    ("Cleaner::new", "wb_policy/cleaner", "new", MEMORY, "wb_tests_policy", "ticks"),
     ("Sketch::new", "wb_sketch/sketch", "new", MEMORY, "wb_tests_policy", "a_block_accessed_past_the_reset"),
-    ("read_table", "wb_table/table", "read_table", MEMORY, "wb_tests_disk", "?"),
+    ("read_table", "wb_table/table", "read_table", MEMORY, "wb_tests_disk", "a_line_gives_mode_policy_and_keys"),
     ("read_message", "wb_table/message", "read_message", MEMORY, "wb_tests_disk", "ranges_are_named_in_their_order"),
     ("status_text", "wb_table/status", "status_text", MEMORY, "wb_tests_disk", "each_figure_has_its_place"),
     ("MemDisk::new", "wb_disk/memory", "new", MEMORY, "wb_tests_disk", "a_read_gives_the_latest_write"),
-    ("MemDisk::room", "wb_disk/memory", "room", MEMORY, "wb_tests_disk", "?"),
+    ("MemDisk::room", "wb_disk/memory", "room", MEMORY, "wb_tests_disk", "room_is_made_with_ample_memory"),
     ("Cells::new", "wb_cells/cells", "new", "return Err(Refusal::Memory);", "wb_tests_cells", "four_threads_finish_a_thousand_writes_each"),
     ("World::new", "wb_world/world", "new", MEMORY, "wb_tests_world", "a_list_of_events_is_run_to_its_end"),
     ("World::event", "wb_world/world", "event", MEMORY, "wb_tests_world", "a_list_of_events_is_run_to_its_end"),
     ("wb_world::run", "wb_world/running", "run", MEMORY, "wb_tests_world", "a_list_of_events_is_run_to_its_end"),
-    ("Connection::serve", "wb_nbd/connection", "serve", "return Err(Broken::Memory);", "wb_tests_nbd", "?"),
+    ("Connection::serve", "wb_nbd/connection", "serve", "return Err(Broken::Memory);", "wb_tests_nbd", "of_two_requests_in_flight_the_later_ends_first"),
     ("transmit", "wb_nbd/transmission", "transmit", "return Err(Broken::Memory);", "wb_tests_nbd", "each_request_has_its_reply"),
 ]
 
@@ -86,20 +86,28 @@ def failing(folder, crate):
     return [name for name, answer in tests if answer != "ok"], done.stdout[-600:]
 
 
+def copy_of(folder):
+    """A copy of what is compiled."""
+    shutil.copy(f"{TOP}/crates.txt", folder)
+    shutil.copy(f"{TOP}/HANDLES", folder)
+    shutil.copytree(f"{TOP}/crates", f"{folder}/crates", ignore=shutil.ignore_patterns("out", "bugs", "must-fail"))
+
+
 def main():
     words, passed, failed = sys.argv[1:], 0, 0
-    for call, path, function, what, crate, test in ROWS:
-        if words and not any(word in call for word in words):
-            continue
+    is_together = words[:1] == ["together"]
+    chosen = [row for row in ROWS if not words[is_together:] or any(word in row[0] for word in words[is_together:])]
+    crates = sorted({row[4] for row in chosen})
+    for rows in [[row for row in chosen if row[4] == crate] for crate in crates] if is_together else [[row] for row in chosen]:
         with tempfile.TemporaryDirectory() as folder:
-            shutil.copy(f"{TOP}/crates.txt", folder)
-            shutil.copy(f"{TOP}/HANDLES", folder)
-            shutil.copytree(f"{TOP}/crates", f"{folder}/crates", ignore=shutil.ignore_patterns("out", "bugs", "must-fail"))
-            refuse(folder, path, function, what)
-            tests, said = failing(folder, crate)
-        is_right = test in tests
-        passed, failed = passed + is_right, failed + (not is_right)
-        print(f"{'ok' if is_right else 'failed'}: {call}: {len(tests)} of {crate}: {' '.join(tests)}" if tests else f"failed: {call}: {said}", flush=True)
+            copy_of(folder)
+            for _, path, function, what, _, _ in rows:
+                refuse(folder, path, function, what)
+            tests, said = failing(folder, rows[0][4])
+        for call, *_, crate, test in rows:
+            is_right = test in tests
+            passed, failed = passed + is_right, failed + (not is_right)
+            print(f"{'ok' if is_right else 'failed'}: {call}: {len(tests)} of {crate}: {' '.join(tests)}" if tests else f"failed: {call}: {said}", flush=True)
     print(f"{passed} passed, {failed} failed")
     sys.exit(failed > 0)
 
