@@ -1,6 +1,6 @@
 -- A line of three words, one space between two, of which the latter two spell numbers.
 use Rattle.std.proofs.Common.{refl, ◌≡◌, ◌∷◌, ◌++◌, ◌<◌, ◌≤◌, ◌∙◌, [], ℕ, Bool, List, codes, length, filter, cond, eqb, true, false, ap, arith, rules, ⊎_elim}
-use Rattle.std.specs.List.{slice_split, list_all, AllPass, onto_first, slice_index}
+use Rattle.std.specs.List.{list_all, onto_first, slice_index}
 use Rattle.std.specs.Char.{is_ascii_digit}
 use Rattle.std.specs.Str.{IsAscii, IsUtf8}
 use Rattle.std.proofs.lemmas.Bool.{lt-ltb, cases_order}
