@@ -56,13 +56,15 @@ impl<'w, N: Watch> Disks<WatchedDisk<'w, N>> {
 }
 
 /// Reads a table, opens its files and measures them: `BadTable`, `Io` for the first that cannot be opened, `Geometry`. What the table says,
-/// the files, and the sizes.
+/// the files, and the sizes, with metadata of the first version.
 pub fn open_table<'a, 'w, R: Files<File = File>, P: Patience, N: Watch>(
     rt: &R,
     text: &'a str,
     patience: &mut P,
     watch: &'w N,
-) -> Result<(Table<'a>, Disks<WatchedDisk<'w, N>>, Geometry), Unopened<'a>> {
+) -> Result<(Table<'a>, Disks<WatchedDisk<'w, N>>, Geometry), Unopened<'a>>
+    ensures { IfOk result (λ opened. opened.2.version ≡ One) }
+{
     let Ok(table) = read_table(text) else {
         return Err(Unopened::Table(find_table_fault(text)));
     };

@@ -1,5 +1,8 @@
 //! Formatting of a target's metadata.
 
+ghost use Rattle.std.specs.Prelude.{◌≡◌};
+ghost use Rattle.wb_types.specs.declared.version.Version.TheVariants.{One};
+
 use crate::ended::{Ended, refused};
 use crate::given_up::{Consent, find_given_up};
 use crate::output::{StreamFailed, print, refuse, see_out};
@@ -45,7 +48,9 @@ fn format_disk<'a, D: Disk, C: Consent, W: Write>(
     geometry: &Geometry,
     consent: &mut C,
     writer: &mut W,
-) -> Ended<'a> {
+) -> Ended<'a>
+    requires { geometry.now.version ≡ One }
+{
     if let Some(given_up) = find_given_up(alloc, metadata) {
         if !consent.may_give_up(given_up) {
             return Ended::new(Ok(Status::Refused), None);

@@ -1,5 +1,8 @@
 //! What happens to a small world by hand, and what it does.
 
+ghost use Rattle.std.specs.Prelude.{◌≡◌, IfOk};
+ghost use Rattle.wb_types.specs.declared.version.Version.TheVariants.{One};
+
 mod demotions;
 mod flushes;
 mod line;
@@ -35,7 +38,9 @@ use wb_types::{Content, Dev, Extent, Geometry, Mode, Refusal, SECTOR_BYTES};
 use wb_world::World;
 
 /// Ten blocks of 64 sectors, and a cache of four.
-fn small() -> Result<Geometry, Refusal> {
+fn small() -> Result<Geometry, Refusal>
+    ensures { IfOk result (λ geometry. geometry.version ≡ One) }
+{
     Geometry::new(64, 4, 10, 4)
 }
 
