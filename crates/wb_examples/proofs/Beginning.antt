@@ -8,7 +8,8 @@ use Rattle.wb_types.specs.declared.number.Place.{Place}
 use Rattle.wb_types.proofs.Truth.{yes}
 use Rattle.wb_disk.specs.Device.{History}
 use Rattle.wb_format.specs.declared.root.Root.{Root}
-use Rattle.wb_format.specs.Sizes.{IsTop}
+use Rattle.wb_types.specs.declared.version.Version.{Version}
+use Rattle.wb_format.specs.Sizes.{IsTop, MayNameDirty}
 use Rattle.wb_meta.specs.Placing.{HavePlaces}
 use Rattle.wb_meta.proofs.Imaging.{have_places}
 use Rattle.wb_tree.specs.declared.image.Image.{Image}
@@ -51,11 +52,14 @@ none_used m (node ∷ known) same cache_blocks none =
 pub no_top : (sectors : ℕ) → IsTop sectors None
 no_top sectors p e = absurd (cc)
 
+pub no_dirty : (version : Version) → MayNameDirty version false None
+no_dirty version p e = absurd (cc)
+
 pub no_node : (sectors : ℕ) → 2 ≤ sectors → HavePlaces [] sectors
 no_node sectors some = record { slots = some; from = λ i node e. absurd (cc); to = λ i node e. absurd (cc); apart = λ i j node other e f h. absurd (cc) }
 
 abbrev pub bare_root : (g : Geometry) (generation : ℕ) → Root
-bare_root g generation = record { generation = generation; version = g.version; clean = false; geometry = g; top = None; same_version = refl; top_inside = no_top g.meta_sectors }
+bare_root g generation = record { generation = generation; version = g.version; clean = false; geometry = g; top = None; top_dirty = None; same_version = refl; top_inside = no_top g.meta_sectors; dirty_inside = no_top g.meta_sectors; dirty_clean = no_dirty g.version }
 
 module _ (heap : Global) where
   -- an image of one root, which writes nothing else
@@ -81,6 +85,7 @@ module _ (heap : Global) where
     places_are = refl;
     stands = All-nil _;
     generations = All-nil _;
+    mappings = All-nil _;
     words = All-nil _;
     used = none_used m m.known refl plan.geometry.cache_blocks (no_place g m e sound);
     comes = λ place at. inl at;

@@ -2,14 +2,14 @@
 -- each of these may be.
 use Rattle.std.proofs.Common.{Global, ◌≡◌, ◌≢◌, ◌≤◌, ◌+◌, ◌<◌, ◌^◌, ℕ, zero, suc, false, List, [], ◌∷◌, Option, Some, None, refl, sym, ap, subst, arith, slice_get, replicate, is_some}
 use Rattle.std.specs.List.{count_by}
-use Rattle.wb_types.specs.Limits.{IsWithinLimits}
+use Rattle.wb_types.specs.Limits.{HasRoom, IsWithinLimits}
 use Rattle.wb_types.specs.declared.entry.Entry.{Entry}
 use Rattle.wb_types.specs.declared.geometry.Geometry.{Geometry}
 use Rattle.wb_types.specs.declared.mode.Mode.{Mode}
 use Rattle.wb_types.specs.declared.mode.Mode.TheVariants.{Passthrough}
 use Rattle.wb_types.specs.declared.number.OBlock.{OBlock}
 use Rattle.wb_types.specs.declared.number.CBlock.{CBlock}
-use Rattle.wb_types.specs.declared.version.Version.{Version}
+use Rattle.wb_types.specs.declared.version.Version.TheVariants.{One}
 use Rattle.wb_tree.specs.Mapping.{IsSound, empty_mapping}
 use Rattle.wb_tree.specs.Edits.{IsChangedAt}
 use Rattle.wb_tree.proofs.Branching.Edits.{changed_at, changed-sound}
@@ -30,19 +30,19 @@ use Rattle.wb_tree.proofs.Branching.Edits.{changed-edit as changed}
 use Rattle.wb_examples.proofs.Completing.{empty_sound}
 use Rattle.wb_examples.proofs.Playing.{AreIdle}
 
--- so many blocks of 64 sectors behind the first on the cache, so many metadata sectors, so many sectors for which orders may ask at once, and so
+-- so many blocks of 64 sectors behind the first on the cache, so many sectors of metadata of the first version, so many sectors for which orders may ask at once, and so
 -- many actors behind the first
 pub record Sizes (more : ℕ) : Type 0 where
   pub k : ℕ
   pub meta_sectors : ℕ
   pub within : IsWithinLimits 64 (suc k) (suc more) meta_sectors
-  pub version : Version
+  pub room : HasRoom One (suc k) meta_sectors
   pub threshold : ℕ
   pub others : ℕ
 
 -- such a shape, with so many blocks behind the first on the origin
 abbrev pub geometry_of : (more : ℕ) → Sizes more → Geometry
-geometry_of more sizes = record { block = 64; cache_blocks = suc sizes.k; origin_blocks = suc more; meta_sectors = sizes.meta_sectors; version = sizes.version; within = sizes.within }
+geometry_of more sizes = record { block = 64; cache_blocks = suc sizes.k; origin_blocks = suc more; meta_sectors = sizes.meta_sectors; version = One; within = sizes.within; room = sizes.room }
 
 abbrev pub shape_of : (more : ℕ) → Sizes more → Shape
 shape_of more sizes = record { geometry = geometry_of more sizes; threshold = sizes.threshold; actors = suc sizes.others }

@@ -4,6 +4,8 @@ use Rattle.std.proofs.lemmas.List.Elements.{All-cons, All-nil}
 use Rattle.wb_types.specs.Limits.{depth_of, node_count, nodes_up_to}
 use Rattle.wb_types.specs.declared.entry.Entry.{Entry}
 use Rattle.wb_types.specs.declared.geometry.Geometry.{Geometry}
+use Rattle.wb_types.specs.declared.version.Version.TheVariants.{One}
+use Rattle.wb_examples.proofs.Beginning.{no_top}
 use Rattle.wb_types.specs.declared.number.Place.{Place}
 use Rattle.wb_types.specs.declared.mode.Mode.TheVariants.{Writeback}
 use Rattle.wb_format.specs.declared.node.Node.{Node}
@@ -84,12 +86,14 @@ leaf_word dirty (suc k) = subst IsLeafWord (sym (zeros_all 31 k)) IsLeafWord-zer
 abbrev pub leaf_node : Bool → ℕ → Node
 leaf_node dirty generation = record {
   generation = generation;
+  dirty = false;
   level = 1;
   index = 0;
   words = leaf_words dirty;
   level_from = omega arith;
   level_to = omega arith;
-  spelled = IsWord-everywhere 1 (leaf_words dirty) (λ k below. record { leaf = λ e. leaf_word dirty k; inner = λ o. absurd (o refl) });
+  dirty_to = λ e. absurd (cc);
+  spelled = λ j. (IsWord-everywhere One false 1 (leaf_words dirty) (λ k below. record { any = record { leaf = λ mapping e. leaf_word dirty k; inner = λ o. absurd (o refl) }; leaf = λ mapping e. record { leaf = leaf_word dirty k; no_dirty_bit = λ two. absurd (cc) } }) j).any;
 }
 
 pub one_node : node_count 1 ≡ 1
@@ -130,12 +134,15 @@ module _ (P A : Type 0) (t : Tiny P A) where
     abbrev pub root : Root
     root = record {
       generation = s.generation + 1;
-      version = t.version;
+      version = One;
       clean = true;
       geometry = geometry;
       top = Some leaf_place;
+      top_dirty = None;
       same_version = refl;
       top_inside = top_inside;
+      dirty_inside = no_top t.meta_sectors;
+      dirty_clean = λ place e. absurd (cc);
     }
 
     abbrev pub nodes : List (Place × Node)
@@ -172,10 +179,10 @@ module _ (P A : Type 0) (t : Tiny P A) where
       pub can : CanPlace (marked_tree dirty) geometry plan.free
       can = record { size = refl; sound = marks.sound; once = tt; inside = λ place at. absurd (let h = at.known in cc); are = free_for unknowing stood0 kept refl (marked_tree dirty) marks.edited refl }
 
-      written : AreWritten (stored_tree dirty) plan.generation plan.free nodes
+      written : AreWritten One (stored_tree dirty) plan.generation plan.free nodes
       written = record {
         places = sym (ap (λ (ps : List Place). take 1 ps) free_is);
-        each = All-cons (IsWritten (stored_tree dirty) plan.generation) (leaf_place, leaf_node dirty (s.generation + 1)) [] (record { stands = refl; written_in = refl; words = λ j below. words_are dirty j }) (All-nil _);
+        each = All-cons (IsWritten One (stored_tree dirty) plan.generation) (leaf_place, leaf_node dirty (s.generation + 1)) [] (record { stands = refl; written_in = refl; mapping = refl; words = λ j below. words_are dirty j }) (All-nil _);
       }
 
       pub image_is : IsImage (marked_tree dirty) (stored_tree dirty) plan image
@@ -183,11 +190,11 @@ module _ (P A : Type 0) (t : Tiny P A) where
           let n = planned (marked_tree dirty) plan.free in
           let complete = planned-complete (marked_tree dirty) geometry plan.free can in
           let named = sym changed_is in
-          let there : AreWritten n plan.generation plan.free nodes = subst (λ (m : Mapping). AreWritten m plan.generation plan.free nodes) (sym planned_is) written in
+          let there : AreWritten One n plan.generation plan.free nodes = subst (λ (m : Mapping). AreWritten One m plan.generation plan.free nodes) (sym planned_is) written in
           subst (λ (m : Mapping). IsImage (marked_tree dirty) m plan image) planned_is (
           image-is (marked_tree dirty) n geometry plan.generation true plan.free image (written_is (marked_tree dirty) geometry plan.generation plan.free nodes can named there) complete.all
           (used-places n 1 (planned-sound (marked_tree dirty) geometry plan.free can) complete.once complete.few) (planned-comes (marked_tree dirty) plan.free nodes named there.places)
-          (planned-more (marked_tree dirty) plan.generation plan.free nodes named there) refl refl refl (top_is ∙ ap (λ (m : Mapping). place_of m (depth_of 1) 0) (sym planned_is)))
+          (planned-more One (marked_tree dirty) plan.generation plan.free nodes named there) refl refl refl (top_is ∙ ap (λ (m : Mapping). place_of m (depth_of 1) 0) (sym planned_is)))
 
       stored_sound : IsSound (stored_tree dirty)
       stored_sound = subst IsSound planned_is (planned-sound (marked_tree dirty) geometry plan.free can)

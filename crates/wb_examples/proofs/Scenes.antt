@@ -1,10 +1,10 @@
 -- Where a run is in which the first actor alone is at work over a small shape, how its stretches are put together, and that an opening leads there.
-use Rattle.std.proofs.Common.{Global, IsPermutation, ◌≡◌, ◌≢◌, ◌∙◌, ◌≤◌, ◌*◌, ◌+◌, ℕ, zero, suc, Bool, List, [], ◌∷◌, Option, Some, None, refl, sym, ap, subst, arith, length, replicate, is_some}
+use Rattle.std.proofs.Common.{Global, IsPermutation, ◌≡◌, ◌≢◌, ◌∙◌, ◌≤◌, ◌*◌, ◌+◌, ℕ, zero, suc, Bool, List, [], ◌∷◌, Option, Some, None, refl, sym, ap, subst, arith, length, map, replicate, is_some}
 use Rattle.std.specs.List.{count_by}
 use Rattle.std.proofs.lemmas.List.{append-nil, length-map, length-replicate}
 use Rattle.std.proofs.lemmas.List.Elements.{All-cons, All-nil}
 use Rattle.std.proofs.lemmas.List.Sorted.{IsPermutation-refl}
-use Rattle.wb_types.specs.Limits.{IsWithinLimits}
+use Rattle.wb_types.specs.Limits.{HasRoom, IsWithinLimits}
 use Rattle.wb_types.specs.declared.entry.Entry.{Entry}
 use Rattle.wb_types.specs.declared.extent.Extent.{Extent}
 use Rattle.wb_types.specs.declared.geometry.Geometry.{Geometry}
@@ -13,6 +13,7 @@ use Rattle.wb_types.specs.declared.mode.Dev.TheVariants.{Origin}
 use Rattle.wb_types.specs.declared.mode.Mode.{Mode}
 use Rattle.wb_types.specs.declared.mode.Mode.TheVariants.{Writeback, Passthrough}
 use Rattle.wb_types.specs.declared.version.Version.{Version}
+use Rattle.wb_types.specs.declared.version.Version.TheVariants.{One, Two}
 use Rattle.wb_disk.specs.Device.{Content as Bytes, History, only, newest}
 use Rattle.wb_disk.specs.Memory.{blank}
 use Rattle.wb_disk.specs.Crash.{Choice}
@@ -22,6 +23,9 @@ use Rattle.wb_words.specs.SharedWords.{Words, fresh_words}
 use Rattle.wb_words.specs.Cards.{blank_card}
 use Rattle.wb_words.specs.declared.card.Card.{Card}
 use Rattle.wb_tree.specs.Mapping.{empty_mapping}
+use Rattle.wb_types.specs.Versions.{version_number}
+use Rattle.wb_disk.proofs.Leaving.{read-left}
+use Rattle.wb_meta.proofs.Versions.{version_of}
 use Rattle.wb_meta.specs.Formats.{IsFormatted}
 use Rattle.wb_policy.specs.declared.order.Order.{Order}
 use Rattle.wb_desk.specs.Desks.{DeskState}
@@ -223,26 +227,35 @@ module _ (P A : Type 0) (more : ℕ) (mode : Mode) (f : Formatted P A more mode)
   pub from_opened : (conditions : List (State P A → Notes → Type 0)) → ((n : Notes) → n ≡ noted shape_at (down P A down_at) (formatted shape_at) opening_run → PassesThrough shape_at opened_at n conditions) → Whole conditions
   from_opened conditions passes = along shape_at (down P A down_at) opened_at (formatted shape_at) opening_run conditions (opened_is P A down_at ∙ opened_there) (goes_on global shape_at (down P A down_at) (opening P A down_at) (opening_may P A down_at)) (passes _ refl)
 
+-- what was formatted is of the first version
+none_of_second : (g : Geometry) (metadata : List History) → g.version ≡ Two → ¬ IsFormatted g metadata
+none_of_second g metadata second formatted =
+    let first : formatted.root.version ≡ One = (formatted.represents (map newest metadata) (read-left metadata)).newest.valid.version in
+    let same : One ≡ Two = sym first ∙ version_of formatted.root g formatted.first.geometry_is ∙ second in
+    let numbers : version_number One ≡ version_number Two = ap version_number same in
+    omega (arith, numbers)
+
 -- what is claimed of these sizes
-abbrev Claim : (P A : Type 0) → (Shape → List (State P A → Notes → Type 0)) → (b c o m : ℕ) (v : Version) → IsWithinLimits b c o m → (threshold others : ℕ) → List History → Type 0
-Claim P A conditions b c o m v w threshold others metadata = let geometry : Geometry = record { block = b; cache_blocks = c; origin_blocks = o; meta_sectors = m; version = v; within = w } in
+abbrev Claim : (P A : Type 0) → (Shape → List (State P A → Notes → Type 0)) → (b c o m : ℕ) (v : Version) → IsWithinLimits b c o m → HasRoom v c m → (threshold others : ℕ) → List History → Type 0
+Claim P A conditions b c o m v w r threshold others metadata = let geometry : Geometry = record { block = b; cache_blocks = c; origin_blocks = o; meta_sectors = m; version = v; within = w; room = r } in
     let shape : Shape = record { geometry = geometry; threshold = threshold; actors = suc others } in
     IsFormatted geometry metadata → length metadata ≡ m → PassesThrough shape (start shape metadata) (formatted shape) (conditions shape)
 
 -- a small shape is one of such sizes
 pub small_can : (P A : Type 0) (more asked : ℕ) (mode : Mode) (writes : mode ≢ Passthrough) (conditions : Shape → List (State P A → Notes → Type 0)) → ((f : Formatted P A more mode) → asked ≤ f.sizes.threshold → Whole P A more mode f (conditions (shape_of more f.sizes))) → CanPass P A (IsSmall (suc more) asked) conditions
 small_can P A more asked mode writes conditions passes = can_pass P A (IsSmall (suc more) asked) conditions (λ shape suits. suits.actors) (λ policy alloc global g threshold others metadata suits is_formatted size.
-    by_sizes policy alloc global g.block g.cache_blocks g.origin_blocks g.meta_sectors g.version g.within threshold others metadata suits.block suits.origin suits.room is_formatted size)
+    by_sizes policy alloc global g.block g.cache_blocks g.origin_blocks g.meta_sectors g.version g.within g.room threshold others metadata suits.block suits.origin suits.room is_formatted size)
   where
-    by_cache : (policy : P) (alloc : A) (global : Global) (c m : ℕ) (v : Version) (w : IsWithinLimits 64 c (suc more) m) (threshold others : ℕ) (metadata : List History) → asked ≤ threshold → Claim P A conditions 64 c (suc more) m v w threshold others metadata
-    by_cache policy alloc global zero m v w threshold others metadata room is_formatted size = absurd (omega (arith, w.cache_from))
-    by_cache policy alloc global (suc k) m v w threshold others metadata room is_formatted size =
-        passes (record { writes = writes; policy = policy; alloc = alloc; global = global; sizes = record { k = k; meta_sectors = m; within = w; version = v; threshold = threshold; others = others }; metadata = metadata; is_formatted = is_formatted; size = size }) room
+    by_cache : (policy : P) (alloc : A) (global : Global) (c m : ℕ) (v : Version) (w : IsWithinLimits 64 c (suc more) m) (r : HasRoom v c m) (threshold others : ℕ) (metadata : List History) → asked ≤ threshold → Claim P A conditions 64 c (suc more) m v w r threshold others metadata
+    by_cache policy alloc global zero m v w r threshold others metadata room is_formatted size = absurd (omega (arith, w.cache_from))
+    by_cache policy alloc global (suc k) m One w r threshold others metadata room is_formatted size =
+        passes (record { writes = writes; policy = policy; alloc = alloc; global = global; sizes = record { k = k; meta_sectors = m; within = w; room = r; threshold = threshold; others = others }; metadata = metadata; is_formatted = is_formatted; size = size }) room
+    by_cache policy alloc global (suc k) m Two w r threshold others metadata room is_formatted size = absurd (none_of_second _ metadata refl is_formatted)
 
-    by_sizes : (policy : P) (alloc : A) (global : Global) (b c o m : ℕ) (v : Version) (w : IsWithinLimits b c o m) (threshold others : ℕ) (metadata : List History) → b ≡ 64 → o ≡ suc more → asked ≤ threshold → Claim P A conditions b c o m v w threshold others metadata
-    by_sizes policy alloc global b c o m v w threshold others metadata e f room =
-        subst (λ (b : ℕ). (w : IsWithinLimits b c o m) → Claim P A conditions b c o m v w threshold others metadata) (sym e)
-        (subst (λ (o : ℕ). (w : IsWithinLimits 64 c o m) → Claim P A conditions 64 c o m v w threshold others metadata) (sym f) (λ w. by_cache policy alloc global c m v w threshold others metadata room)) w
+    by_sizes : (policy : P) (alloc : A) (global : Global) (b c o m : ℕ) (v : Version) (w : IsWithinLimits b c o m) (r : HasRoom v c m) (threshold others : ℕ) (metadata : List History) → b ≡ 64 → o ≡ suc more → asked ≤ threshold → Claim P A conditions b c o m v w r threshold others metadata
+    by_sizes policy alloc global b c o m v w r threshold others metadata e f room =
+        subst (λ (b : ℕ). (w : IsWithinLimits b c o m) → Claim P A conditions b c o m v w r threshold others metadata) (sym e)
+        (subst (λ (o : ℕ). (w : IsWithinLimits 64 c o m) → Claim P A conditions 64 c o m v w r threshold others metadata) (sym f) (λ w. by_cache policy alloc global c m v w r threshold others metadata room)) w
 
 -- ---- a cache of one block
 
@@ -253,11 +266,11 @@ pub record Tiny (P A : Type 0) : Type 0 where
   pub global : Global
   pub meta_sectors : ℕ
   pub within : IsWithinLimits 64 1 1 meta_sectors
-  pub version : Version
+  pub room : HasRoom One 1 meta_sectors
   pub threshold : ℕ
   pub others : ℕ
   pub metadata : List History
-  pub is_formatted : IsFormatted (record { block = 64; cache_blocks = 1; origin_blocks = 1; meta_sectors = meta_sectors; version = version; within = within }) metadata
+  pub is_formatted : IsFormatted (record { block = 64; cache_blocks = 1; origin_blocks = 1; meta_sectors = meta_sectors; version = One; within = within; room = room }) metadata
   pub size : length metadata ≡ meta_sectors
 
 abbrev pub formatted_of : {P A : Type 0} → Tiny P A → Formatted P A 0 Writeback
@@ -266,7 +279,7 @@ formatted_of t = record {
   policy = t.policy;
   alloc = t.alloc;
   global = t.global;
-  sizes = record { k = 0; meta_sectors = t.meta_sectors; within = t.within; version = t.version; threshold = t.threshold; others = t.others };
+  sizes = record { k = 0; meta_sectors = t.meta_sectors; within = t.within; room = t.room; threshold = t.threshold; others = t.others };
   metadata = t.metadata;
   is_formatted = t.is_formatted;
   size = t.size;
@@ -275,11 +288,15 @@ formatted_of t = record {
 -- the smallest shape is one of such sizes
 pub tiny_can : (P A : Type 0) (asked : ℕ) (conditions : Shape → List (State P A → Notes → Type 0)) → ((t : Tiny P A) → asked ≤ t.threshold → Whole P A 0 Writeback (formatted_of t) (conditions (shape_of 0 (formatted_of t).sizes))) → CanPass P A (IsSmallest asked) conditions
 tiny_can P A asked conditions passes = can_pass P A (IsSmallest asked) conditions (λ shape suits. suits.small.actors) (λ policy alloc global g threshold others metadata suits is_formatted size.
-    by_sizes policy alloc global g.block g.cache_blocks g.origin_blocks g.meta_sectors g.version g.within threshold others metadata suits.small.block suits.cache suits.small.origin suits.small.room is_formatted size)
+    by_sizes policy alloc global g.block g.cache_blocks g.origin_blocks g.meta_sectors g.version g.within g.room threshold others metadata suits.small.block suits.cache suits.small.origin suits.small.room is_formatted size)
   where
-    by_sizes : (policy : P) (alloc : A) (global : Global) (b c o m : ℕ) (v : Version) (w : IsWithinLimits b c o m) (threshold others : ℕ) (metadata : List History) → b ≡ 64 → c ≡ 1 → o ≡ 1 → asked ≤ threshold → Claim P A conditions b c o m v w threshold others metadata
-    by_sizes policy alloc global b c o m v w threshold others metadata e h f room =
-        subst (λ (b : ℕ). (w : IsWithinLimits b c o m) → Claim P A conditions b c o m v w threshold others metadata) (sym e)
-        (subst (λ (c : ℕ). (w : IsWithinLimits 64 c o m) → Claim P A conditions 64 c o m v w threshold others metadata) (sym h)
-        (subst (λ (o : ℕ). (w : IsWithinLimits 64 1 o m) → Claim P A conditions 64 1 o m v w threshold others metadata) (sym f) (λ w is_formatted size.
-        passes (record { policy = policy; alloc = alloc; global = global; meta_sectors = m; within = w; version = v; threshold = threshold; others = others; metadata = metadata; is_formatted = is_formatted; size = size }) room))) w
+    by_version : (policy : P) (alloc : A) (global : Global) (m : ℕ) (v : Version) (w : IsWithinLimits 64 1 1 m) (r : HasRoom v 1 m) (threshold others : ℕ) (metadata : List History) → asked ≤ threshold → Claim P A conditions 64 1 1 m v w r threshold others metadata
+    by_version policy alloc global m One w r threshold others metadata room is_formatted size =
+        passes (record { policy = policy; alloc = alloc; global = global; meta_sectors = m; within = w; room = r; threshold = threshold; others = others; metadata = metadata; is_formatted = is_formatted; size = size }) room
+    by_version policy alloc global m Two w r threshold others metadata room is_formatted size = absurd (none_of_second _ metadata refl is_formatted)
+
+    by_sizes : (policy : P) (alloc : A) (global : Global) (b c o m : ℕ) (v : Version) (w : IsWithinLimits b c o m) (r : HasRoom v c m) (threshold others : ℕ) (metadata : List History) → b ≡ 64 → c ≡ 1 → o ≡ 1 → asked ≤ threshold → Claim P A conditions b c o m v w r threshold others metadata
+    by_sizes policy alloc global b c o m v w r threshold others metadata e h f room =
+        subst (λ (b : ℕ). (w : IsWithinLimits b c o m) (r : HasRoom v c m) → Claim P A conditions b c o m v w r threshold others metadata) (sym e)
+        (subst (λ (c : ℕ). (w : IsWithinLimits 64 c o m) (r : HasRoom v c m) → Claim P A conditions 64 c o m v w r threshold others metadata) (sym h)
+        (subst (λ (o : ℕ). (w : IsWithinLimits 64 1 o m) (r : HasRoom v 1 m) → Claim P A conditions 64 1 o m v w r threshold others metadata) (sym f) (λ w r. by_version policy alloc global m v w r threshold others metadata room))) w r

@@ -160,7 +160,7 @@ module _ (P A : Type 0) (t : Tiny P A) (content : Bytes) (d0 : Devices (List His
       puts_node : DoesPut {P = P} {A = A} (Some c) (WriteNode 0) d0.metadata (Puts noded)
       puts_node = (
         comes_next c d0.metadata (NodesWritten 0) (WriteNode 0) metadata_size refl refl,
-        record { content = node_spelling (leaf_node dirty ((s P A t).generation + 1)); spelled = spelled_node (leaf_node dirty ((s P A t).generation + 1)) (record { words = refl; generation = may_begin.next; index = omega arith }); wrote = refl },
+        record { content = node_spelling (leaf_node dirty ((s P A t).generation + 1)); spelled = spelled_node (leaf_node dirty ((s P A t).generation + 1)) (record { mapping = refl; words = refl; generation = may_begin.next; index = omega arith }); wrote = refl },
       )
 
       syncs_node : leads_on (length noded) (image P A t dirty) (NodesWritten 1) (Sync Metadata) ≡ true
