@@ -55,7 +55,6 @@ ROWS = [
     ("read_message", "wb_table/message", "read_message", MEMORY, "wb_tests_disk", "ranges_are_named_in_their_order"),
     ("status_text", "wb_table/status", "status_text", MEMORY, "wb_tests_disk", "each_figure_has_its_place"),
     ("MemDisk::new", "wb_disk/memory", "new", MEMORY, "wb_tests_disk", "a_read_gives_the_latest_write"),
-    ("MemDisk::room", "wb_disk/memory", "room", MEMORY, "wb_tests_disk", "room_is_made_with_ample_memory"),
     ("Cells::new", "wb_cells/cells", "new", "return Err(Refusal::Memory);", "wb_tests_cells", "four_threads_finish_a_thousand_writes_each"),
     ("World::new", "wb_world/world", "new", MEMORY, "wb_tests_world", "a_list_of_events_is_run_to_its_end"),
     ("World::event", "wb_world/world", "event", MEMORY, "wb_tests_world", "a_list_of_events_is_run_to_its_end"),
