@@ -106,6 +106,7 @@ full_of() { # a byte, how many
 { hello; request 1 1 0 2048; full_of x 2048; request 6 2 512 1024; read_of 3 0 2048; goodbye; } | serve "$table"
 { full_of x 512; full_of '\000' 1024; full_of x 512; } >wanted.bin
 check 'zeros within what was written' "$(status) $(tail -c 2048 out.bin | cmp - wanted.bin 2>&1)." '0 .'
+fresh
 printf 'w 0 4 22\nr 0 4\nwork\nw 0 4 33\nsuspend\n' | "$cache" run "$table" >/dev/null
 { hello; request 6 1 512 1024; read_of 2 0 2048; goodbye; } | serve "$table"
 { full_of 3 512; full_of '\000' 1024; full_of 3 512; } >wanted.bin
@@ -113,6 +114,7 @@ check 'zeros in a block that is cached' "$(status) $(tail -c 2048 out.bin | cmp 
 { hello; request 6 1 0 327680; request 6 2 0 4294966784; request 6 3 327680 512; flush_of 4; goodbye; } | serve "$table"
 check 'zeros all over the origin, and past its end' "$(status) $(replies)" '0 00:01 00:04 1c:02 1c:03 '
 check 'and then it reads as zeros' "$(printf 'r 0 640\n' | "$cache" run "$table" | cut -d' ' -f2 | sort -u)" 00
+fresh
 
 # --- What is told.
 { hello; goodbye; } | serve "$table"
