@@ -1,6 +1,7 @@
 //! The bytes of formatting and of a first commit, and what is read of sectors.
 
-ghost use Rattle.std.specs.Prelude.{◌≡◌, ◌≤◌, IsTrue, length};
+ghost use Rattle.std.specs.Prelude.{◌≡◌, ◌≤◌, IfOk, IsTrue, length};
+ghost use Rattle.wb_types.specs.declared.version.Version.TheVariants.{One};
 ghost use Rattle.wb_meta.specs.Placing.{HavePlaces};
 
 mod cycle;
@@ -74,7 +75,9 @@ fn one_node_fits(disk: &MemDisk, image: &Image) -> bool
 }
 
 /// The image of one leaf at place 2.
-fn first_image(alloc: Global) -> Result<Image, Refusal> {
+fn first_image(alloc: Global) -> Result<Image, Refusal>
+    ensures { IfOk result (λ image. image.root.geometry.version ≡ One) }
+{
     let root = Root {
         generation: 1,
         version: Version::One,

@@ -1,6 +1,7 @@
 //! A device of which one step fails.
 
 ghost use Rattle.std.specs.Prelude.{◌≡◌, [], length};
+ghost use Rattle.wb_types.specs.declared.version.Version.TheVariants.{One};
 
 use super::damage::good_sector;
 use super::put;
@@ -120,7 +121,9 @@ fn is_formatted(alloc: Global, disk: &mut FailingDisk) -> bool {
 }
 
 /// Whether a formatting ends at the step that fails, and is done when it is repeated.
-fn is_repeated(alloc: Global, disk: &mut FailingDisk, geometry: &Geometry) -> bool {
+fn is_repeated(alloc: Global, disk: &mut FailingDisk, geometry: &Geometry) -> bool
+    requires { geometry.now.version ≡ One }
+{
     format(disk, geometry) == Err(Refusal::Io(Dev::Metadata))
         && disk.steps == disk.fails_at
         && format(disk, geometry).is_ok()
@@ -134,7 +137,9 @@ fn is_so(alloc: Global, fails_at: u32) -> Result<bool, Refusal> {
     Ok(goes(alloc, &mut disk, &geometry))
 }
 
-fn goes(alloc: Global, disk: &mut FailingDisk, geometry: &Geometry) -> bool {
+fn goes(alloc: Global, disk: &mut FailingDisk, geometry: &Geometry) -> bool
+    requires { geometry.now.version ≡ One }
+{
     if disk.fails_at < 6 {
         is_repeated(alloc, disk, geometry)
     } else {
