@@ -11,7 +11,7 @@ import time
 
 from weather_base import DEVICES, PREPARED, PROGRAMS, WATCHED, Book, Wrong, environment_of, look_again, need, restore, run, table
 
-READ, WRITE, END, FLUSH = 0, 1, 2, 3
+READ, WRITE, END, FLUSH, ZEROES = 0, 1, 2, 3, 6
 HELLO = b"\0\0\0\3IHAVEOPT" + struct.pack(">II", 7, 6) + bytes(6)
 
 
@@ -167,9 +167,9 @@ def in_parts_server(seeds):
 
 def malformed(dice, cookie):
     """A request that is malformed, or at least odd, and the error that its reply has to have."""
-    kind = dice.randrange(6)
+    kind = dice.randrange(7)
     if kind == 0:
-        return request(dice.choice((4, 5, 6, 7, 255, 65535)), cookie, dice.getrandbits(64), dice.getrandbits(32)), 22
+        return request(dice.choice((4, 5, 7, 255, 65535)), cookie, dice.getrandbits(64), dice.getrandbits(32)), 22
     if kind == 1:
         return request(dice.choice((READ, FLUSH)), cookie, 0, 0, dice.choice((2, 4, 8, 0x8000, 0xFFFF))), 22
     if kind == 2:
@@ -178,6 +178,9 @@ def malformed(dice, cookie):
         return request(READ, cookie, dice.randrange(640) * 512, dice.choice((0, 1, 511, 513, 327681, 2**32 - 1, 2**32 - 512))), 22
     if kind == 4:
         return request(FLUSH, cookie, dice.choice((1, 512, 2**64 - 1)), dice.choice((0, 512))), 22
+    if kind == 5:
+        at, count = dice.choice((1, 327680 - 100, 327680, 2**63, 2**64 - 1)), dice.choice((1, 511, 512, 2**32 - 1))
+        return request(ZEROES, cookie, at, count, dice.randrange(4)), 28 if at + count > 327680 else 22
     count = dice.choice((1, 511, 512, 700, 4096))
     at = dice.choice((327680 - 100, 327680, 2**63, 2**64 - 1, 3))
     error = 28 if at + count > 327680 else 22
