@@ -1,6 +1,6 @@
-/* The requests of a script by plain system calls: script FILE read|write SECTORS LIST
-   LIST has the first sector of each request, a line each, and is read before. One pread or pwrite a request: nothing is parsed or printed
-   meanwhile. It prints the nanoseconds that the requests took. */
+/* The requests of a script by plain system calls: script FILE read|write|both SECTORS LIST
+   LIST has the first sector of each request, a line each, and is read before. One pread or pwrite a request, of both a read first and then
+   in turn: nothing is parsed or printed meanwhile. It prints the nanoseconds that the requests took. */
 #include <fcntl.h>
 #include <stdio.h>
 #include <stdlib.h>
@@ -23,8 +23,8 @@ static long now(void) {
 
 int main(int argc, char **argv) {
   static char buffer[MOST * SECTOR];
-  if (argc != 5) fail("usage: script FILE read|write SECTORS LIST");
-  int writes = strcmp(argv[2], "write") == 0;
+  if (argc != 5) fail("usage: script FILE read|write|both SECTORS LIST");
+  int writes = strcmp(argv[2], "write") == 0, both = strcmp(argv[2], "both") == 0;
   long sectors = atol(argv[3]);
   if (sectors < 1 || sectors > MOST) fail("1 to 64 sectors");
   int file = open(argv[1], O_RDWR);
@@ -42,7 +42,8 @@ int main(int argc, char **argv) {
   size_t size = sectors * SECTOR;
   long begin = now();
   for (long number = 0; number < count; number++) {
-    ssize_t moved = writes ? pwrite(file, buffer, size, first[number]) : pread(file, buffer, size, first[number]);
+    int write_now = writes || (both && number % 2 == 1);
+    ssize_t moved = write_now ? pwrite(file, buffer, size, first[number]) : pread(file, buffer, size, first[number]);
     if (moved != (ssize_t)size) fail("a short call");
   }
   printf("%ld\n", now() - begin);

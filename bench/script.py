@@ -3,7 +3,7 @@
 
     python3 bench/script.py WBCACHE [LINES [TURNS]]      bin/wbcache is a WBCACHE; 20,000 lines and 9 turns by default
 
-A script has a line a request, `r S N` or `w S N hh`, of random blocks out of 256 that are cached; it is read from a file, and answered to
+A script has a line a request, `r S N` or `w S N hh`, or both in turn, of random blocks out of 256 that are cached; it is read from a file, and answered to
 /dev/null and to a file. bench/script.c has the list of the sectors, and makes one pread or pwrite for each. The two alternate, and of both
 the medians are printed: microseconds a request, and their ratio. Of a script it is the time from the program's start to its end, less that
 of an empty script (the opening), which is measured in turn with it. Files are made in WORK (/dev/shm).
@@ -57,11 +57,12 @@ def main():
             given.writelines(f"{block * 64}\n" for block in blocks)
         open(f"{work}/empty", "w").close()
         print(f"{'us a request':<24}{'plain':>9}{'script':>9}{'ratio':>9}")
-        for way, sectors in (("read", 8), ("read", 64), ("write", 8), ("write", 64)):
+        for way, sectors in (("both", 8), ("both", 64), ("read", 8), ("read", 64), ("write", 8), ("write", 64)):
             with open(f"{work}/lines", "w") as given:
-                for block in blocks:
-                    fill = "" if way == "read" else f" {drawn.randrange(256):02x}"
-                    given.write(f"{way[0]} {block * 64} {sectors}{fill}\n")
+                for number, block in enumerate(blocks):
+                    reads = way == "read" or (way == "both" and number % 2 == 0)
+                    fill = "" if reads else f" {drawn.randrange(256):02x}"
+                    given.write(f"{'r' if reads else 'w'} {block * 64} {sectors}{fill}\n")
             for out in ("/dev/null", f"{work}/answers"):
                 of_plain, of_script, of_empty = [], [], []
                 for _ in range(turns):
