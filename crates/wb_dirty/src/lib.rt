@@ -1,0 +1,14 @@
+//! The tree of dirty bits that metadata of the second version have beside the mapping, read as sectors and dropped: a device
+//! has it where its newest root has the clean flag and names its top.
+//!
+//! The layout is docs/FORMATS.md's; that a clean cache stores which blocks are dirty, and an unclean one has all count as dirty,
+//! is the kernel's rule (cache.rst, 'Updating on-disk metadata').
+#![tactic(auto)]
+
+mod bits;
+mod child;
+mod children;
+mod loader;
+mod reached;
+
+pub use loader::DirtyLoader;

@@ -1,0 +1,235 @@
+//! Reading of a tree of dirty bits, one node a call.
+
+ghost use Rattle.std.specs.Prelude.{◌≡◌, ◌≤◌, ◌<◌, [], ◌∷◌, ◌++◌, ℕ, List, true, All, Some, None, Ok, Err, OnOk, IfOk, IfErr, IfSome, IfNone, IsSome, length};
+ghost use Rattle.wb_types.specs.declared.refusal.Refusal.TheVariants.{Memory as OutOfMemory};
+ghost use Rattle.wb_types.specs.declared.number.Place.{Place as At};
+ghost use Rattle.wb_tree.specs.Reading.{Nodes};
+ghost use Rattle.wb_types.specs.Limits.{dirty_depth_of};
+ghost use Rattle.wb_dirty.specs.Reading.{Asked, Marks, is_dirty_node as is_right_node, slot_of as slot_in, top_read, dirty_read};
+ghost use Rattle.wb_dirty.specs.Loading.{IsBelow, outcome_of, wanted_read, rest_read, place_wanted, MayReach, EndsBy, GoesOnBy, ReachedWanted, FailsOn};
+
+use crate::bits::take_bits;
+use crate::child::Child;
+use crate::children::{next_wanted, put_children};
+use crate::reached::{Reached, reached_before};
+use std::alloc::Global;
+use std::marker::Model;
+use wb_bits::BitSet;
+use wb_format::{Node, Root};
+use wb_tree::PlacedNode;
+use wb_types::{Place, Refusal};
+
+/// A tree of dirty bits that is being read from its top, each node's words in rising order, a child before the next word.
+///
+/// While `wanted` names a place, `tell` is to be called with what the sector there spells. No place is wanted twice, nor
+/// one of the mapping's nodes, and each is a sector of the root's metadata device, so this ends.
+#[derive(Drop)]
+pub struct DirtyLoader {
+    root: Root,
+    mapped: BitSet,
+    reached: Reached,
+    dirty: BitSet,
+    /// Words whose nodes are still to be read, the next of them last.
+    left: Vec<Child>,
+    wanted: Option<PlacedNode>,
+}
+
+impl Model for DirtyLoader {
+    ghost use Rattle.wb_dirty.specs.Loading.{DirtyLoading, IsDirtyLoading};
+
+    ghost Value = { DirtyLoading };
+
+    ghost view = { λ l. record { asked = record { root = l.root; mapped = l.mapped }; marks = record { reached = l.reached; dirty = l.dirty }; left = l.left.items; wanted = l.wanted } };
+
+    ghost invariant = { λ l. IsDirtyLoading (record { asked = record { root = l.root; mapped = l.mapped }; marks = record { reached = l.reached; dirty = l.dirty }; left = l.left.items; wanted = l.wanted }) };
+}
+
+impl DirtyLoader {
+    /// Begins to read the dirty bits of a root, behind its mapping: `mapped` has the cache blocks with an entry, and the mapping's
+    /// nodes stand at these places. `Memory` where there is no room for the places and a bit for each cache block, `Damaged` with the
+    /// root's slot where it names one of the places.
+    pub fn new(
+        alloc: Global,
+        root: &Root,
+        mapped: BitSet,
+        places: &[Place],
+    ) -> Result<DirtyLoader, Refusal>
+        requires { length mapped ≡ root.now.geometry.cache_blocks }
+        ensures asked { IfOk result (λ l. l.asked ≡ record { root = root.now; mapped = mapped }) }
+        ensures reached { IfOk result (λ l. l.marks.reached ≡ places.now) }
+        ensures begun { IfOk result (λ l. (nodes : Nodes) → outcome_of l nodes ≡ dirty_read (record { root = root.now; mapped = mapped }) nodes places.now) }
+        ensures err { IfErr result (λ refusal. (nodes : Nodes) → EndsBy refusal (dirty_read (record { root = root.now; mapped = mapped }) nodes places.now)) }
+    {
+        let dirty = BitSet::new(alloc, root.geometry.cache_blocks as usize)?;
+        let reached = reached_before(alloc, places)?;
+        let wanted = first_wanted(root, &reached)?;
+        Ok(DirtyLoader {
+            root: *root,
+            mapped,
+            reached,
+            dirty,
+            left: Vec::new(alloc),
+            wanted,
+        })
+    }
+
+    /// The place of the node to be read next; none where the tree was read.
+    pub fn wanted(&self) -> Option<Place>
+        ensures place { result ≡ place_wanted self.now.wanted }
+        ensures ended { IfNone result (self.now.wanted ≡ None) }
+        ensures fresh { IfSome result (MayReach self.now.asked.root self.now.marks.reached) }
+    {
+        match self.wanted {
+            Some(node) => Some(node.place),
+            None => None,
+        }
+    }
+
+    /// Goes on with what the sector at the wanted place spells: a node, or none. Nothing is done where none is wanted.
+    /// `Damaged` with the place that the first fault of the tree names, `Memory` where there is no room for what the node is
+    /// remembered by.
+    pub fn tell(self, node: Option<Node>) -> Result<DirtyLoader, Refusal>
+        ensures goes_on { IfOk result (λ l. GoesOnBy self node l) }
+        ensures reached { IfOk result (λ l. ReachedWanted self l) }
+        ensures asked { IfOk result (λ l. l.asked ≡ self.asked) }
+        ensures idle { IfOk result (λ l. self.wanted ≡ None → l ≡ self) }
+        ensures cause { IfErr result (λ _. IsSome self.wanted) }
+        ensures err { IfErr result (λ refusal. FailsOn self node refusal) }
+    {
+        let Some(wanted) = self.wanted else {
+            return Ok(self);
+        };
+        let Some(node) = node else {
+            return Err(Refusal::Damaged(wanted.place));
+        };
+        if !is_dirty_node(&self.root, wanted, &node) {
+            return Err(Refusal::Damaged(wanted.place));
+        }
+        self.enter(wanted, &node)
+    }
+
+    /// The dirty blocks, once no node is wanted: what was read, of whatever sectors read as they were told.
+    pub fn finish(self) -> BitSet
+        requires { self.wanted ≡ None }
+        ensures dirty { result ≡ self.marks.dirty }
+        ensures read { (nodes : Nodes) → outcome_of self nodes ≡ Ok self.marks }
+    {
+        let DirtyLoader { dirty, .. } = self;
+        dirty
+    }
+
+    /// Goes on with the node that is wanted.
+    fn enter(self, wanted: PlacedNode, node: &Node) -> Result<DirtyLoader, Refusal>
+        requires wanted { self.wanted ≡ Some wanted }
+        requires right { is_right_node self.asked.root wanted.level wanted.index node.now ≡ true }
+        ensures goes_on { IfOk result (λ l. (nodes : Nodes) → nodes wanted.place.0 ≡ Some node.now → outcome_of l nodes ≡ outcome_of self nodes) }
+        ensures reached { IfOk result (λ l. l.marks.reached ≡ self.marks.reached ++ wanted.place ∷ []) }
+        ensures asked { IfOk result (λ l. l.asked ≡ self.asked) }
+        ensures err { IfErr result (λ refusal. (nodes : Nodes) → nodes wanted.place.0 ≡ Some node.now → EndsBy refusal (outcome_of self nodes)) }
+    {
+        let DirtyLoader {
+            root,
+            mapped,
+            mut reached,
+            mut dirty,
+            mut left,
+            ..
+        } = self;
+        reached.push(wanted.place)?;
+        take_in(&root, wanted, node, &mapped, &mut dirty, &mut left)?;
+        match next_wanted(&root, &reached, &mut left) {
+            Ok(wanted) => Ok(DirtyLoader {
+                root,
+                mapped,
+                reached,
+                dirty,
+                left,
+                wanted,
+            }),
+            Err(refusal) => Err(refusal),
+        }
+    }
+}
+
+/// Takes the bits of a leaf, or puts the words of a node above the leaves on top of those whose nodes are still to be read: what the node
+/// gives, and then what was left, is what is left now. `Damaged` with the place of a leaf that has a bit of a block without an entry, `Memory`
+/// where there is no room.
+fn take_in(
+    root: &Root,
+    wanted: PlacedNode,
+    node: &Node,
+    mapped: &BitSet,
+    dirty: &mut BitSet,
+    left: &mut Vec<Child>,
+) -> Result<(), Refusal>
+    requires right { is_right_node root.now wanted.level wanted.index node.now ≡ true }
+    requires from { 1 ≤ wanted.level }
+    requires to { wanted.level ≤ 3 }
+    requires sizes { length dirty.old ≡ length mapped.now }
+    requires levels { All IsBelow left.old.items }
+    ensures ok { OnOk result ((nodes : Nodes) (reached : List At) → nodes wanted.place.0 ≡ Some node.now
+        → wanted_read (record { root = root.now; mapped = mapped.now }) nodes left.old.items (Some wanted) (record { reached = reached; dirty = dirty.old })
+        ≡ rest_read (record { root = root.now; mapped = mapped.now }) nodes left.new.items (record { reached = reached ++ wanted.place ∷ []; dirty = dirty.new })) }
+    ensures sizes { OnOk result (length dirty.new ≡ length dirty.old) }
+    ensures levels { OnOk result (All IsBelow left.new.items) }
+    ensures err { IfErr result (λ refusal. (nodes : Nodes) (reached : List At) → nodes wanted.place.0 ≡ Some node.now
+        → EndsBy refusal (wanted_read (record { root = root.now; mapped = mapped.now }) nodes left.old.items (Some wanted) (record { reached = reached; dirty = dirty.old }))) }
+{
+    if wanted.level == 1 {
+        if let Err(refusal) = take_bits(wanted, &node.words, mapped, dirty) {
+            return Err(refusal);
+        }
+    } else {
+        put_children(wanted, &node.words, left)?;
+    }
+    Ok(())
+}
+
+/// The top of the dirty bits of a root, where it names one. `Damaged` with the root's slot where something was read at its place.
+fn first_wanted(root: &Root, reached: &Reached) -> Result<Option<PlacedNode>, Refusal>
+    ensures begun { IfOk result (λ wanted. (asked : Asked) (nodes : Nodes) (marks : Marks) → asked.root ≡ root.now → marks.reached ≡ reached.now
+        → wanted_read asked nodes [] wanted marks ≡ top_read asked nodes (dirty_depth_of root.now.geometry.cache_blocks) root.now.top_dirty marks) }
+    ensures fresh { IfOk result (λ wanted. IfSome wanted (λ node. MayReach root.now reached.now node.place)) }
+    ensures level_from { IfOk result (λ wanted. IfSome wanted (λ node. 1 ≤ node.level)) }
+    ensures level_to { IfOk result (λ wanted. IfSome wanted (λ node. node.level ≤ 3)) }
+    ensures err { IfErr result (λ refusal. (asked : Asked) (nodes : Nodes) (marks : Marks) → asked.root ≡ root.now → marks.reached ≡ reached.now
+        → EndsBy refusal (top_read asked nodes (dirty_depth_of root.now.geometry.cache_blocks) root.now.top_dirty marks)) }
+{
+    let Some(top) = root.top_dirty else {
+        return Ok(None);
+    };
+    if reached.contains(top) {
+        return Err(Refusal::Damaged(slot_of(root)));
+    }
+    Ok(Some(top_at(root, top)))
+}
+
+/// The top node of the dirty bits of a root.
+fn top_at(root: &Root, place: Place) -> PlacedNode
+    ensures is { result ≡ record { level = dirty_depth_of root.now.geometry.cache_blocks; index = 0; place = place } }
+    ensures level_from { 1 ≤ result.level }
+    ensures level_to { result.level ≤ 3 }
+{
+    PlacedNode {
+        level: root.geometry.dirty_depth(),
+        index: 0,
+        place,
+    }
+}
+
+/// The slot in which a root of its generation stands.
+fn slot_of(root: &Root) -> Place
+    ensures { result ≡ slot_in root.now }
+{
+    Place((root.generation % 2) as u32)
+}
+
+/// Whether a node is the one of dirty bits that is wanted, and not newer than the root.
+fn is_dirty_node(root: &Root, wanted: PlacedNode, node: &Node) -> bool
+    ensures { result ≡ is_right_node root.now wanted.level wanted.index node.now }
+{
+    node.dirty
+        && node.level == wanted.level
+        && node.index == wanted.index
+        && node.generation <= root.generation
+}
