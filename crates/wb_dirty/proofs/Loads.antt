@@ -1,5 +1,5 @@
 -- A reading that goes on with the node that is wanted.
-use Rattle.std.proofs.Common.{nat_eq, zero, suc, ◌<◌, ◌≡◌, ◌≤◌, ◌-◌, ◌∙◌, sym, ap, subst, refl, ℕ, Bool, true, false, cond, List, [], ◌∷◌, ◌++◌, Option, Some, None, Ok, Err, reverse, arith}
+use Rattle.std.proofs.Common.{nat_eq, zero, suc, ◌≡◌, ◌≤◌, ◌-◌, ◌∙◌, sym, ap, subst, refl, ℕ, Bool, true, false, cond, List, [], ◌∷◌, ◌++◌, Option, Some, None, Ok, Err, reverse, arith}
 use Rattle.std.specs.Prelude.{All}
 use Rattle.std.proofs.lemmas.List.Elements.{All-append}
 use Rattle.wb_types.specs.declared.number.Place.{Place}

@@ -1,6 +1,6 @@
 -- Steps of a reading of dirty bits, one after the other, and a node that is read, by its level.
-use Rattle.std.proofs.Common.{◌≡◌, ◌≢◌, ◌≤◌, ◌<◌, ◌+◌, ◌-◌, ◌*◌, ◌^◌, ◌∙◌, ◌&&◌, sym, ap, subst, refl, ℕ, zero, suc, Bool, true, false, cond, not, nat_eq, ltb, leb, List, [], ◌∷◌, ◌++◌, reverse, Option, Some, None, Ok, Err, arith, slice_index, add-one}
-use Rattle.std.specs.Prelude.{if◌then◌else◌, All}
+use Rattle.std.proofs.Common.{◌≡◌, ◌≢◌, ◌≤◌, ◌<◌, ◌+◌, ◌-◌, ◌*◌, ◌^◌, ◌∙◌, ◌&&◌, sym, ap, subst, refl, ℕ, zero, suc, Bool, true, false, not, nat_eq, ltb, leb, List, [], ◌∷◌, ◌++◌, reverse, Some, None, Ok, Err, arith, slice_index, add-one}
+use Rattle.std.specs.Prelude.{if◌then◌else◌}
 use Rattle.std.specs.List.{AllByRecursion}
 use Rattle.std.proofs.lemmas.Bool.{ne_eqb, not-true, le-ltb}
 use Rattle.std.proofs.lemmas.Grind.{common_steps}

@@ -1,5 +1,5 @@
 -- The bits of a leaf, as they are read one after the other.
-use Rattle.std.proofs.Common.{inl, inr, ◌≡◌, ◌<◌, ◌≤◌, ◌+◌, ◌-◌, ◌*◌, ◌∙◌, ℕ, suc, zero, Bool, true, false, List, ◌∷◌, [], Ok, Err, sym, ap, subst, refl, get_or, length, arith, add-one}
+use Rattle.std.proofs.Common.{inl, inr, ◌≡◌, ◌<◌, ◌≤◌, ◌+◌, ◌-◌, ◌*◌, ◌∙◌, ℕ, suc, Bool, true, false, List, Ok, Err, sym, ap, subst, refl, get_or, length, arith}
 use Rattle.std.specs.Prelude.{slice_set}
 use Rattle.std.specs.List.{range_with_len}
 use Rattle.std.proofs.lemmas.List.{length-set, get_or_past}

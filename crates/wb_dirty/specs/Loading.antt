@@ -1,5 +1,5 @@
 -- A reading of dirty bits that has come to some node, and what is left of it.
-use Rattle.std.specs.Prelude.{◌≡◌, ◌≤◌, ◌<◌, ℕ, Bool, true, false, Option, Some, None, Ok, Err, List, [], ◌∷◌, ◌++◌, All, length, reverse}
+use Rattle.std.specs.Prelude.{◌≡◌, ◌≤◌, ◌<◌, ℕ, true, false, Option, Some, None, Err, List, [], ◌∷◌, ◌++◌, All, length, reverse}
 use Rattle.wb_types.specs.declared.number.Place.{Place}
 use Rattle.wb_types.specs.declared.refusal.Refusal.{Refusal}
 use Rattle.wb_types.specs.declared.refusal.Refusal.TheVariants.{Memory, Damaged}
@@ -8,7 +8,7 @@ use Rattle.wb_format.specs.declared.root.Root.{Root}
 use Rattle.wb_tree.specs.Reading.{Nodes}
 use Rattle.wb_tree.specs.declared.placed.PlacedNode.{PlacedNode}
 use Rattle.wb_dirty.specs.declared.child.Child.{Child}
-use Rattle.wb_dirty.specs.Reading.{Asked, Marks, MarksOutcome, ◌next◌, each, child_read, node_read, dirty_read, is_among}
+use Rattle.wb_dirty.specs.Reading.{Asked, Marks, MarksOutcome, ◌next◌, each, child_read, node_read, is_among}
 
 -- a reading so far: what was read, the words whose children are still to be read, the next of them last, and the node that is
 -- to be read first

@@ -2,7 +2,7 @@
 --
 -- It is read behind the mapping, and as a mapping is: of a node its text, level, index and generation first, then its words in
 -- rising order, with the whole child of a word before the next word. No place is reached twice over both trees.
-use Rattle.std.specs.Prelude.{◌≡◌, ◌<◌, ◌+◌, ◌*◌, ◌%◌, ◌^◌, ◌&&◌, ◌==◌, ℕ, zero, suc, Bool, true, false, not, nat_lt, nat_le, if◌then◌else◌, Option, Some, None, Result, Ok, Err, List, [], ◌∷◌, ◌++◌, get_or, slice_index, slice_set, length, replicate}
+use Rattle.std.specs.Prelude.{◌+◌, ◌*◌, ◌%◌, ◌^◌, ◌&&◌, ◌==◌, ℕ, zero, suc, Bool, true, false, not, nat_lt, nat_le, if◌then◌else◌, Option, Some, None, Result, Ok, Err, List, [], ◌∷◌, ◌++◌, get_or, slice_index, slice_set, length, replicate}
 use Rattle.std.specs.List.{range_with_len}
 use Rattle.wb_types.specs.declared.number.Place.{Place}
 use Rattle.wb_types.specs.Limits.{dirty_depth_of}

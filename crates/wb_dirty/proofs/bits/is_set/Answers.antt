@@ -1,5 +1,4 @@
-use Rattle.std.proofs.Common.{◌/◌, ◌%◌, ◌==◌, ℕ, get_or, refl, sym, ap, ◌∙◌, arith}
-use Rattle.std.specs.Int.{bit_at}
+use Rattle.std.proofs.Common.{◌/◌, ◌%◌, ◌==◌, ℕ, get_or, refl, sym, ap, ◌∙◌}
 use Rattle.std.proofs.lemmas.Nat.Bits.{shr_and_one}
 use Rattle.wb_bits.proofs.Least.{is_member-at}
 use Rattle.wb_dirty.proofs.bits.is_set.Goals as goal

@@ -1,8 +1,8 @@
-use Rattle.std.proofs.Common.{◌≡◌, ◌∙◌, sym, ap, subst, List, true, false}
+use Rattle.std.proofs.Common.{◌≡◌, ◌∙◌, ap, List, true, false}
 use Rattle.wb_types.specs.declared.number.Place.{Place}
 use Rattle.wb_format.specs.declared.root.Root.{Root}
 use Rattle.wb_dirty.specs.Reading.{names_node}
-use Rattle.wb_dirty.proofs.Loads.{rest-named, rest-unnamed, rest-none}
+use Rattle.wb_dirty.proofs.Loads.{rest-named, rest-unnamed}
 use Rattle.wb_dirty.proofs.children.next_wanted.Goals as goal
 
 pub returns-in-Some-node-clause-goes_on : goal.returns-in-Some-node-clause-goes_on

@@ -1,4 +1,4 @@
-use Rattle.std.proofs.Common.{List, ◌≡◌, ◌∙◌, sym, ap, subst, refl, reverse, arith, ◌+◌, ◌-◌, ◌*◌, slice_index}
+use Rattle.std.proofs.Common.{List, ◌≡◌, ◌∙◌, sym, ap, subst, reverse, arith, ◌+◌, ◌-◌, ◌*◌, slice_index}
 use Rattle.std.specs.Prelude.{All}
 use Rattle.wb_dirty.specs.declared.child.Child.{Child}
 use Rattle.wb_dirty.specs.Loading.{IsBelow}

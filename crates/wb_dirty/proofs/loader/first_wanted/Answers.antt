@@ -1,5 +1,4 @@
-use Rattle.std.proofs.Common.{◌≡◌, ◌∙◌, sym, ap, List, true, false}
-use Rattle.wb_types.specs.declared.number.Place.{Place}
+use Rattle.std.proofs.Common.{◌≡◌, ◌∙◌, sym, ap, false}
 use Rattle.wb_types.specs.Limits.{dirty_depth_of}
 use Rattle.wb_dirty.specs.Reading.{is_among}
 use Rattle.wb_dirty.proofs.Loads.{top-none, top-some}

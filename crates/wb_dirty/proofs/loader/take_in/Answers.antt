@@ -1,4 +1,4 @@
-use Rattle.std.proofs.Common.{◌≡◌, ◌∙◌, sym, ap, refl, ◌++◌, ◌∷◌, [], Err, Some, arith}
+use Rattle.std.proofs.Common.{refl, ◌++◌, ◌∷◌, [], Err, Some, arith}
 use Rattle.wb_dirty.specs.Loading.{wanted_read}
 use Rattle.wb_dirty.proofs.Loads.{rest-leaf, rest-inner, taken-leaf, ends_there}
 use Rattle.wb_dirty.proofs.loader.take_in.Goals as goal

@@ -1,4 +1,4 @@
-use Rattle.std.proofs.Common.{◌≡◌, ◌≤◌, subst, sym, ◌∙◌}
+use Rattle.std.proofs.Common.{◌≤◌, subst, sym}
 use Rattle.wb_types.specs.Limits.{dirty_depth_of, words_of_bits}
 use Rattle.wb_tree.proofs.Reading.LoaderSteps.{depth_range}
 use Rattle.wb_dirty.proofs.loader.top_at.Goals as goal

@@ -1,4 +1,4 @@
-use Rattle.std.proofs.Common.{◌≡◌, ◌≤◌, ◌∙◌, sym, arith}
+use Rattle.std.proofs.Common.{◌≤◌, ◌∙◌, sym, arith}
 use Rattle.std.proofs.lemmas.Bool.{le-ltb}
 use Rattle.wb_dirty.proofs.Steps.{first_past}
 use Rattle.wb_dirty.proofs.child.Child.is_below.Goals as goal

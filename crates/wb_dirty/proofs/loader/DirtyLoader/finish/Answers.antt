@@ -1,4 +1,4 @@
-use Rattle.std.proofs.Common.{◌≡◌, ◌∙◌, sym, ap, subst, None, Ok}
+use Rattle.std.proofs.Common.{◌≡◌, ◌∙◌, ap, subst, None, Ok}
 use Rattle.wb_dirty.specs.Loading.{DirtyLoading, outcome_of}
 use Rattle.wb_dirty.proofs.Loads.{outcome-ended}
 use Rattle.wb_dirty.proofs.loader.DirtyLoader.finish.Goals as goal

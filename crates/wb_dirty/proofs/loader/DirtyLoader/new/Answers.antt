@@ -1,12 +1,9 @@
-use Rattle.std.proofs.Common.{◌≡◌, ◌≤◌, ◌∙◌, sym, ap, subst, List, [], length, false, arith}
+use Rattle.std.proofs.Common.{◌≤◌, ◌∙◌, sym, ap, subst, length, false}
 use Rattle.std.specs.Prelude.{All}
 use Rattle.std.proofs.lemmas.List.{length-replicate}
-use Rattle.wb_types.specs.declared.number.Place.{Place}
 use Rattle.wb_tree.specs.declared.placed.PlacedNode.{PlacedNode}
 use Rattle.wb_tree.proofs.Reading.LoaderSteps.{if_some}
-use Rattle.wb_dirty.specs.declared.child.Child.{Child}
-use Rattle.wb_dirty.specs.Reading.{Marks, top_read}
-use Rattle.wb_dirty.specs.Loading.{IsBelow, MayReach, wanted_read}
+use Rattle.wb_dirty.specs.Loading.{IsBelow, MayReach}
 use Rattle.wb_dirty.proofs.Loads.{all_none}
 use Rattle.wb_dirty.proofs.loader.DirtyLoader.new.Goals as goal
 

@@ -1,0 +1,7 @@
+//! Tests of trees of dirty bits by their public contract. They stand beside wb_dirty, so that testing it does not prove it once more.
+#![tactic(auto)]
+
+#[cfg(test)]
+mod reading;
+#[cfg(test)]
+mod sectors;
