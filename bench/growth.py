@@ -4,7 +4,7 @@
     growth.py WBCACHE WB_BENCH CLIENTS POLICY OUT
 
 Over caches of 2^10, 2^15 and 2^20 - 1 blocks of 32 KiB, all mapped and left clean, over an origin of 2^20 blocks: what a request of 4 KiB takes, an access that
-is settled, an opening and a tick. The files have no pages of their own but where a request writes; requests go over 1,024 places, which lie all over the cache.
+is settled, an opening and a tick. Requests go over 1,024 places, which lie all over the cache, and were written once before; else the files have no pages of their own.
 All sizes and programs alternate in one run.
 """
 import os
@@ -28,6 +28,7 @@ class Caches:
             os.mkdir(f"{work}/{name}")
             make_full(bench, f"{work}/{name}", blocks)
             shutil.copy(f"{work}/{name}/m.img", f"{work}/{name}/kept")
+            self.asked(name, "write", 8, 1024)
         os.mkdir(f"{work}/empty")
         make_files(f"{work}/empty", 1024, 1 << 20)
         printed(cache, "format", table_of(f"{work}/empty"))
@@ -45,12 +46,19 @@ class Caches:
         return float(printed(sys.executable, f"{BENCH}/opened.py", self.cache, table).split()[0])
 
 
-def lines_of(title, unit, names, lines, most=None):
+def top_of(most):
+    """A number not below this one that can be quartered."""
+    top = 1e-3
+    while top < most:
+        top *= 10
+    return next(top * share for share in (0.12, 0.16, 0.2, 0.24, 0.32, 0.4, 0.6, 0.8, 1) if top * share >= most)
+
+
+def lines_of(title, unit, names, lines):
     """A panel with these lines, in the order of the colours; its numbers are printed, too."""
     for name, values in lines.items():
         print(f"| {title}, {name} | " + " | ".join(f"{value:.4g}" for value in values) + f" | {unit} |", flush=True)
-    top = most or 1.15 * max(value for values in lines.values() for value in values)
-    panel = Panel(*place_of(len(PANELS)), f"{title}, {unit}", names, top, "cache blocks, all mapped")
+    panel = Panel(*place_of(len(PANELS)), f"{title}, {unit}", names, top_of(max(map(max, lines.values()))), "cache blocks, all mapped")
     for values, colour in zip(lines.values(), COLOURS):
         panel.line(values, colour)
     PANELS.append(panel)
