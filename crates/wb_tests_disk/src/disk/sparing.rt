@@ -94,7 +94,7 @@ impl<'c> Disk for Opened<'c> {
     ghost whole = { λ d h. absurd h };
 }
 
-fn counted() -> Counted {
+fn unsynced_file() -> Counted {
     Counted {
         counts: SyncCounts::new(),
         syncs: Cell::new(0),
@@ -116,7 +116,7 @@ fn ask<R: SyncRecord>(file: &Counted, disk: &mut SparingDisk<Opened<'_>, R>, ask
 
 /// How often the system is asked for a sync by one handle that has a record of its own.
 fn syncs_of_one(asked: &[Asked]) -> u64 {
-    let file = counted();
+    let file = unsynced_file();
     let mut disk = SparingDisk::new(Opened { file: &file }, OwnRecord::new());
     for one in asked {
         ask(&file, &mut disk, *one);
@@ -127,7 +127,7 @@ fn syncs_of_one(asked: &[Asked]) -> u64 {
 
 /// How often by two that share one.
 fn syncs_of_two(asked: &[(Handle, Asked)]) -> u64 {
-    let file = counted();
+    let file = unsynced_file();
     let mut first = SparingDisk::new(Opened { file: &file }, SharedRecord::of(&file.counts));
     let mut second = SparingDisk::new(Opened { file: &file }, SharedRecord::of(&file.counts));
     for (handle, one) in asked {
