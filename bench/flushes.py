@@ -1,6 +1,7 @@
 """Clients of a network block device, on one connection, each of which writes 4 KiB and then flushes, in turns: how many flushes were answered a second.
+With `durable` each write is to be durable by itself (FUA), and nobody flushes.
 
-    flushes.py SOCKET CLIENTS SECONDS
+    flushes.py SOCKET CLIENTS SECONDS [durable]
     flushes.py SOCKET warm
 
 A client sends its next request once its last one was answered, so that as many are in flight as there are clients. Each writes in a
@@ -17,6 +18,7 @@ PAGE = 4096
 BLOCK = 32768
 READ, WRITE, HANG_UP, FLUSH = range(4)
 GO = 7
+DURABLE = 1
 
 
 def read_exactly(connection, count):
@@ -44,8 +46,8 @@ def connect(path):
             raise SystemExit("flushes.py: the server refused the export")
 
 
-def send(connection, what, handle, at=0, count=0, data=b""):
-    connection.sendall(struct.pack(">IHHQQI", 0x25609513, 0, what, handle, at, count) + data)
+def send(connection, what, handle, at=0, count=0, data=b"", flags=0):
+    connection.sendall(struct.pack(">IHHQQI", 0x25609513, flags, what, handle, at, count) + data)
 
 
 def answered(connection):
@@ -99,9 +101,34 @@ def flush_in_turns(connection, clients, seconds):
     return flushes / (time.monotonic() - start)
 
 
+def write_durably(connection, clients, seconds):
+    pages = STRETCH // PAGE // clients
+    data = random.randbytes(PAGE)
+    writes = 0
+
+    def write(client):
+        at = (client * pages + random.randrange(pages)) * PAGE
+        send(connection, WRITE, client, at, PAGE, data, DURABLE)
+
+    start = time.monotonic()
+    for client in range(clients):
+        write(client)
+    waiting = clients
+    while waiting:
+        client = answered(connection)
+        writes += 1
+        if time.monotonic() - start < seconds:
+            write(client)
+        else:
+            waiting -= 1
+    return writes / (time.monotonic() - start)
+
+
 connection = connect(sys.argv[1])
 if sys.argv[2] == "warm":
     warm(connection)
+elif sys.argv[4:] == ["durable"]:
+    print(f"{write_durably(connection, int(sys.argv[2]), float(sys.argv[3])):.1f}")
 else:
     print(f"{flush_in_turns(connection, int(sys.argv[2]), float(sys.argv[3])):.1f}")
 send(connection, HANG_UP, 0)

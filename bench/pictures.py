@@ -147,4 +147,5 @@ def main():
     throughput(clients, cache, bench, out)
 
 
-main()
+if __name__ == "__main__":
+    main()

@@ -64,33 +64,42 @@ fn read_cached(words: &[String]) -> Option<Asked<'_>> {
         return None;
     };
     let table = read_table(table.as_str()).ok()?;
+    let call = read_call(call.as_str())?;
     let sectors = read_u64(sectors.as_str())?;
-    if table.block != BLOCK || sectors == 0 || sectors > BLOCK {
+    if table.block != BLOCK || sectors == 0 || sectors > most_sectors(call) {
         return None;
     }
     Some(Asked::Cached(Cached {
         table,
-        call: read_call(call.as_str())?,
+        call,
         sectors,
         requests: read_u64(requests.as_str())?,
         crowd: read_crowd(clients.as_str())?,
     }))
 }
 
+/// The most sectors of a request: one that goes on from block to block may have more than a block has.
+fn most_sectors(call: Call) -> u64
+    ensures { result ≤ 2048 }
+{
+    match call {
+        Call::Read | Call::Write => MOST_SECTORS,
+        _ => BLOCK,
+    }
+}
+
 fn read_call(word: &str) -> Option<Call> {
-    if word == "try_read" {
-        return Some(Call::TryRead);
+    match word {
+        "try_read" => Some(Call::TryRead),
+        "try_write" => Some(Call::TryWrite),
+        "read" => Some(Call::Read),
+        "write" => Some(Call::Write),
+        "flush" => Some(Call::Flush),
+        "tick" => Some(Call::Tick),
+        "home" => Some(Call::Home),
+        "hot" => Some(Call::Hot),
+        _ => None,
     }
-    if word == "try_write" {
-        return Some(Call::TryWrite);
-    }
-    if word == "read" {
-        return Some(Call::Read);
-    }
-    if word == "flush" {
-        return Some(Call::Flush);
-    }
-    (word == "write").then_some(Call::Write)
 }
 
 fn read_state<'a>(file: &'a str, word: &str) -> Option<Asked<'a>> {

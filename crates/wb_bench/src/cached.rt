@@ -19,6 +19,17 @@ const UNSETTLED: u64 = 32;
 /// After so many a client settles them if nobody else is at the desk.
 const SETTLED_EARLY: u64 = 8;
 
+/// How many places a client asks for, at most: they lie all over its blocks, so that a larger cache means no more memory.
+const PLACES: u64 = 1_024;
+
+/// How many blocks all clients ask for together, where they do.
+const HOT_BLOCKS: u64 = 16;
+
+/// Clients that are timed by the clock look at it each so many requests.
+const BETWEEN_LOOKS: u64 = 16;
+
+const NANOSECONDS_OF_A_MILLISECOND: u64 = 1_000_000;
+
 /// Which call is timed.
 #[derive(Clone, Copy, Debug, PartialEq, Eq)]
 pub enum Call {
@@ -28,6 +39,12 @@ pub enum Call {
     Write,
     /// A write, and then a flush.
     Flush,
+    /// A tick, where one block alone was written.
+    Tick,
+    /// What carries a block home that was written and that a tick ordered to be cleaned.
+    Home,
+    /// Reads of blocks that all clients ask for, which the first of them writes.
+    Hot,
 }
 
 /// The table of a formatted cache, and the requests over it.
@@ -36,9 +53,9 @@ pub struct Cached<'a> {
     /// Its blocks are of `BLOCK` sectors.
     pub table: Table<'a>,
     pub call: Call,
-    /// Sectors of a request, 1 to `BLOCK`.
+    /// Sectors of a request, 1 to `BLOCK`; a read or a write may have up to `MOST_SECTORS`.
     pub sectors: u64,
-    /// Requests of each client.
+    /// Requests of each client; of those that ask for hot blocks, milliseconds.
     pub requests: u64,
     /// How many clients there are, each on a thread and with blocks of its own.
     pub crowd: Crowd,
@@ -51,6 +68,9 @@ pub struct Took {
     pub promoting: u64,
     pub requests: u64,
     pub serving: u64,
+    /// The requests of all clients but the first, and the fewest of one of them.
+    pub others: u64,
+    pub fewest: u64,
 }
 
 /// What one client asks, over an equal part of the cached blocks.
@@ -77,21 +97,95 @@ impl<'c, C: Clock> Service for Load<'c, C> {
     type Told = Option<Answered>;
 
     fn serve<R: Wait, S: Served>(self, rt: &R, client: &mut S) -> Option<Answered> {
-        let share = (u64::from(client.geometry().cache_blocks) / self.clients.max(1)).max(1);
-        let first = self.number.wrapping_mul(share);
-        let mut contents = vec![in self.alloc; [0x5a; SECTOR_BYTES]; self.sectors as usize].ok()?;
-        let start = Instant::now(self.clock).ok()?;
-        for number in 0..self.requests {
-            let block = first.wrapping_add(number % share);
-            let at = Sector(block.wrapping_mul(BLOCK));
-            ask(rt, client, self.call, at, contents.as_mut_slice())?;
-            settle_at(rt, client, number);
+        match self.call {
+            Call::Hot => ask_for_hot(rt, client, &self),
+            Call::Home => carry_home(rt, client, &self),
+            _ => ask_alone(rt, client, &self),
         }
-        Some(Answered {
-            requests: self.requests,
-            serving: passed(self.clock, &start),
-        })
     }
+}
+
+/// Makes the requests of a load over blocks of its own.
+fn ask_alone<R: Wait, S: Served, C: Clock>(
+    rt: &R,
+    client: &mut S,
+    load: &Load<'_, C>,
+) -> Option<Answered> {
+    let step = load.sectors.div_ceil(BLOCK).max(1);
+    let cached = u64::from(client.geometry().cache_blocks);
+    let share = (cached / load.clients.max(1) / step).max(1);
+    let places = share.min(PLACES);
+    let first = load.number.wrapping_mul(share);
+    let mut contents = vec![in load.alloc; [0x5a; SECTOR_BYTES]; load.sectors as usize].ok()?;
+    if load.call == Call::Tick {
+        client.write(rt, Sector(0), contents.as_slice()).ok()?;
+    }
+    let start = Instant::now(load.clock).ok()?;
+    for number in 0..load.requests {
+        let place = (number % places).wrapping_mul(share / places);
+        let block = first.wrapping_add(place).wrapping_mul(step);
+        let at = Sector(block.wrapping_mul(BLOCK));
+        ask(rt, client, load.call, at, contents.as_mut_slice())?;
+        settle_at(rt, client, number);
+    }
+    Some(Answered {
+        requests: load.requests,
+        serving: passed(load.clock, &start),
+    })
+}
+
+/// Asks for the same few blocks as all others do for so many milliseconds: the first client writes, the others read.
+fn ask_for_hot<R: Wait, S: Served, C: Clock>(
+    rt: &R,
+    client: &mut S,
+    load: &Load<'_, C>,
+) -> Option<Answered> {
+    let hot = HOT_BLOCKS
+        .min(u64::from(client.geometry().cache_blocks))
+        .max(1);
+    let call = if load.number == 0 {
+        Call::Write
+    } else {
+        Call::Read
+    };
+    let time = load.requests.wrapping_mul(NANOSECONDS_OF_A_MILLISECOND);
+    let mut contents = vec![in load.alloc; [0x5a; SECTOR_BYTES]; load.sectors as usize].ok()?;
+    let start = Instant::now(load.clock).ok()?;
+    for number in 0..u64::MAX {
+        if number % BETWEEN_LOOKS == 0 && passed(load.clock, &start) >= time {
+            return Some(Answered {
+                requests: number,
+                serving: time,
+            });
+        }
+        let block = load.number.wrapping_add(number) % hot;
+        let at = Sector(block.wrapping_mul(BLOCK));
+        ask(rt, client, call, at, contents.as_mut_slice())?;
+        settle_at(rt, client, number);
+    }
+    None
+}
+
+/// Writes blocks, has each ordered to be cleaned by a tick, and carries it home: how long the last takes.
+fn carry_home<R: Wait, S: Served, C: Clock>(
+    rt: &R,
+    client: &mut S,
+    load: &Load<'_, C>,
+) -> Option<Answered> {
+    let cached = u64::from(client.geometry().cache_blocks).max(1);
+    let mut serving: u64 = 0;
+    for number in 0..load.requests {
+        let at = Sector((number % cached).wrapping_mul(BLOCK));
+        client.write(rt, at, &[[0x5a; SECTOR_BYTES]]).ok()?;
+        client.tick(rt).ok()?;
+        let start = Instant::now(load.clock).ok()?;
+        client.work_one(rt).ok()??;
+        serving = serving.wrapping_add(passed(load.clock, &start));
+    }
+    Some(Answered {
+        requests: load.requests,
+        serving,
+    })
 }
 
 /// Settles accesses after the request of this number: early where that needs no waiting, and before there are too many.
@@ -121,6 +215,8 @@ fn ask<R: Wait, S: Served>(
             client.write(rt, at, contents).ok()?;
             client.flush(rt).ok()
         }
+        Call::Tick => client.tick(rt).ok(),
+        Call::Home | Call::Hot => None,
     }
 }
 
@@ -183,11 +279,16 @@ fn sum_up(
 ) -> Result<Took, &'static str> {
     let (promotions, promoting) = filled;
     let (mut requests, mut serving): (u64, u64) = (0, 0);
-    for one in answered {
+    let (mut others, mut fewest): (u64, u64) = (0, u64::MAX);
+    for (number, one) in answered.iter().enumerate() {
         match one {
             Ok(Some(done)) => {
                 requests = requests.wrapping_add(done.requests);
                 serving = serving.max(done.serving);
+                if number > 0 {
+                    others = others.wrapping_add(done.requests);
+                    fewest = fewest.min(done.requests);
+                }
             }
             _ => return Err("a request failed"),
         }
@@ -197,6 +298,8 @@ fn sum_up(
         promoting,
         requests,
         serving,
+        others,
+        fewest: if others == 0 { 0 } else { fewest },
     })
 }
 

@@ -5,10 +5,12 @@
 //! such a request: a multiple of 64 sectors.
 //! `wb_bench settles CACHE_BLOCKS ACCESSES` settles accesses by Zipf's law over a cache that TinyLfu fills, and prints
 //! how many were hits; `wb_bench ticks CACHE_BLOCKS TICKS` ticks over a full cache, and prints how often one was ordered.
-//! `wb_bench TABLE try_read|try_write|read|write|flush SECTORS REQUESTS 1|2|4|16` opens a formatted cache with blocks of 64 sectors by its
+//! `wb_bench TABLE try_read|try_write|read|write|flush|tick|home|hot SECTORS REQUESTS 1|2|4|16` opens a formatted cache with blocks of 64 sectors by its
 //! table, promotes a block of the origin for each of its own, where the mode promotes any, and makes so many requests by each of so
 //! many clients, on threads and blocks of their own, a flush behind each write where `flush` is asked for; it prints how many promotions there were and their nanoseconds, and so of the
-//! requests, by the client that took longest.
+//! requests, by the client that took longest. `tick` writes one block and then ticks; `home` times what carries blocks home that were written and that ticks ordered to be
+//! cleaned; `hot` has all clients ask for the same blocks for REQUESTS milliseconds, the first writing and the others reading, and the last line is the requests of
+//! these and the fewest of one of them.
 //! `wb_bench FILE mapping CACHE_BLOCKS` makes the file a metadata device that holds a full mapping of so many cache
 //! blocks, and `wb_bench FILE state` reads what it stands for; both print the number of nodes. `wb_bench FILE images` prints of each
 //! of the images of metadata devices in the file what it stands for (see `images`), or the refusal.
@@ -44,7 +46,7 @@ const STREAM_FAILED: u8 = 4;
 const USAGE: &str = "usage: wb_bench FILE read|write SECTORS REQUESTS
        wb_bench settles CACHE_BLOCKS ACCESSES
        wb_bench ticks CACHE_BLOCKS TICKS
-       wb_bench TABLE try_read|try_write|read|write|flush SECTORS REQUESTS 1|2|4|16
+       wb_bench TABLE try_read|try_write|read|write|flush|tick|home|hot SECTORS REQUESTS 1|2|4|16
        wb_bench FILE mapping CACHE_BLOCKS
        wb_bench FILE state
        wb_bench FILE images";
@@ -109,8 +111,12 @@ fn tell_took(rt: &HostRuntime, took: &Took) -> ExitCode {
         promoting,
         requests,
         serving,
+        others,
+        fewest,
     } = *took;
-    match println!(rt; "promotions {promotions} {promoting}\nrequests {requests} {serving}") {
+    match println!(rt;
+        "promotions {promotions} {promoting}\nrequests {requests} {serving}\nothers {others} {fewest}"
+    ) {
         Ok(()) => ExitCode::SUCCESS,
         Err(_) => {
             failed(rt, "the output failed");

@@ -2,6 +2,7 @@
 
 ghost use Rattle.std.specs.Prelude.{◌≡◌};
 
+use crate::records::{DeviceCounts, SyncCounts};
 use crate::watched::{Step, Watch};
 use std::io;
 use std::io::ErrorKind;
@@ -25,6 +26,7 @@ pub struct Alarm<'a, T> {
     metadata: AtomicU64,
     cache: AtomicU64,
     origin: AtomicU64,
+    counts: DeviceCounts,
 }
 
 impl<'a, T: Eprint> Alarm<'a, T> {
@@ -36,6 +38,7 @@ impl<'a, T: Eprint> Alarm<'a, T> {
             metadata: AtomicU64::new(NONE),
             cache: AtomicU64::new(NONE),
             origin: AtomicU64::new(NONE),
+            counts: DeviceCounts::new(),
         }
     }
 
@@ -78,6 +81,10 @@ impl<'a, T: Eprint> Watch for Alarm<'a, T> {
             let program = self.program;
             let _ = eprintln!(self.rt; "{program}: {device} file: {step} failed: {reason}");
         }
+    }
+
+    fn counts(&self, device: Dev) -> &SyncCounts {
+        self.counts.of(device)
     }
 }
 

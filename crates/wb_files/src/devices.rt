@@ -5,7 +5,9 @@ ghost use Rattle.wb_types.specs.Limits.{IsWithinLimits};
 ghost use Rattle.wb_types.specs.declared.version.Version.TheVariants.{One};
 
 use crate::patience::Patience;
+use crate::records::SharedRecord;
 use crate::sizes::find_size_fault;
+use crate::sparing::SparingDisk;
 use crate::unopened::{Trouble, Unopened};
 use crate::watched::{Watch, Watched, WatchedDisk};
 use std::fs::{File, OpenOptions, TryLockError};
@@ -89,7 +91,11 @@ fn open_file<'a, 'w, R: Files<File = File>, P: Patience, N: Watch>(
     watch: &'w N,
 ) -> Result<WatchedDisk<'w, N>, Unopened<'a>> {
     let opened = match open_locked(rt, path, patience) {
-        Ok(file) => measured(Watched::new(file, device, watch)),
+        Ok(file) => {
+            // What others wrote before it was locked is not known to be durable.
+            watch.counts(device).note_write();
+            measured(file, device, watch)
+        }
         Err(trouble) => Err(trouble),
     };
     opened.map_err(|trouble| Unopened::File {
@@ -107,7 +113,7 @@ fn open_file_again<'a, 'w, R: Files<File = File>, N: Watch>(
     watch: &'w N,
 ) -> Result<WatchedDisk<'w, N>, Unopened<'a>> {
     let opened = match open_plain(rt, path) {
-        Ok(file) => measured(Watched::new(file, device, watch)),
+        Ok(file) => measured(file, device, watch),
         Err(error) => Err(Trouble::Again(error)),
     };
     opened.map_err(|trouble| Unopened::File {
@@ -135,8 +141,16 @@ fn open_plain<R: Files<File = File>>(rt: &R, path: &str) -> io::Result<File> {
     options.open(rt, path)
 }
 
-fn measured<'w, N: Watch>(file: Watched<'w, File, N>) -> Result<WatchedDisk<'w, N>, Trouble> {
-    FileDisk::over(file).map_err(|_| Trouble::System(io::Error::from(io::ErrorKind::NotSeekable)))
+/// The disk over a file of this device.
+fn measured<'w, N: Watch>(
+    file: File,
+    device: Dev,
+    watch: &'w N,
+) -> Result<WatchedDisk<'w, N>, Trouble> {
+    match FileDisk::over(Watched::new(file, device, watch)) {
+        Ok(disk) => Ok(SparingDisk::new(disk, SharedRecord::of(watch.counts(device)))),
+        Err(_) => Err(Trouble::System(io::Error::from(io::ErrorKind::NotSeekable))),
+    }
 }
 
 /// Locks a file, and waits for whoever holds it as long as there is patience.

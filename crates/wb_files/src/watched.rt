@@ -1,7 +1,9 @@
-//! Files of which somebody is told why a step on them failed.
+//! Files of which somebody is told why a step on them failed, and knows what was written and synced.
 
 ghost use Rattle.std.specs.Prelude.{◌≡◌};
 
+use crate::records::{DeviceCounts, SharedRecord, SyncCounts};
+use crate::sparing::SparingDisk;
 use std::fmt::{Display, Formatter};
 use std::fs::{File, Metadata, OpenFile};
 use std::io::{ErrorKind, Seek, SeekFrom};
@@ -18,18 +20,36 @@ pub enum Step {
     Sync,
 }
 
-/// Who is told of each step on a device that failed, before whoever asked for it is.
+/// Who is told of each step on a device that failed, before whoever asked for it is, and has what all handles of its file know.
 pub trait Watch {
     /// A step failed, for this reason.
     fn failed(&self, device: Dev, step: Step, reason: &io::Error);
+
+    /// What was written and synced.
+    fn counts(&self, device: Dev) -> &SyncCounts;
 }
 
 /// Nobody is told.
 #[derive(Drop)]
-pub struct Unwatched;
+pub struct Unwatched {
+    counts: DeviceCounts,
+}
+
+impl Unwatched {
+    /// Of files of which nothing is known.
+    pub fn new() -> Unwatched {
+        Unwatched {
+            counts: DeviceCounts::new(),
+        }
+    }
+}
 
 impl Watch for Unwatched {
     fn failed(&self, _device: Dev, _step: Step, _reason: &io::Error) {}
+
+    fn counts(&self, device: Dev) -> &SyncCounts {
+        self.counts.of(device)
+    }
 }
 
 /// The file of a device, of whose failures somebody is told: a disk answers a fault, and drops the reason. A step that is done costs one
@@ -41,8 +61,8 @@ pub struct Watched<'w, F, N> {
     watch: &'w N,
 }
 
-/// A disk over a file that is watched.
-pub type WatchedDisk<'w, N> = FileDisk<Watched<'w, File, N>>;
+/// A disk over a file that is watched, and synced only where something was written to it since, by any of its handles.
+pub type WatchedDisk<'w, N> = SparingDisk<FileDisk<Watched<'w, File, N>>, SharedRecord<'w>>;
 
 impl<'w, F, N: Watch> Watched<'w, F, N> {
     pub(crate) fn new(file: F, device: Dev, watch: &'w N) -> Watched<'w, F, N> {

@@ -94,7 +94,7 @@ pub fn serve_each<
     first: F,
     services: Vec<S>,
 ) -> Result<(F::Told, Vec<Result<S::Told, Refusal>>), Unserved<'a>> {
-    let watch = Unwatched;
+    let watch = Unwatched::new();
     let devices = open_named(rt, table, &watch)?;
     let errands = errands_of(rt, alloc, table, &watch, services)?;
     by_policy!(table.policy, serve_one_and_several[T, _, F, S](waits, alloc, devices, table, first, errands))

@@ -5,6 +5,7 @@ mod failed_sync;
 mod fake_file;
 mod file;
 mod memory;
+mod sparing;
 
 use wb_disk::{Disk, DiskFault};
 use wb_types::Content;
