@@ -479,7 +479,7 @@ class Cutter:
             # The answers come at once, since all lines are at hand: where one is out, the opening is over.
             is_answered = not isinstance(shown, str) and answered == opened
             return {sector: [fill] for sector, fill in shown.items()} if is_answered else allowed, 0
-        self.cut(log, self.cuts if deep > 1 else 4, allowed_at, deep - 1)
+        self.cut(log, min(self.cuts, 12) if deep > 1 else 4, allowed_at, deep - 1)
 
 
 def sequence(work):
@@ -537,7 +537,7 @@ def main():
             print("not tried: there is no C compiler, by which a log is made\n0 passed, 0 failed")
             return
         programs = (*map(os.path.abspath, sys.argv[1:4]), library)
-        works = [(programs, sys.argv[7] if len(sys.argv) > 7 else "", kind, number, min(BATCH, lives - at), 6 if lives <= LIVES else 60) for kind in counts
+        works = [(programs, sys.argv[7] if len(sys.argv) > 7 else "", kind, number, min(BATCH, lives - at), 6 if lives <= LIVES else 30) for kind in counts
                  for number, at in enumerate(range(0, lives, BATCH), seed)]
         begun = time.time()
         for kind, more, wrong in pool.imap_unordered(sequence, works, 1):
