@@ -23,6 +23,8 @@ else
   done
 fi
 kills=${3:-50}
+case $# in 0 | 1) which='as scripts/build.sh proved and built them' ;; *) which='that were given' ;; esac
+which="$(date -u +%F), commit $(cd "$top" && git rev-parse --short HEAD), programs $which"
 for tool in nbdinfo nbdcopy nbdsh nbdfuse fusermount3 qemu-img qemu-io fio nbd-client systemd-socket-activate systemd-analyze mkfs.ext4; do
   command -v $tool >/dev/null || { echo "clients.sh: there is no $tool" >&2; exit 1; }
 done
@@ -47,9 +49,10 @@ activated() { # all that it says is in told.txt
 ended() { kill $left; wait $left 2>/dev/null; left=; }
 mounted() { until test -e disk/nbd; do sleep 0.1; done; }
 
-say '# Clients
+say "# Clients
 
-What `sh scripts/clients.sh` printed, command by command: real clients of `wbnbd`, which serves one client on its standard input and output. docs/WALK.md is a file
+What \`sh scripts/clients.sh\` printed ($which), command by command:"
+say 'real clients of `wbnbd`, which serves one client on its standard input and output. docs/WALK.md is a file
 system over it that is killed and drained.
 
 ## Versions'

@@ -2,14 +2,14 @@
 
     power.py WBCACHE WBNBD WBMETA [LIVES [SEED [PROCESSES [DEAF]]]]
 
-So many lives of `wbcache run` (with clients beside the first) and as many of `wbnbd` (with up to twelve requests in flight), by default 20, run in
-sequences of five over files of their own, with scripts/weather.c loaded: it notes each write, the begin and the end of each sync, and each answer. In
+So many lives of `wbcache run` (with clients beside the first) and as many of `wbnbd` (with up to twelve requests in flight), by default 16, run in
+sequences of four over files of their own, with scripts/weather.c loaded: it notes each write, the begin and the end of each sync, and each answer. In
 some lives a read, a write or a sync fails, which lands or not. Then the log is cut at random, and at each cut files are made whose sectors each
 have what they held as the last sync began that had ended by then, or one of the contents written since, in several mixes, each device by itself. A
 program opens them, and what it shows is held against the writes that were sent: of each sector a content at or behind the floor, which is what
 every write left that had been answered when the last flush began that was answered before the cut. Some of these openings are logged and cut
 themselves, some of them fail at a step, and the openings behind these are cut once more; where one was answered, the next shows the same.
-Of some cuts `wbmeta writeback` brings all home, and the origin alone has to hold what was shown. The last cut of a life is where the next one begins.
+Of some cuts `wbmeta writeback` brings all home, and the origin alone has to hold what was shown; some of these calls are cut. The last cut of a life is where the next one begins.
 Every second sequence has a cache of 40 blocks, with a mapping of several nodes, else it has 4. DEAF names files (m, c, o) whose syncs make nothing
 durable, as a disk that answers flushes and does not do them: then there has to be much that fails.
 
@@ -34,7 +34,7 @@ from lives_files import run_of
 from weather_base import DEVICES, MODES, PROGRAMS, Wrong, need
 from weather_server import END, FLUSH, HELLO, READ, WRITE, ZEROES, request
 
-LIVES, BATCH = 20, 5
+LIVES, BATCH = 16, 4
 # Files in memory, where that is there: a sync of a disk takes long.
 FOLDER = "/dev/shm" if os.path.isdir("/dev/shm") else None
 # Metadata sectors, cache blocks and origin blocks.
@@ -447,17 +447,22 @@ class Cutter:
             self.why = files, allowed, where
         shown = self.look(allowed)
         if self.dice.randrange(4) == 0:
-            self.home(shown)
+            self.home(shown, deep)
         return shown
 
-    def home(self, shown):
-        """Brings all home: then the origin alone has what was shown."""
-        done = subprocess.run([PROGRAMS.meta, "writeback", weather.table("writeback")], capture_output=True, text=True, timeout=60)
+    def home(self, shown, deep):
+        """Brings all home: then the origin alone has what was shown. That is cut, too: whatever of it is left, the same is shown."""
+        files = stands()
+        words = [PROGRAMS.meta, "writeback", weather.table("writeback")]
+        done = subprocess.run(words, capture_output=True, text=True, timeout=60, env=logged())
         need(done.returncode == 0 and done.stdout.startswith("ok "), f"wbmeta writeback: {done.stdout}{done.stderr}")
         origin = read("o.img")
         for sector, fill in shown.items():
             need(origin[sector * 512:sector * 512 + 512] == bytes.fromhex(fill) * 512, f"sector {sector} of the origin is not {fill}, which was shown")
         self.counts["origin alone"] += 1
+        if deep > 1 and self.dice.randrange(2) == 0:
+            self.counts["writing back cut"] += 1
+            self.cut(Log(files), 3, lambda _: ({sector: [fill] for sector, fill in shown.items()}, 0), 0)
 
     def cut_opening(self, files, allowed, deep):
         """Logs an opening, which may fail, and cuts it."""
@@ -537,7 +542,7 @@ def main():
             print("not tried: there is no C compiler, by which a log is made\n0 passed, 0 failed")
             return
         programs = (*map(os.path.abspath, sys.argv[1:4]), library)
-        works = [(programs, sys.argv[7] if len(sys.argv) > 7 else "", kind, number, min(BATCH, lives - at), 6 if lives <= LIVES else 30) for kind in counts
+        works = [(programs, sys.argv[7] if len(sys.argv) > 7 else "", kind, number, min(BATCH, lives - at), 5 if lives <= LIVES else 30) for kind in counts
                  for number, at in enumerate(range(0, lives, BATCH), seed)]
         begun = time.time()
         for kind, more, wrong in pool.imap_unordered(sequence, works, 1):
