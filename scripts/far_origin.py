@@ -12,13 +12,15 @@ First a flush is passed on and done: each time the far server is killed at a ran
 refused is `5 Io origin` and then `6 Failed`; and once the far server stands again and the cache is opened anew, each sector shows what the last answered
 flush covered, or a later write. Then two layers that break a sync's promise are shown to lose what was flushed: a far server that answers flushes and
 does not do them (cache=unsafe), and a layer between that connects anew without a word once the far server is back (the retry filter), so that the
-next flush is answered well though the far server lost the writes before it.
+next flush is answered well though the far server lost the writes before it. Last, a far server that does not answer is waited for.
 It prints what it saw, and 'N passed, N failed'.
 """
 import collections
 import os
 import random
+import select
 import shutil
+import signal
 import subprocess
 import sys
 import tempfile
@@ -166,6 +168,53 @@ def loses(cache, is_retried):
         far.close()
 
 
+def answers():
+    """What each line is answered once the far server is gone, beginning with what stands in the cache; and the next run."""
+    fresh()
+    far = Far()
+    program = Program([PROGRAMS.cache, "run", TABLE.format("writeback")], None)
+    try:
+        told = []
+        for line in ("w 0 1 11", "r 0 1", "work", "flush", "", "r 0 1", "w 0 1 22", "r 576 1", "r 0 1", "flush", "r 0 1", "w 0 1 33"):
+            if not line:
+                far.kill()
+                told.append("the far server is killed")
+                continue
+            program.send(f"{line}\n".encode())
+            told.append(f"'{line}' {program.line()}")
+    finally:
+        told.append(f"status {program.close()}")
+        far.close()
+    far = Far()
+    try:
+        again = weather.run(PROGRAMS.cache, ["run", TABLE.format("writeback")], "r 0 1\n")[1].strip()
+        return told + [f"and the next run 'r 0 1' {again}"]
+    finally:
+        far.close()
+
+
+GONE = ["'w 0 1 11' ok", "'r 0 1' 0 11", "'work' promoted 0 to 0", "'flush' ok", "the far server is killed", "'r 0 1' 0 11", "'w 0 1 22' ok",
+        "'r 576 1' refused 5 Io origin", "'r 0 1' 0 22", "'flush' refused 5 Io origin", "'r 0 1' refused 6 Failed", "'w 0 1 33' refused 6 Failed", "status 3",
+        "and the next run 'r 0 1' 0 22"]
+
+
+def waits():
+    """A far server that does not answer for a second is waited for."""
+    fresh()
+    far = Far()
+    program = Program([PROGRAMS.cache, "run", TABLE.format("writeback")], None)
+    try:
+        need(found(program) is not None, "an opening")
+        far.server.send_signal(signal.SIGSTOP)
+        program.send(b"w 0 1 11\nflush\n")
+        is_answered = bool(select.select([program.process.stdout], [], [], 1)[0])
+        far.server.send_signal(signal.SIGCONT)
+        return is_answered, [program.line(), program.line()]
+    finally:
+        program.close()
+        far.close()
+
+
 def main():
     PROGRAMS.cache = os.path.abspath(sys.argv[1])
     kills, seed = (int(word) for word in (sys.argv[2:] + [20, 1][len(sys.argv) - 2:])[:2])
@@ -193,6 +242,14 @@ def main():
                 is_lost = sector == "0 00"
                 need(told == ["ok", "ok"] and is_lost == (words != ("writeback", False)), "this was not to be seen")
                 passed += 1
+            told = answers()
+            print("what is answered: " + ", ".join(told))
+            need(told == GONE, "this was not to be seen")
+            passed += 1
+            is_answered, told = waits()
+            print(f"a far server that stops for a second: nothing is answered meanwhile, and then {', '.join(told)}")
+            need(not is_answered and told == ["ok", "ok"], "this was not to be seen")
+            passed += 1
         except (Wrong, subprocess.TimeoutExpired) as wrong:
             failed += 1
             print(f"failed: behind {passed}: {wrong}")
