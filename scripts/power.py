@@ -404,7 +404,7 @@ class Cutter:
     """Cuts logs, and looks at what is opened then."""
 
     def __init__(self, dice, counts, cuts):
-        self.dice, self.counts, self.cuts, self.why = dice, counts, cuts, None
+        self.dice, self.counts, self.cuts, self.why, self.left = dice, counts, cuts, None, None
 
     def look(self, allowed):
         """Opens the files that stand: what is shown, each as it may be."""
@@ -423,7 +423,7 @@ class Cutter:
     def cut(self, log, cuts, allowed_at, deep):
         """Cuts a log at so many places, or at each: what was shown behind the last one."""
         places = range(len(log.steps) + 1)
-        wanted = set(self.dice.sample(places, min(cuts, len(places))))
+        wanted = {*self.dice.sample(places, min(cuts, len(places))), len(places) - 1 if self.dice.getrandbits(1) else 0}
         shown = None
         for number, (durable, since, answered) in enumerate(log.states()):
             if number in wanted:
@@ -448,6 +448,8 @@ class Cutter:
         shown = self.look(allowed)
         if self.dice.randrange(4) == 0:
             self.home(shown, deep)
+        if deep > 1:
+            self.left = files
         return shown
 
     def home(self, shown, deep):
@@ -512,6 +514,9 @@ def sequence(work):
                     newest[device][sector * 512:sector * 512 + 512] = contents[-1][1]
                 need(newest == left, "the log is not what was written")
                 shown = cutter.cut(log, cuts, book.allowed, 2)
+                # The next life is the first that opens what the last cut left, or another one.
+                if dice.getrandbits(1):
+                    put(cutter.left)
             return kind, counts, None
         except (Wrong, Ended, KeyError, subprocess.TimeoutExpired) as wrong:
             return kind, counts, f"{kind}, sequence {number}, life {life}: {wrong!r}{kept(cutter.why, wrong)}"
