@@ -5,6 +5,7 @@
 #
 # It wants nbdinfo, nbdcopy, nbdsh (libnbd-bin, python3-libnbd), nbdfuse and fuse3, qemu-img and qemu-io (qemu-utils), fio with its nbd engine, nbd-client,
 # systemd-socket-activate, systemd-analyze, e2fsprogs, and python3. The programs are those that scripts/build.sh leaves, where none are said.
+# shellcheck disable=SC2016 # what is printed has names of variables in it
 set -u
 top=$(cd "$(dirname "$0")/.." && pwd)
 whole() { echo "$(cd "$(dirname "$1")" && pwd)/$(basename "$1")"; }
@@ -41,13 +42,6 @@ show() { # commands: each as it is typed, and what it and its server print, with
     sed 's/^/    /' said.txt
   done
 }
-activated() { # all that it says is in told.txt
-  systemd-socket-activate --inetd -a -l "$PWD/disk.sock" wbnbd -q --wait 10 "$table" >told.txt 2>&1 &
-  left=$!
-  until test -S disk.sock; do sleep 0.1; done
-}
-ended() { kill $left; wait $left 2>/dev/null; left=; }
-mounted() { until test -e disk/nbd; do sleep 0.1; done; }
 
 say "# Clients
 

@@ -215,6 +215,31 @@ def waits():
         far.close()
 
 
+def breaking():
+    """Layers that keep the promise of a sync, and such as break it."""
+    rows = (("a far server that does its flushes", ("writeback", False)), ("one that does not", ("unsafe", False)),
+            ("a layer between that connects anew without a word", ("writeback", True)))
+    for what, words in rows:
+        told, sector = loses(*words)
+        print(f"{what}: 'w 0 1 11' {told[0]}, 'flush' {told[1]}; the far server is killed, and then 'r 0 1' prints '{sector}'")
+        need(told == ["ok", "ok"] and (sector == "0 00") == (words != ("writeback", False)), "this was not to be seen")
+    return len(rows)
+
+
+def told_line_by_line():
+    told = answers()
+    print("what is answered: " + ", ".join(told))
+    need(told == GONE, "this was not to be seen")
+    return 1
+
+
+def told_late():
+    is_answered, told = waits()
+    print(f"a far server that stops for a second: nothing is answered meanwhile, and then {', '.join(told)}")
+    need(not is_answered and told == ["ok", "ok"], "this was not to be seen")
+    return 1
+
+
 def main():
     PROGRAMS.cache = os.path.abspath(sys.argv[1])
     kills, seed = (int(word) for word in (sys.argv[2:] + [20, 1][len(sys.argv) - 2:])[:2])
@@ -235,21 +260,8 @@ def main():
                 counts["sector that was flushed, and stood"] += floors
                 passed += 1
             print(f"{kills} kills of the far server: " + ", ".join(f"{many} {what}" for what, many in sorted(counts.items())))
-            for what, words in (("a far server that does its flushes", ("writeback", False)), ("one that does not", ("unsafe", False)),
-                                ("a layer between that connects anew without a word", ("writeback", True))):
-                told, sector = loses(*words)
-                print(f"{what}: 'w 0 1 11' {told[0]}, 'flush' {told[1]}; the far server is killed, and then 'r 0 1' prints '{sector}'")
-                is_lost = sector == "0 00"
-                need(told == ["ok", "ok"] and is_lost == (words != ("writeback", False)), "this was not to be seen")
-                passed += 1
-            told = answers()
-            print("what is answered: " + ", ".join(told))
-            need(told == GONE, "this was not to be seen")
-            passed += 1
-            is_answered, told = waits()
-            print(f"a far server that stops for a second: nothing is answered meanwhile, and then {', '.join(told)}")
-            need(not is_answered and told == ["ok", "ok"], "this was not to be seen")
-            passed += 1
+            for look in (breaking, told_line_by_line, told_late):
+                passed += look()
         except (Wrong, subprocess.TimeoutExpired) as wrong:
             failed += 1
             print(f"failed: behind {passed}: {wrong}")

@@ -21,7 +21,6 @@ import multiprocessing
 import os
 import random
 import select
-import shutil
 import struct
 import subprocess
 import sys
