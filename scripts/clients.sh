@@ -4,7 +4,8 @@
 #     sh scripts/clients.sh [WBCACHE WBNBD [KILLS]] >docs/CLIENTS.md
 #
 # It wants nbdinfo, nbdcopy, nbdsh (libnbd-bin, python3-libnbd), nbdfuse and fuse3, qemu-img and qemu-io (qemu-utils), fio with its nbd engine, nbd-client,
-# systemd-socket-activate, systemd-analyze, e2fsprogs, and python3. The programs are those that scripts/build.sh leaves, where none are said.
+# systemd-socket-activate, systemd-analyze, e2fsprogs, and python3. The programs are those that scripts/build.sh leaves, where none are said; WHICH says how
+# others were made.
 # shellcheck disable=SC2016 # what is printed has names of variables in it
 set -u
 top=$(cd "$(dirname "$0")/.." && pwd)
@@ -24,7 +25,7 @@ else
   done
 fi
 kills=${3:-50}
-case $# in 0 | 1) which='as scripts/build.sh proved and built them' ;; *) which='that were given' ;; esac
+case $# in 0 | 1) which='as scripts/build.sh proved and built them' ;; *) which=${WHICH:-that were given} ;; esac
 which="$(date -u +%F), commit $(cd "$top" && git rev-parse --short HEAD), programs $which"
 for tool in nbdinfo nbdcopy nbdsh nbdfuse fusermount3 qemu-img qemu-io fio nbd-client systemd-socket-activate systemd-analyze mkfs.ext4; do
   command -v $tool >/dev/null || { echo "clients.sh: there is no $tool" >&2; exit 1; }
