@@ -54,7 +54,9 @@ def shell(script, folder, seconds=60):
 def missing(*tools):
     """The tools that are not there."""
     lacks = [tool for tool in tools if not shutil.which(tool, path=f"{os.environ['PATH']}:/usr/sbin:/sbin")]
-    return lacks + ["/dev/fuse"] * ("nbdfuse" in tools and not os.access("/dev/fuse", os.W_OK)) + ["root"] * (os.geteuid() != 0)
+    for device, tool in (("/dev/fuse", "nbdfuse"), ("/dev/loop-control", "mount")):
+        lacks += [device] * (tool in tools and not os.access(device, os.W_OK))
+    return lacks + ["root"] * (os.geteuid() != 0)
 
 
 def on_terminal(folder, program, call):
