@@ -1,7 +1,7 @@
 #!/usr/bin/env python3
 """Draws docs/hits.svg and docs/throughput.svg: see pictures.sh, which calls it with the programs.
 
-    pictures.py POLICY CLIENTS WBCACHE WB_BENCH TRACES OUT
+    pictures.py POLICY CLIENTS WBCACHE WB_BENCH TRACES OUT PART
 """
 import collections
 import os
@@ -111,7 +111,7 @@ def nanoseconds(told):
     return next(int(line.split()[2]) for line in told.splitlines() if line.startswith("requests"))
 
 
-def throughput(clients, cache, bench, out):
+def throughput(clients, cache, bench, out, part):
     """MiB a second of one client by the size of a request, on cached blocks, beside plain calls, in turn, medians of five."""
     panels = []
     with tempfile.TemporaryDirectory(dir=os.environ.get("WORK", "/dev/shm")) as work:
@@ -122,7 +122,7 @@ def throughput(clients, cache, bench, out):
         for i, call in enumerate(("read", "write")):
             speeds = {"plain": [], "proved": []}
             for sectors in REQUESTS:
-                many = 40000 if sectors < 32 else 10000
+                many = (40000 if sectors < 32 else 10000) // part
                 took = {"plain": [], "proved": []}
                 for _ in range(5):
                     took["plain"].append(int(printed(clients, f"{work}/c.img", call, sectors, many, 1)))
@@ -141,10 +141,10 @@ def throughput(clients, cache, bench, out):
 
 
 def main():
-    policy, clients, cache, bench, traces, out = sys.argv[1:7]
+    policy, clients, cache, bench, traces, out, part = sys.argv[1:8]
     if traces:
         hits(policy, traces, out)
-    throughput(clients, cache, bench, out)
+    throughput(clients, cache, bench, out, int(part))
 
 
 if __name__ == "__main__":

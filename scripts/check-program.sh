@@ -49,7 +49,9 @@ if command -v python3 >/dev/null; then
   call "$top/scripts/twin.py" "$cache"
   call "$top/scripts/weather.py" "$cache" "$server"
   call "$top/scripts/syncs.py" "$cache"
+  call "$top/scripts/power.py" "$cache" "$server" "$meta"
   call "$top/scripts/manual.py" "$cache" "$server" "$meta"
+  call "$top/scripts/commands.py" "$cache" "$server" "$meta"
 else
   echo 'not tried: there is no python3, by which stops, faults, lives, images and bad weather are played'
 fi

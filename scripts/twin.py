@@ -178,6 +178,7 @@ def since_sync(initial):
         if kind == b"w":
             for i in range(0, size, 512):
                 pending.setdefault((device, (offset + i) // 512), []).append(data[at - size + i:at - size + i + 512])
+        if kind != b"s":
             continue
         for device, sector in [it for it in pending if it[0] == device]:
             files[device][sector * 512:sector * 512 + 512] = pending.pop((device, sector))[-1]

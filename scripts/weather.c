@@ -5,7 +5,10 @@
 //   WEATHER_SIGNALS=1                 with it, one of a stream is interrupted now and then
 //   WEATHER_ALLOC=N                   the N-th request for memory is refused
 //   WEATHER_DURABLE=1                 a file that was synced is copied beside itself, under its name with .durable behind it
-//   WEATHER_JOURNAL=FILE              each write and sync is noted there: `w` or `s`, the first letter of the file's name, offset, size, bytes
+//   WEATHER_LANDS=1                   a write that fails lands all the same
+//   WEATHER_JOURNAL=FILE              each write `w`, sync that begins `b` and ended `s`, and answer `a` (of standard output) is noted there in the order
+//                                     in which they came: this letter, the first one of the file's name, offset (of a sync: whose it is), size, bytes
+//   WEATHER_SLOW=N                    with a journal, a sync takes so many microseconds more
 //   WEATHER_NOTE=FILE                 this file is made once that has happened
 // It has no header, since the kit's clang has none: what it uses of the C library on 64-bit Linux is declared here.
 typedef unsigned long size_t;
@@ -15,6 +18,8 @@ char *getenv(const char *);
 long atol(const char *);
 int strcmp(const char *, const char *);
 int *__errno_location(void);
+int sched_yield(void);
+int usleep(unsigned);
 #define NULL ((void *)0)
 #define RTLD_NEXT ((void *)-1l)
 #define errno (*__errno_location())
@@ -29,13 +34,13 @@ static ssize_t (*real_pread)(int, void *, size_t, off_t), (*real_pwrite)(int, co
 static ssize_t (*real_read)(int, void *, size_t), (*real_write)(int, const void *, size_t);
 
 static const char *file, *note;
-static long failing, refused, signals, durable, on;
+static long failing, refused, signals, durable, on, lands, slow;
 static unsigned long seed;
 static long calls, requests;
 static unsigned long turns;
 static char is_bad[1024];
-static char names[64][64];
-static int journal = -1;
+static char names[1024][64];
+static int journal = -1, is_noting;
 
 static long next(long *count) { return __atomic_add_fetch(count, 1, __ATOMIC_SEQ_CST); }
 static int is_marked(int fd) { return fd >= 0 && fd < 1024 && __atomic_load_n(&is_bad[fd], __ATOMIC_SEQ_CST); }
@@ -62,6 +67,8 @@ __attribute__((constructor)) static void begin(void) {
   failing = number("WEATHER_CALL");
   seed = number("WEATHER_SHORT");
   on = number("WEATHER_ON");
+  lands = number("WEATHER_LANDS");
+  slow = number("WEATHER_SLOW");
   signals = number("WEATHER_SIGNALS");
   durable = number("WEATHER_DURABLE");
   const char *path = getenv("WEATHER_JOURNAL");
@@ -101,7 +108,7 @@ int open(const char *path, int flags, ...) {
   __builtin_va_end(rest);
   int fd = real_open(path, flags, mode);
   mark(fd, file != NULL && strcmp(path, file) == 0);
-  for (int i = 0; (durable || journal >= 0) && fd >= 0 && fd < 64 && i < 63 && (names[fd][i] = path[i]) != 0; i++) {
+  for (int i = 0; (durable || journal >= 0) && fd >= 0 && fd < 1024 && i < 63 && (names[fd][i] = path[i]) != 0; i++) {
   }
   return fd;
 }
@@ -111,19 +118,32 @@ int close(int fd) {
   return real_close(fd);
 }
 
-// Notes a step on a file. The programs that are noted have one thread.
+// One thread at a time writes, answers or notes, so that the journal has the order in which that was.
+static void lock(void) {
+  while (journal >= 0 && __atomic_exchange_n(&is_noting, 1, __ATOMIC_ACQUIRE)) sched_yield();
+}
+static void unlock(void) { __atomic_store_n(&is_noting, 0, __ATOMIC_RELEASE); }
+
+// Notes a step on a file, or an answer. Whose a sync is tells an address that each thread has to itself.
 static void enter(char kind, int fd, const void *data, long size, long at) {
-  if (journal < 0 || size < 0 || fd < 0 || fd >= 64) return;
+  if (journal < 0 || size < 0 || fd < 0 || fd >= 1024) return;
   long numbers[2] = {at, size};
   char front[2] = {kind, names[fd][0]};
   if (real_write(journal, front, 2) + real_write(journal, numbers, 16) + real_write(journal, data, size) != 18 + size)
     real_write(2, "weather: no journal\n", 20);
 }
 
+static void enter_sync(char kind, int fd) {
+  lock();
+  enter(kind, fd, "", 0, (long)&errno);
+  unlock();
+  if (kind == 'b' && slow > 0) usleep(slow);
+}
+
 // Keeps what is durable now. Names have fewer than 50 letters.
 static int keep(int fd, int synced) {
-  if (synced == 0) enter('s', fd, "", 0, 0);
-  if (!durable || synced != 0 || fd < 0 || fd >= 64) return synced;
+  if (synced == 0) enter_sync('s', fd);
+  if (!durable || synced != 0 || fd < 0 || fd >= 1024) return synced;
   static char piece[1 << 20];
   char name[72];
   int length = 0;
@@ -136,15 +156,28 @@ static int keep(int fd, int synced) {
   return 0;
 }
 
-int fdatasync(int fd) { return fails(fd) ? -1 : keep(fd, real_fdatasync(fd)); }
-int fsync(int fd) { return fails(fd) ? -1 : keep(fd, real_fsync(fd)); }
+int fdatasync(int fd) {
+  if (fails(fd)) return -1;
+  enter_sync('b', fd);
+  return keep(fd, real_fdatasync(fd));
+}
+int fsync(int fd) {
+  if (fails(fd)) return -1;
+  enter_sync('b', fd);
+  return keep(fd, real_fsync(fd));
+}
 ssize_t pread(int fd, void *to, size_t size, off_t at) { return fails(fd) ? -1 : real_pread(fd, to, part(size), at); }
 
 ssize_t pwrite(int fd, const void *from, size_t size, off_t at) {
-  if (fails(fd)) return -1;
-  ssize_t written = real_pwrite(fd, from, part(size), at);
+  int failed = fails(fd);
+  if (failed && !lands) return -1;
+  lock();
+  ssize_t written = real_pwrite(fd, from, failed ? size : part(size), at);
   enter('w', fd, from, written, at);
-  return written;
+  unlock();
+  if (!failed) return written;
+  errno = EIO;
+  return -1;
 }
 
 static int is_interrupted(void) {
@@ -154,7 +187,15 @@ static int is_interrupted(void) {
 }
 
 ssize_t read(int fd, void *to, size_t size) { return is_interrupted() ? -1 : real_read(fd, to, part(size)); }
-ssize_t write(int fd, const void *from, size_t size) { return is_interrupted() ? -1 : real_write(fd, from, part(size)); }
+ssize_t write(int fd, const void *from, size_t size) {
+  if (is_interrupted()) return -1;
+  if (journal < 0 || fd != 1) return real_write(fd, from, part(size));
+  lock();
+  ssize_t written = real_write(fd, from, part(size));
+  if (written > 0) enter('a', fd, "", 0, written);
+  unlock();
+  return written;
+}
 
 static int refuse(void) {
   if (refused == 0 || next(&requests) != refused) return 0;

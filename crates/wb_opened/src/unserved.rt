@@ -41,7 +41,7 @@ impl<'a> Display for Unserved<'a> {
             ),
             Unserved::Refused(Refusal::NotClean) => write!(
                 f,
-                "13 NotClean: passthrough needs a cache that was left clean: open it with 'writeback' and the policy 'cleaner', tick and work until nothing is dirty, then suspend"
+                "13 NotClean: passthrough needs a cache that was left clean: 'wbmeta writeback' with the same table writes all that is dirty home, and leaves it so"
             ),
             Unserved::Differs(difference) => write!(f, "12 Mismatch: {difference}"),
             Unserved::Refused(refusal) => write!(f, "{refusal}"),

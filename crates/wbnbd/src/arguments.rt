@@ -27,10 +27,12 @@ To stop it in order, end the client. A signal ends it at once, and what was not
 flushed is lost then. All three files are locked as long as it runs, against
 programs that lock them too.
 
-Example, with files that 'wbcache format' has made a cache of:
+It takes no listening socket (so 'nbdinfo -- [ wbnbd TABLE ]' fails): it is for
+who accepts a client, as 'systemd-socket-activate --inetd -a' does. Examples,
+with files that 'wbcache format' has made a cache of:
   nbdfuse dir/disk --command wbnbd 'cache m c o 64 0 tinylfu 0'
-  socat UNIX-LISTEN:socket EXEC:./serve     # a script that calls wbnbd
-  nbdcopy image 'nbd+unix:///?socket=socket'";
+  systemd-socket-activate --inetd -a -l /run/wbnbd.sock wbnbd TABLE
+  nbdcopy image 'nbd+unix:///?socket=/run/wbnbd.sock'";
 
 /// How many seconds files that another program holds are waited for, where that is not said.
 const WAIT: u32 = 5;
