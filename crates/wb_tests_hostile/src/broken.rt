@@ -134,7 +134,7 @@ fn filled(disk: MemDisk) -> Result<MemDisk, Refusal> {
     for block in 0..10_u8 {
         for k in 0..64_u8 {
             let at = 64 * u64::from(block) + u64::from(k);
-            if at < disk.sectors() && disk.write(at, &begun_with(0x80 + block, k)).is_err() {
+            if at < disk.sectors() && disk.write(at, &begun_with(0x80 | block, k)).is_err() {
                 return Err(Refusal::Io(Dev::Origin));
             }
         }

@@ -2,19 +2,25 @@
 
 use std::test::Fail;
 use wb_disk::{Disk, MemDisk};
-use wb_types::Refusal;
+use wb_types::{Dev, Refusal};
 
-/// Whether there is room for four writes of each of two sectors, one after the other, and for each a write.
-fn is_written_with_room(disk: &mut MemDisk) -> Result<bool, Refusal> {
-    if disk.sectors() < 2 {
-        return Ok(false);
+/// Writes a sector for which there is room.
+fn write_with_room(disk: &mut MemDisk, at: u64, byte: u8) -> Result<(), Refusal> {
+    if at >= disk.sectors() {
+        return Err(Refusal::Range);
     }
+    disk.room(at)?;
+    match disk.write(at, &[byte; 512]) {
+        Ok(()) => Ok(()),
+        Err(_) => Err(Refusal::Io(Dev::Origin)),
+    }
+}
+
+/// Whether each of two sectors is written four times so, without a fault.
+fn is_written_with_room(disk: &mut MemDisk) -> Result<bool, Refusal> {
     for byte in 1..5_u8 {
         for at in 0..2_u64 {
-            disk.room(at)?;
-            if disk.write(at, &[byte; 512]).is_err() {
-                return Ok(false);
-            }
+            write_with_room(disk, at, byte)?;
         }
     }
     Ok(disk.faults() == 0)

@@ -1,5 +1,7 @@
 //! A disk that stops.
 
+ghost use Rattle.std.specs.Prelude.{◌≡◌};
+
 use wb_disk::{Disk, DiskFault};
 use wb_types::Content;
 
@@ -34,7 +36,7 @@ impl<D: Disk> StopDisk<D> {
     fn count(&mut self) -> Result<(), DiskFault>
         ensures { self.new.inside ≡ self.old.inside }
     {
-        if self.left == 0 {
+        if self.left < 1 {
             self.has_stopped = true;
             return Err(DiskFault);
         }
