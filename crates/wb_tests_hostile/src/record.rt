@@ -12,6 +12,24 @@ enum Failed {
     Yes,
 }
 
+impl Failed {
+    /// Whether it may have failed.
+    fn may_be(self) -> bool {
+        match self {
+            Failed::No => false,
+            Failed::Perhaps | Failed::Yes => true,
+        }
+    }
+
+    /// Whether it may still go on.
+    fn may_go_on(self) -> bool {
+        match self {
+            Failed::No | Failed::Perhaps => true,
+            Failed::Yes => false,
+        }
+    }
+}
+
 /// What a line does on the device that may fail in it.
 #[derive(Clone, Copy)]
 pub enum Kind {
@@ -77,7 +95,8 @@ impl Record {
 
     /// A line was done, which no target does that has failed.
     fn done(&mut self) {
-        self.expect(!matches!(self.failed, Failed::Yes));
+        let goes_on = self.failed.may_go_on();
+        self.expect(goes_on);
         self.failed = Failed::No;
     }
 
@@ -85,12 +104,15 @@ impl Record {
     pub fn refused(&mut self, kind: Kind, refusal: Refusal) {
         match refusal {
             Refusal::Failed => {
-                self.expect(!matches!(self.failed, Failed::No));
+                let may_have_failed = self.failed.may_be();
+                self.expect(may_have_failed);
                 self.failed = Failed::Yes;
             }
             Refusal::Io(device) => {
-                self.expect(device == self.device && !matches!(self.failed, Failed::Yes));
-                self.expect(!self.once || self.met == 0);
+                let goes_on = self.failed.may_go_on();
+                let is_new = !self.once || self.met == 0;
+                let is_it = device == self.device;
+                self.expect(goes_on && is_new && is_it);
                 self.met = self.met.wrapping_add(1);
                 self.failed = match kind {
                     Kind::Reads => Failed::No,
@@ -111,7 +133,8 @@ impl Record {
     /// An order was carried out, or there was none. As long as nothing failed it is the one that was wanted.
     pub fn worked(&mut self, order: Option<Order>, wanted: Option<Order>) {
         self.done();
-        self.expect(self.met != 0 || order == wanted);
+        let is_right = self.met != 0 || order == wanted;
+        self.expect(is_right);
         if order.is_some() {
             self.worked = self.worked.wrapping_add(1);
         }
@@ -146,7 +169,8 @@ impl Record {
 
     /// As many orders as this were carried out to the end, by the target's own count.
     pub fn counted(&mut self, promotions: u64) {
-        self.expect(promotions == self.worked);
+        let is_right = promotions == self.worked;
+        self.expect(is_right);
     }
 
     /// What an opening shows of a sector of the origin, which began with that before; one was written with this byte.
