@@ -34,6 +34,8 @@ ROWS = [
     ("Client::work_one, a promotion", "wb_target/carrying", "carry_out", "if matches!(order, Order::Promote(_, _)) " + MEMORY, "wb_tests_target", "a_block_is_cached_at_its_second_access"),
     ("Client::work_one, a replacement", "wb_target/carrying", "carry_out", "if matches!(order, Order::Replace(_, _, _)) " + MEMORY, "wb_tests_target", "a_block_that_is_wanted_more_replaces_the_least_recent"),
     ("Client::work_one, a write-back", "wb_target/carrying", "carry_out", "if matches!(order, Order::Clean(_)) " + MEMORY, "wb_tests_target", "a_tick_has_a_dirty_block_written_back"),
+    ("Client::write_fua", "wb_target/durable", "write_fua", "return Err(Stopped { done: 0, refusal: wb_types::Refusal::Memory });", "wb_tests_target", "a_write_with_fua_is_durable"),
+    ("Target::together", "wb_target/together", "together", "return Err(AllocError);", "wb_tests_target", "devices_come_back_each_in_its_place"),
     ("Desk::new", "wb_desk/desk", "new", MEMORY, "wb_tests_desk", "orders_are_given_and_given_up"),
     ("Desk::map", "wb_desk/desk/mapping", "map", MEMORY, "wb_tests_desk", "orders_are_given_and_given_up"),
     ("Desk::begin_commit", "wb_desk/desk/commit", "begin_commit", MEMORY, "wb_tests_desk", "commits_follow_on_each_other"),
@@ -51,10 +53,15 @@ ROWS = [
     ("TinyLfu::mapped", "wb_policy/tiny_lfu", "mapped", MEMORY, "wb_tests_policy", "mapped_blocks_are_placed_by_hint_then_by_cache_block"),
     ("Cleaner::new", "wb_policy/cleaner", "new", MEMORY, "wb_tests_policy", "ticks"),
     ("Sketch::new", "wb_sketch/sketch", "new", MEMORY, "wb_tests_policy", "a_block_accessed_past_the_reset"),
+    ("BitSet::new", "wb_bits/bit_set", "new", "return Err(AllocError);", "wb_tests_policy", "every_block_is_found_in_turn"),
+    ("Space::new", "wb_space/space", "new", MEMORY, "wb_tests_policy", "every_block_is_found_in_turn"),
+    ("Space::free_places", "wb_space/space", "free_places", MEMORY, "wb_tests_policy", "the_least_free_places_rise"),
+    ("LiveOrders::new", "wb_orders/live_orders", "new", MEMORY, "wb_tests_policy", "orders_come_and_go"),
     ("read_table", "wb_table/table", "read_table", MEMORY, "wb_tests_disk", "a_line_gives_mode_policy_and_keys"),
     ("read_message", "wb_table/message", "read_message", MEMORY, "wb_tests_disk", "ranges_are_named_in_their_order"),
     ("status_text", "wb_table/status", "status_text", MEMORY, "wb_tests_disk", "each_figure_has_its_place"),
     ("MemDisk::new", "wb_disk/memory", "new", MEMORY, "wb_tests_disk", "a_read_gives_the_latest_write"),
+    ("MemDisk::room", "wb_disk/memory", "room", MEMORY, "wb_tests_hostile", "room_is_made_where_there_is_memory"),
     ("Cells::new", "wb_cells/cells", "new", "return Err(Refusal::Memory);", "wb_tests_cells", "four_threads_finish_a_thousand_writes_each"),
     ("World::new", "wb_world/world", "new", MEMORY, "wb_tests_world", "a_list_of_events_is_run_to_its_end"),
     ("World::event", "wb_world/world", "event", MEMORY, "wb_tests_world", "a_list_of_events_is_run_to_its_end"),
@@ -70,7 +77,7 @@ def refuse(folder, path, function, what):
     with open(name, encoding="utf-8") as file:
         lines = file.read().split("\n")
     at = next(i for i, line in enumerate(lines) if re.search(rf"\bfn {function}\b", line))
-    while not (lines[at].strip() == "{" or lines[at].endswith(" {") and not re.match(r" *(ensures|requires)", lines[at])):
+    while not (lines[at].strip() == "{" or lines[at].endswith(" {") and re.match(r" *(pub )?(fn |\) ->)", lines[at])):
         at += 1
     condition, answer = re.match(r"(?:if (.*) )?(return .*)", what).groups()
     lines.insert(at + 1, f"if {condition or 'true'} {{ {answer} }}")

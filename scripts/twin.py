@@ -6,8 +6,10 @@ In each mode, behind a first life that ends clean, 200 scripts of 40 lines by a 
 `wbcache replay`: each block of a request, each flush (a tick's and a durable write's too), each order that a `work` answered, each mapped block that a message
 invalidates, and in every second script a suspend at the end. A replay has no line for an invalidation, and stands in for it by a write of what a sector of
 the block holds: in passthrough that takes the block out of the cache, and shows nothing else. All answers are compared; and opened again in write-back over the files as they were synced last, as they were
-written last, and with one of the contents since the last sync for each sector of cache and origin, behind `stop old`, `stop new` and one with these
-positions: the generation, how many blocks are mapped and dirty, and each sector of the origin. A position past the last is refused. It prints
+written last, with one of the contents since the last sync for each sector, and with the next content of each list in turn up to the end of the longest,
+behind `stop old`, `stop new` and stops with these positions: the generation, how many blocks are mapped and dirty, and each sector of the origin. So each
+content of each list is compared that an opening shows (those of a block that is mapped lie in the cache, the others on the origin); of the lists that
+none shows, the number of contents, as of all: a stop that names the position behind the last is skipped, for each sector of all three devices. It prints
 what differs, what was tried, and at the end 'N passed, N failed': a check for each mode, with a suspend and without.
 """
 import collections
@@ -185,22 +187,33 @@ def since_sync(initial):
     return files, pending
 
 
-def any_contents(initial, dice, standing):
-    """Writes files in which each sector of cache and origin has one of the contents since the last sync: their names for a stop, and one that
-    no sector has. Those that stand in for a block have more contents in the machine, and keep the oldest."""
-    files, pending = since_sync(initial)
-    names, none = [], None
+def put_contents(synced, pending, position):
+    """Writes files in which each sector of cache and origin has the content of its list that is chosen by the number of the last: their names for a stop."""
+    files, names = {device: bytearray(data) for device, data in synced.items()}, []
     for (device, sector), contents in sorted(pending.items()):
-        if (device, sector) in standing:
-            continue
-        position = dice.randrange(len(contents) + 1)
-        if device != "m" and position > 0:
-            names.append(f"{device}:{sector}:{position}")
-            files[device][sector * 512:sector * 512 + 512] = contents[position - 1]
-        none = f"{device}:{sector}:{len(contents) + 1}"
+        chosen = position(len(contents))
+        if chosen > 0:
+            names.append(f"{device}:{sector}:{chosen}")
+            files[device][sector * 512:sector * 512 + 512] = contents[chosen - 1]
     for name in FILES:
         write(name, files[name[0]])
-    return names, none
+    return names
+
+
+def past_the_last(pending, standing):
+    """A stop for each sector, by the first content that it has not got. Those that stand in for a block have more in the machine."""
+    sectors = [(device, sector) for device, count in (("m", 4), ("c", 256), ("o", SECTORS)) for sector in range(count)]
+    return [f"stop old {it[0]}:{it[1]}:{len(pending.get(it, ())) + 1}" for it in sectors if it not in standing]
+
+
+def is_shown(files, device, sector):
+    """Whether an opening shows what this sector holds, by the newest root of these metadata and its only node."""
+    metadata = files["m"]
+    root = max((metadata[at:at + 512] for at in (0, 512)), key=lambda slot: struct.unpack_from("<Q", slot, 8)[0])
+    top = struct.unpack_from("<I", root, 40)[0]
+    words = struct.unpack_from("<4Q", metadata, 512 * top + 32) if top else ()
+    cached = {place: word >> 16 for place, word in enumerate(words) if word & 1}
+    return sector // BLOCK in cached if device == "c" else sector // BLOCK not in cached.values()
 
 
 def compare(program, library, mode, number):
@@ -230,26 +243,38 @@ def compare(program, library, mode, number):
                     here, answer = answer[:int(task.split()[2])], answer[int(task.split()[2]):]
                     wanted += [f"0 {it}" for it in here]
                 wanted.append("0 done")
-    newest = {name: read(name) for name in FILES}
-    for base in "old", "new", "any":
-        for name in FILES:
-            if base == "old":
+    return compare_lists(program, events, wanted, initial, shown.standing, number, invalidated)
+
+
+def compare_lists(program, events, wanted, initial, standing, number, invalidated):
+    """Opens what both have left, behind each way in which power may be lost: how much was compared."""
+    synced, pending = since_sync(initial)
+    pending = {it: contents for it, contents in pending.items() if it not in standing}
+    deepest, dice, counts = max(map(len, pending.values()), default=0), random.Random(number), collections.Counter()
+    newest, past = {name: read(name) for name in FILES}, past_the_last(pending, standing)
+    for base in "old", "new", "any", *range(1, deepest + 1):
+        refused, names = [], None
+        if base == "old":
+            for name in FILES:
                 shutil.copy(name + ".durable", name)
-            else:
+        elif base == "new":
+            for name in FILES:
                 write(name, newest[name])
-        stop = f"stop {base}"
-        if base == "any":
-            names, none = any_contents(initial, random.Random(number), shown.standing)
-            stop = " ".join(["stop old", *names])
-            if none:
-                weather.need(replayed(program, events + [f"stop old {none}"])[-1] == "skipped", f"the machine has a content {none}")
-        told, count = replayed(program, events + [stop, "open writeback", f"view 0 {SECTORS}"]), len(wanted) + 1 + SECTORS
-        weather.need(len(told) == count, f"{stop}: {len(told)} lines of a replay, and not {count}: {told[:len(wanted) + 1]}")
+        else:
+            names = put_contents(synced, pending, lambda last: dice.randrange(last + 1) if base == "any" else min(base, last))
+            refused = past if base == "any" else []
+        told = replayed(program, events + refused + [f"stop {base}" if names is None else " ".join(["stop old", *names]), "open writeback", f"view 0 {SECTORS}"])
+        weather.need(len(told) == len(wanted) + len(refused) + 1 + SECTORS, f"behind {base}: {len(told)} lines of a replay: {told[:len(wanted) + 1]}")
         for one, other in zip(told, wanted):
             weather.need(other is None and one.startswith("open ") or one == other, f"the machine answers '{one}', and the target '{other}'")
-        for one, other in zip(told[len(wanted):], found_again(program)):
-            weather.need(one == other, f"behind {stop} the machine has '{one}', and the files '{other}'")
-    counts = collections.Counter({"chosen content": len(names), "invalidated block": invalidated})
+        for event, one in zip(refused, told[len(wanted):]):
+            weather.need(one == "skipped", f"the machine has a content '{event}'")
+        for one, other in zip(told[len(wanted) + len(refused):], found_again(program)):
+            weather.need(one == other, f"behind {base} of {deepest} the machine has '{one}', and the files '{other}'")
+    for it, contents in pending.items():
+        where = "shown" if it[0] != "m" and is_shown(synced, *it) else "hidden"
+        counts.update({f"{where} list": 1, f"content of {where} lists": len(contents) + 1})
+    counts.update({"list's length": len(past), "invalidated block": invalidated})
     return counts + collections.Counter(line.split()[0] for line in events[1:] if not line.startswith("end") for line in [line.removeprefix("start 0 ")])
 
 

@@ -2,7 +2,7 @@
 //   WEATHER_FILE=NAME WEATHER_CALL=N  the N-th read, write or sync of the file of this name fails, as a broken device's
 //   WEATHER_ON=1                      with it, each later one of that file fails, too
 //   WEATHER_SHORT=SEED                a read or write of a file or a stream takes only a part of what was asked
-//   WEATHER_SIGNALS=1                 with it, one of a stream is interrupted now and then
+//   WEATHER_SIGNALS=1 or -N           one of a stream is interrupted now and then, or the N-th one
 //   WEATHER_ALLOC=N                   the N-th request for memory is refused
 //   WEATHER_DURABLE=1                 a file that was synced is copied beside itself, under its name with .durable behind it
 //   WEATHER_LANDS=1                   a write that fails lands all the same
@@ -181,7 +181,9 @@ ssize_t pwrite(int fd, const void *from, size_t size, off_t at) {
 }
 
 static int is_interrupted(void) {
-  if (signals == 0 || dice() % 4 != 0) return 0;
+  static long transfers;
+  if (signals == 0 || (signals > 0 ? dice() % 4 != 0 : next(&transfers) != -signals)) return 0;
+  tell();
   errno = EINTR;
   return 1;
 }

@@ -347,6 +347,7 @@ def kinds(is_long):
     yield "each request for memory refused to a replay", each_request_refused_to_a_replay
     yield "each request for memory refused to a server", server.each_request_refused_server
     yield "a server's transfers in parts", lambda: server.in_parts_server(50 if is_long else 3)
+    yield "a server's transfers interrupted", lambda: server.interrupted_server(5 if is_long else 1)
     yield "malformed messages", lambda: server.messages_refused(100 if is_long else 5)
     yield "bytes of no client", lambda: server.connections_broken(2000 if is_long else 60)
     yield "clients that hang", server.a_client_hangs

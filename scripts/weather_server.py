@@ -31,6 +31,7 @@ class Server:
         self.process = subprocess.Popen(words, bufsize=0, env=environment_of(weather), **streams)
         self.timer = threading.Timer(60, self.process.kill)
         self.timer.start()
+        self.heard = b""
 
     def greet(self):
         self.send(HELLO)
@@ -55,6 +56,7 @@ class Server:
             if not more:
                 raise Gone
             data += more
+        self.heard += data
         return data
 
     def reply(self):
@@ -116,8 +118,9 @@ def converse(server, book):
     return errors
 
 
-def served(weather, mode):
-    """A conversation in some weather, and what is there afterwards: the errors, the exit status, what was said, and whether the weather came."""
+def served(weather, mode, heard=None):
+    """A conversation in some weather, and what is there afterwards: the errors, the exit status, what was said, and whether the weather came.
+    What was heard is added to a list."""
     restore()
     server, book, errors = Server(weather, mode), Book(PREPARED), collections.Counter()
     try:
@@ -127,6 +130,8 @@ def served(weather, mode):
         errors["gone"] += 1
     finally:
         status, said = server.end()
+    if heard is not None:
+        heard.append(server.heard)
     look_again(book)
     return errors, status, said, os.path.exists("note")
 
@@ -163,6 +168,33 @@ def in_parts_server(seeds):
         errors, status, said, _ = served({"WEATHER_SHORT": seed}, "writeback")
         need(not errors and status == 0, f"seed {seed}: errors {dict(errors)}, status {status}, {said}")
     return seeds
+
+
+def found():
+    """What the next run shows of all sectors."""
+    return run(PROGRAMS.cache, ["run", table("writeback")], "r 0 640\n")[:2]
+
+
+def interrupted_server(seeds):
+    """Each read and write of a server's streams is interrupted in a run of its own, where each takes all that was asked and where it takes a part, in
+    the midst of a message, too; and one of four in some runs: each reply, and each sector afterwards, is as without that."""
+    heard, tried = [], 0
+    served(None, "writeback", heard)
+    wanted = heard.pop(), found()
+
+    def is_interrupted(seed, signals):
+        weather = {"WEATHER_SHORT": seed, "WEATHER_SIGNALS": signals}
+        errors, status, said, came = served(weather, "writeback", heard)
+        need(not errors and status == 0 and (heard.pop(), found()) == wanted, f"{weather}: errors {dict(errors)}, status {status}, {said}")
+        return came
+
+    for seed in range(seeds + 1):
+        need(is_interrupted(seed, 1), f"nothing was interrupted with seed {seed}")
+        number = 1
+        while is_interrupted(seed, -number):
+            number += 1
+        tried += number
+    return tried
 
 
 def malformed(dice, cookie):
