@@ -14,7 +14,7 @@ import sys
 import tempfile
 import time
 
-from rows import BENCH, TURNS, alternated, fill, machine, make_files, make_full, many, printed, seconds_of, served, table_of, told
+from rows import BENCH, alternated, fill, machine, make_files, make_full, many, printed, seconds_of, served, table_of, told
 
 SHM = os.environ.get("WORK", "/dev/shm")
 DISK = os.environ.get("DISK", "/var/tmp")
@@ -229,7 +229,7 @@ def start_ours(programs, servers, work):
 
 def fio(target, way, size, depth):
     """Requests a second of fio."""
-    engine = [f"--ioengine=nbd", f"--uri=nbd+unix:///?socket={target}"] if target.endswith(".sock") else ["--ioengine=psync", f"--filename={target}", "--fallocate=none", "--allow_file_create=0"]
+    engine = ["--ioengine=nbd", f"--uri=nbd+unix:///?socket={target}"] if target.endswith(".sock") else ["--ioengine=psync", f"--filename={target}", "--fallocate=none", "--allow_file_create=0"]
     words = ["fio", "--name=load", *engine, "--size=12M", f"--rw={way}", f"--bs={size}", f"--iodepth={depth}", f"--runtime={max(0.3, many(1000) / 1000)}", "--time_based", "--output-format=terse", "--terse-version=3"]
     for line in printed(*words, cwd=SHM).splitlines():
         fields = line.split(";")
