@@ -9,8 +9,8 @@ use std::fs::{File, Metadata, OpenFile};
 use std::io::{ErrorKind, Seek, SeekFrom};
 use std::os::unix::fs::FileExt;
 use std::{fmt, io};
-use wb_disk::FileDisk;
-use wb_types::Dev;
+use wb_disk::{Disk, DiskFault, FileDisk};
+use wb_types::{Content, Dev};
 
 /// A step on a file.
 #[derive(Clone, Copy, Debug, PartialEq, Eq)]
@@ -62,7 +62,68 @@ pub struct Watched<'w, F, N> {
 }
 
 /// A disk over a file that is watched, and synced only where something was written to it since, by any of its handles.
-pub type WatchedDisk<'w, N> = SparingDisk<FileDisk<Watched<'w, File, N>>, SharedRecord<'w>>;
+#[derive(Drop)]
+pub struct WatchedDisk<'w, N: Watch> {
+    sparing: SparingDisk<FileDisk<Watched<'w, File, N>>, SharedRecord<'w>>,
+}
+
+impl<'w, N: Watch> WatchedDisk<'w, N> {
+    /// Takes an opened file of this device, and measures it by its end.
+    pub(crate) fn over(
+        file: File,
+        device: Dev,
+        watch: &'w N,
+    ) -> Result<WatchedDisk<'w, N>, DiskFault> {
+        match FileDisk::over(Watched::new(file, device, watch)) {
+            Ok(disk) => Ok(WatchedDisk {
+                sparing: SparingDisk::new(disk, SharedRecord::of(watch.counts(device))),
+            }),
+            Err(fault) => Err(fault),
+        }
+    }
+}
+
+impl<'w, N: Watch> Disk for WatchedDisk<'w, N> {
+    ghost use Rattle.std.specs.Prelude.{[]};
+
+    ghost tells = { ⊥ };
+
+    ghost size = { λ d. d.sparing.inside };
+
+    ghost contents = { λ _. [] };
+
+    ghost faults = { λ _. 0 };
+
+    ghost falters = { λ _ _ _. Unit {0} };
+
+    ghost fails = { λ _. ⊥ };
+
+    fn sectors(&self) -> u64 {
+        self.sparing.sectors()
+    }
+
+    fn read(&mut self, at: u64, out: &mut Content) -> Result<(), DiskFault> {
+        self.sparing.read(at, out)
+    }
+
+    fn write(&mut self, at: u64, from: &Content) -> Result<(), DiskFault> {
+        self.sparing.write(at, from)
+    }
+
+    fn read_extent(&mut self, first: u64, out: &mut [Content]) -> Result<(), DiskFault> {
+        self.sparing.read_extent(first, out)
+    }
+
+    fn write_extent(&mut self, first: u64, from: &[Content]) -> Result<(), DiskFault> {
+        self.sparing.write_extent(first, from)
+    }
+
+    fn sync(&mut self) -> Result<(), DiskFault> {
+        self.sparing.sync()
+    }
+
+    ghost whole = { λ d h. absurd h };
+}
 
 impl<'w, F, N: Watch> Watched<'w, F, N> {
     pub(crate) fn new(file: F, device: Dev, watch: &'w N) -> Watched<'w, F, N> {
