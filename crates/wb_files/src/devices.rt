@@ -7,11 +7,11 @@ ghost use Rattle.wb_types.specs.declared.version.Version.TheVariants.{One};
 use crate::patience::Patience;
 use crate::sizes::find_size_fault;
 use crate::unopened::{Trouble, Unopened};
-use crate::watched::{Watch, WatchedDisk};
+use crate::watched::{Watch, Watched, WatchedDisk};
 use std::fs::{File, OpenOptions, TryLockError};
 use std::io;
 use std::rt::Files;
-use wb_disk::Disk;
+use wb_disk::{Disk, FileDisk};
 use wb_table::{Table, find_table_fault, read_table};
 use wb_types::{Dev, Geometry, Refusal};
 
@@ -145,7 +145,7 @@ fn measured<'w, N: Watch>(
     device: Dev,
     watch: &'w N,
 ) -> Result<WatchedDisk<'w, N>, Trouble> {
-    WatchedDisk::over(file, device, watch).map_err(|_| Trouble::System(io::Error::from(
+    FileDisk::over(Watched::new(file, device, watch)).map_err(|_| Trouble::System(io::Error::from(
         io::ErrorKind::NotSeekable,
     )))
 }

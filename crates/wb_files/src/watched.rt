@@ -3,14 +3,14 @@
 ghost use Rattle.std.specs.Prelude.{◌≡◌};
 
 use crate::records::{DeviceCounts, SharedRecord, SyncCounts};
-use crate::sparing::SparingDisk;
+use crate::sparing::SyncRecord;
 use std::fmt::{Display, Formatter};
 use std::fs::{File, Metadata, OpenFile};
 use std::io::{ErrorKind, Seek, SeekFrom};
 use std::os::unix::fs::FileExt;
 use std::{fmt, io};
-use wb_disk::{Disk, DiskFault, FileDisk};
-use wb_types::{Content, Dev};
+use wb_disk::FileDisk;
+use wb_types::Dev;
 
 /// A step on a file.
 #[derive(Clone, Copy, Debug, PartialEq, Eq)]
@@ -52,78 +52,18 @@ impl Watch for Unwatched {
     }
 }
 
-/// The file of a device, of whose failures somebody is told: a disk answers a fault, and drops the reason. A step that is done costs one
-/// test more.
+/// The file of a device, of whose failures somebody is told: a disk answers a fault, and drops the reason. Its data are synced by the rule of
+/// `SparingDisk`, only where something was written since the last good sync, by any handle of the file. A step that is done costs a few tests more.
 #[derive(Drop)]
 pub struct Watched<'w, F, N> {
     file: F,
     device: Dev,
     watch: &'w N,
+    known: SharedRecord<'w>,
 }
 
-/// A disk over a file that is watched, and synced only where something was written to it since, by any of its handles.
-#[derive(Drop)]
-pub struct WatchedDisk<'w, N: Watch> {
-    sparing: SparingDisk<FileDisk<Watched<'w, File, N>>, SharedRecord<'w>>,
-}
-
-impl<'w, N: Watch> WatchedDisk<'w, N> {
-    /// Takes an opened file of this device, and measures it by its end.
-    pub(crate) fn over(
-        file: File,
-        device: Dev,
-        watch: &'w N,
-    ) -> Result<WatchedDisk<'w, N>, DiskFault> {
-        match FileDisk::over(Watched::new(file, device, watch)) {
-            Ok(disk) => Ok(WatchedDisk {
-                sparing: SparingDisk::new(disk, SharedRecord::of(watch.counts(device))),
-            }),
-            Err(fault) => Err(fault),
-        }
-    }
-}
-
-impl<'w, N: Watch> Disk for WatchedDisk<'w, N> {
-    ghost use Rattle.std.specs.Prelude.{[]};
-
-    ghost tells = { ⊥ };
-
-    ghost size = { λ d. d.sparing.inside };
-
-    ghost contents = { λ _. [] };
-
-    ghost faults = { λ _. 0 };
-
-    ghost falters = { λ _ _ _. Unit {0} };
-
-    ghost fails = { λ _. ⊥ };
-
-    fn sectors(&self) -> u64 {
-        self.sparing.sectors()
-    }
-
-    fn read(&mut self, at: u64, out: &mut Content) -> Result<(), DiskFault> {
-        self.sparing.read(at, out)
-    }
-
-    fn write(&mut self, at: u64, from: &Content) -> Result<(), DiskFault> {
-        self.sparing.write(at, from)
-    }
-
-    fn read_extent(&mut self, first: u64, out: &mut [Content]) -> Result<(), DiskFault> {
-        self.sparing.read_extent(first, out)
-    }
-
-    fn write_extent(&mut self, first: u64, from: &[Content]) -> Result<(), DiskFault> {
-        self.sparing.write_extent(first, from)
-    }
-
-    fn sync(&mut self) -> Result<(), DiskFault> {
-        self.sparing.sync()
-    }
-
-    ghost whole = { λ d h. absurd h };
-}
+/// A disk over a file that is watched.
+pub type WatchedDisk<'w, N> = FileDisk<Watched<'w, File, N>>;
 
 impl<'w, F, N: Watch> Watched<'w, F, N> {
     pub(crate) fn new(file: F, device: Dev, watch: &'w N) -> Watched<'w, F, N> {
@@ -131,6 +71,7 @@ impl<'w, F, N: Watch> Watched<'w, F, N> {
             file,
             device,
             watch,
+            known: SharedRecord::of(watch.counts(device)),
         }
     }
 
@@ -158,6 +99,8 @@ impl<'w, F: FileExt, N: Watch> FileExt for Watched<'w, F, N> {
 
     fn write_at(&self, buf: &[u8], offset: u64) -> io::Result<usize> {
         let written = self.file.write_at(buf, offset);
+        let mut known = self.known;
+        known.note_write();
         match &written {
             Ok(0) if buf.len() > 0 => {
                 self.tell(Step::Write, &io::Error::from(ErrorKind::WriteZero));
@@ -175,7 +118,10 @@ impl<'w, F: OpenFile, N: Watch> OpenFile for Watched<'w, F, N> {
     }
 
     fn set_len(&self, size: u64) -> io::Result<()> {
-        self.file.set_len(size)
+        let set = self.file.set_len(size);
+        let mut known = self.known;
+        known.note_write();
+        set
     }
 
     fn sync_all(&self) -> io::Result<()> {
@@ -187,9 +133,18 @@ impl<'w, F: OpenFile, N: Watch> OpenFile for Watched<'w, F, N> {
     }
 
     fn sync_data(&self) -> io::Result<()> {
+        let mut known = self.known;
+        if known.is_covered() {
+            return Ok(());
+        }
+        let number = known.begin_sync();
         let synced = self.file.sync_data();
-        if let Err(reason) = &synced {
-            self.tell(Step::Sync, reason);
+        match &synced {
+            Ok(()) => known.end_sync(number),
+            Err(reason) => {
+                known.note_failure();
+                self.tell(Step::Sync, reason);
+            }
         }
         synced
     }
