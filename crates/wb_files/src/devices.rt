@@ -5,9 +5,7 @@ ghost use Rattle.wb_types.specs.Limits.{IsWithinLimits};
 ghost use Rattle.wb_types.specs.declared.version.Version.TheVariants.{One};
 
 use crate::patience::Patience;
-use crate::records::SharedRecord;
 use crate::sizes::find_size_fault;
-use crate::sparing::SparingDisk;
 use crate::unopened::{Trouble, Unopened};
 use crate::watched::{Watch, Watched, WatchedDisk};
 use std::fs::{File, OpenOptions, TryLockError};
@@ -147,10 +145,9 @@ fn measured<'w, N: Watch>(
     device: Dev,
     watch: &'w N,
 ) -> Result<WatchedDisk<'w, N>, Trouble> {
-    match FileDisk::over(Watched::new(file, device, watch)) {
-        Ok(disk) => Ok(SparingDisk::new(disk, SharedRecord::of(watch.counts(device)))),
-        Err(_) => Err(Trouble::System(io::Error::from(io::ErrorKind::NotSeekable))),
-    }
+    FileDisk::over(Watched::new(file, device, watch)).map_err(|_| Trouble::System(io::Error::from(
+        io::ErrorKind::NotSeekable,
+    )))
 }
 
 /// Locks a file, and waits for whoever holds it as long as there is patience.

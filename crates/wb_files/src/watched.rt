@@ -3,7 +3,7 @@
 ghost use Rattle.std.specs.Prelude.{◌≡◌};
 
 use crate::records::{DeviceCounts, SharedRecord, SyncCounts};
-use crate::sparing::SparingDisk;
+use crate::sparing::SyncRecord;
 use std::fmt::{Display, Formatter};
 use std::fs::{File, Metadata, OpenFile};
 use std::io::{ErrorKind, Seek, SeekFrom};
@@ -52,17 +52,18 @@ impl Watch for Unwatched {
     }
 }
 
-/// The file of a device, of whose failures somebody is told: a disk answers a fault, and drops the reason. A step that is done costs one
-/// test more.
+/// The file of a device, of whose failures somebody is told: a disk answers a fault, and drops the reason. Its data are synced by the rule of
+/// `SparingDisk`, only where something was written since the last good sync, by any handle of the file. A step that is done costs a few tests more.
 #[derive(Drop)]
 pub struct Watched<'w, F, N> {
     file: F,
     device: Dev,
     watch: &'w N,
+    known: SharedRecord<'w>,
 }
 
-/// A disk over a file that is watched, and synced only where something was written to it since, by any of its handles.
-pub type WatchedDisk<'w, N> = SparingDisk<FileDisk<Watched<'w, File, N>>, SharedRecord<'w>>;
+/// A disk over a file that is watched.
+pub type WatchedDisk<'w, N> = FileDisk<Watched<'w, File, N>>;
 
 impl<'w, F, N: Watch> Watched<'w, F, N> {
     pub(crate) fn new(file: F, device: Dev, watch: &'w N) -> Watched<'w, F, N> {
@@ -70,6 +71,7 @@ impl<'w, F, N: Watch> Watched<'w, F, N> {
             file,
             device,
             watch,
+            known: SharedRecord::of(watch.counts(device)),
         }
     }
 
@@ -97,6 +99,8 @@ impl<'w, F: FileExt, N: Watch> FileExt for Watched<'w, F, N> {
 
     fn write_at(&self, buf: &[u8], offset: u64) -> io::Result<usize> {
         let written = self.file.write_at(buf, offset);
+        let mut known = self.known;
+        known.note_write();
         match &written {
             Ok(0) if buf.len() > 0 => {
                 self.tell(Step::Write, &io::Error::from(ErrorKind::WriteZero));
@@ -114,7 +118,10 @@ impl<'w, F: OpenFile, N: Watch> OpenFile for Watched<'w, F, N> {
     }
 
     fn set_len(&self, size: u64) -> io::Result<()> {
-        self.file.set_len(size)
+        let set = self.file.set_len(size);
+        let mut known = self.known;
+        known.note_write();
+        set
     }
 
     fn sync_all(&self) -> io::Result<()> {
@@ -126,9 +133,18 @@ impl<'w, F: OpenFile, N: Watch> OpenFile for Watched<'w, F, N> {
     }
 
     fn sync_data(&self) -> io::Result<()> {
+        let mut known = self.known;
+        if known.is_covered() {
+            return Ok(());
+        }
+        let number = known.begin_sync();
         let synced = self.file.sync_data();
-        if let Err(reason) = &synced {
-            self.tell(Step::Sync, reason);
+        match &synced {
+            Ok(()) => known.end_sync(number),
+            Err(reason) => {
+                known.note_failure();
+                self.tell(Step::Sync, reason);
+            }
         }
         synced
     }
