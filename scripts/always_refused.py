@@ -50,7 +50,7 @@ ROWS = [
     ("read_state", "wb_meta/read_steps", "read_state", MEMORY, "wb_tests_meta", "rounds_follow_one_another"),
     ("ReadSteps::next", "wb_meta/read_steps", "next", MEMORY, "wb_tests_meta", "a_device_of_one_node_is_read_in_three_steps"),
     ("TinyLfu::new", "wb_policy/tiny_lfu", "new", MEMORY, "wb_tests_policy", "mapped_blocks_are_placed_by_hint_then_by_cache_block"),
-    ("TinyLfu::mapped", "wb_policy/tiny_lfu", "mapped", MEMORY, "wb_tests_policy", "mapped_blocks_are_placed_by_hint_then_by_cache_block"),
+    ("TinyLfu::mapped", "wb_policy/tiny_lfu", "mapped", MEMORY, "wb_tests_policy", "a_full_cache_replaces_only_by_a_greater_estimate"),
     ("Cleaner::new", "wb_policy/cleaner", "new", MEMORY, "wb_tests_policy", "ticks"),
     ("Sketch::new", "wb_sketch/sketch", "new", MEMORY, "wb_tests_policy", "a_block_accessed_past_the_reset"),
     ("BitSet::new", "wb_bits/bit_set", "new", "return Err(AllocError);", "wb_tests_policy", "every_block_is_found_in_turn"),
