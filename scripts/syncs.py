@@ -53,7 +53,9 @@ def noted(mode, lines):
     while at < len(text):
         kind, device = text[at : at + 2].decode()
         at += 18 + int.from_bytes(text[at + 10 : at + 18], "little")
-        steps.append(kind + device)
+        # Where a sync begins, and what was answered, is noted too, and not looked at here.
+        if kind in "ws":
+            steps.append(kind + device)
     return steps
 
 
