@@ -9,9 +9,9 @@ use Rattle.wb_format.specs.declared.node.Node.{Node}
 use Rattle.wb_tree.specs.declared.placed.PlacedNode.{PlacedNode}
 use Rattle.wb_tree.specs.Reading.{Nodes}
 use Rattle.wb_dirty.specs.declared.child.Child.{Child}
-use Rattle.wb_dirty.specs.Reading.{Asked, Marks, MarksOutcome, ◌next◌, each, is_among, bits_read, children_from, names_node, is_dirty_node, reached_also, node_read, slot_of, top_read}
+use Rattle.wb_dirty.specs.Reading.{Asked, Marks, MarksOutcome, ◌next◌, each, is_among, bits_read, children_from, names_node, is_dirty_node, reached_also, node_read, dirty_top_read}
 use Rattle.wb_dirty.specs.Loading.{DirtyLoading, outcome_of, wanted_read, rest_read, left_read, EndsBy}
-use Rattle.wb_dirty.proofs.Steps.{each-none, each-append, next-same, next_ok, rest_read-next, child_read-named, child_read-unnamed, same_node_read, node_read-none, node_read-other, node_read-leaf, node_read-inner}
+use Rattle.wb_dirty.proofs.Steps.{each-none, each-append, next-same, next_ok, rest_read-next, dirty_child_read-named, dirty_child_read-unnamed, same_node_read, node_read-none, node_read-other, node_read-leaf, node_read-inner}
 
 -- the node that is wanted, and then what is left
 pub outcome-wanted : (l : DirtyLoading) (wanted : PlacedNode) (nodes : Nodes) → l.wanted ≡ Some wanted → outcome_of l nodes ≡ wanted_read l.asked nodes l.left (Some wanted) l.marks
@@ -53,7 +53,7 @@ pub rest-named : (asked : Asked) (nodes : Nodes) (items rest : List Child) (chil
 unfolding rest_of
 rest-named asked nodes items rest child node marks e named level index place =
     rest_read-next asked nodes items rest child marks e
-    ∙ ap (rest_of asked nodes rest) (child_read-named asked.root (node_read asked nodes child.level) child marks named
+    ∙ ap (rest_of asked nodes rest) (dirty_child_read-named asked.root (node_read asked nodes child.level) child marks named
     ∙ sym (same_node_read asked nodes node.level child.level node.index child.index node.place (record { 0 = child.word }) marks level index place))
 
 -- or none
@@ -61,7 +61,7 @@ pub rest-unnamed : (asked : Asked) (nodes : Nodes) (items rest : List Child) (ch
     → rest_read asked nodes items marks ≡ Err child.from
 unfolding rest_of
 rest-unnamed asked nodes items rest child marks e unnamed =
-    rest_read-next asked nodes items rest child marks e ∙ ap (rest_of asked nodes rest) (child_read-unnamed asked.root (node_read asked nodes child.level) child marks unnamed)
+    rest_read-next asked nodes items rest child marks e ∙ ap (rest_of asked nodes rest) (dirty_child_read-unnamed asked.root (node_read asked nodes child.level) child marks unnamed)
 
 -- no word is left
 pub rest-none : (asked : Asked) (nodes : Nodes) (items : List Child) (marks : Marks) → items ≡ [] → rest_read asked nodes items marks ≡ Ok marks
@@ -71,10 +71,6 @@ rest-none asked nodes items marks e = ap (λ (xs : List Child). rest_read asked 
 pub outcome-ended : (l : DirtyLoading) (nodes : Nodes) → l.wanted ≡ None → l.left ≡ [] → outcome_of l nodes ≡ Ok l.marks
 outcome-ended l nodes wanted left =
     ap (λ (o : Option PlacedNode). wanted_read l.asked nodes l.left o l.marks) wanted ∙ rest-none l.asked nodes l.left l.marks left
-
--- what is wanted is one node
-pub same_wanted : (a b : PlacedNode) → ◌≡◌ {A = Option PlacedNode} (Some a) (Some b) → a ≡ b
-same_wanted a b e = cc
 
 -- a refusal that names the place of the fault
 pub ends_there : (refusal : Refusal) (place : Place) (reading : MarksOutcome) → refusal ≡ Damaged place → reading ≡ Err place → EndsBy refusal reading
@@ -123,13 +119,13 @@ all_none {X} P k d below = absurd (omega (arith, below))
 -- ---- the top
 
 -- a root that names none
-pub top-none : (asked : Asked) (nodes : Nodes) (depth : ℕ) (top : Option Place) (marks : Marks) → top ≡ None → rest_read asked nodes [] marks ≡ top_read asked nodes depth top marks
+pub top-none : (asked : Asked) (nodes : Nodes) (depth : ℕ) (top : Option Place) (marks : Marks) → top ≡ None → rest_read asked nodes [] marks ≡ dirty_top_read asked nodes depth top marks
 top-none asked nodes depth None marks e = rest-none asked nodes [] marks refl
 top-none asked nodes depth (Some place) marks e = absurd cc
 
 -- one whose top was not reached yet
 pub top-some : (asked : Asked) (nodes : Nodes) (depth : ℕ) (o : Option Place) (top : Place) (node : PlacedNode) (marks : Marks) → o ≡ Some top → node ≡ record { level = depth; index = 0; place = top } → is_among top.0 marks.reached ≡ false
-    → wanted_read asked nodes [] (Some node) marks ≡ top_read asked nodes depth o marks
+    → wanted_read asked nodes [] (Some node) marks ≡ dirty_top_read asked nodes depth o marks
 top-some asked nodes depth None top node marks e is unread = absurd cc
 top-some asked nodes depth (Some place) top node marks e is unread =
     let same : place ≡ top = cc in
@@ -137,11 +133,3 @@ top-some asked nodes depth (Some place) top node marks e is unread =
     top_wanted asked nodes node marks
     ∙ (ap (λ (n : PlacedNode). node_read asked nodes n.level n.index n.place marks) is
     ∙ (ap (λ (p : Place). node_read asked nodes depth 0 p marks) (sym same) ∙ rw unread' refl))
-
--- one whose top was
-pub top-reached : (asked : Asked) (nodes : Nodes) (depth : ℕ) (o : Option Place) (top : Place) (marks : Marks) → o ≡ Some top → is_among top.0 marks.reached ≡ true → top_read asked nodes depth o marks ≡ Err (slot_of asked.root)
-top-reached asked nodes depth None top marks e there = absurd cc
-top-reached asked nodes depth (Some place) top marks e there =
-    let same : place ≡ top = cc in
-    let there' : is_among place.0 marks.reached ≡ true = subst (λ (p : Place). is_among p.0 marks.reached ≡ true) (sym same) there in
-    rw there' refl

@@ -14,7 +14,7 @@ use Rattle.wb_format.specs.declared.node.Node.{Node}
 use Rattle.wb_tree.specs.Reading.{Nodes}
 use Rattle.wb_tree.specs.declared.placed.PlacedNode.{PlacedNode}
 use Rattle.wb_dirty.specs.declared.child.Child.{Child}
-use Rattle.wb_dirty.specs.Reading.{Asked, Marks, MarksOutcome, ◌next◌, each, is_among, bits_read, children_from, names_node, child_read, is_dirty_node, reached_also, node_read}
+use Rattle.wb_dirty.specs.Reading.{Asked, Marks, MarksOutcome, ◌next◌, each, is_among, bits_read, children_from, names_node, dirty_child_read, is_dirty_node, reached_also, node_read}
 use Rattle.wb_dirty.specs.Loading.{left_read, rest_read}
 
 -- ---- one after the other
@@ -63,21 +63,21 @@ children-level (suc count) level index here words j =
 
 -- so they are read as children that are left are
 pub children-left : (asked : Asked) (nodes : Nodes) (level : ℕ) (children : List Child) (marks : Marks) → AllByRecursion (λ (child : Child). child.level ≡ level) children
-    → each (child_read asked.root (node_read asked nodes level)) children marks ≡ each (left_read asked nodes) children marks
+    → each (dirty_child_read asked.root (node_read asked nodes level)) children marks ≡ each (left_read asked nodes) children marks
 unfolding each
 children-left asked nodes level [] marks all = refl
 children-left asked nodes level (child ∷ children) marks all =
-    ap (λ l. child_read asked.root (node_read asked nodes l) child marks next each (child_read asked.root (node_read asked nodes level)) children) (sym all.0)
-    ∙ next-same (left_read asked nodes child marks) (each (child_read asked.root (node_read asked nodes level)) children) (each (left_read asked nodes) children)
+    ap (λ l. dirty_child_read asked.root (node_read asked nodes l) child marks next each (dirty_child_read asked.root (node_read asked nodes level)) children) (sym all.0)
+    ∙ next-same (left_read asked nodes child marks) (each (dirty_child_read asked.root (node_read asked nodes level)) children) (each (left_read asked nodes) children)
     (λ m. children-left asked nodes level children m all.1)
 
-pub child_read-named : (root : Root) (read : ℕ → Place → Marks → MarksOutcome) (child : Child) (marks : Marks) → names_node root marks.reached child ≡ true
-    → child_read root read child marks ≡ read child.index (record { 0 = child.word }) marks
-child_read-named root read child marks e = rw e refl
+pub dirty_child_read-named : (root : Root) (read : ℕ → Place → Marks → MarksOutcome) (child : Child) (marks : Marks) → names_node root marks.reached child ≡ true
+    → dirty_child_read root read child marks ≡ read child.index (record { 0 = child.word }) marks
+dirty_child_read-named root read child marks e = rw e refl
 
-pub child_read-unnamed : (root : Root) (read : ℕ → Place → Marks → MarksOutcome) (child : Child) (marks : Marks) → names_node root marks.reached child ≡ false
-    → child_read root read child marks ≡ Err child.from
-child_read-unnamed root read child marks e = rw e refl
+pub dirty_child_read-unnamed : (root : Root) (read : ℕ → Place → Marks → MarksOutcome) (child : Child) (marks : Marks) → names_node root marks.reached child ≡ false
+    → dirty_child_read root read child marks ≡ Err child.from
+dirty_child_read-unnamed root read child marks e = rw e refl
 
 -- what the test of a child means
 pub record IsNamed (root : Root) (reached : List Place) (child : Child) : Type 0 where
@@ -139,7 +139,7 @@ node_read-leaf asked nodes leaf node marks one e right =
 
 above_leaves : (asked : Asked) (nodes : Nodes) (level index : ℕ) (here : Place) (node : Node) (marks : Marks) → nodes here.0 ≡ Some node → is_dirty_node asked.root (suc (suc level)) index node ≡ true
     → node_read asked nodes (suc (suc level)) index here marks
-    ≡ each (child_read asked.root (node_read asked nodes (suc level))) (children_from 32 (suc level) index here node.words 0) (reached_also here marks)
+    ≡ each (dirty_child_read asked.root (node_read asked nodes (suc level))) (children_from 32 (suc level) index here node.words 0) (reached_also here marks)
 unfolding node_read
 above_leaves asked nodes level index here node marks e right = rw (e, right) refl
 

@@ -1,9 +1,8 @@
 -- The bits of a leaf, as they are read one after the other.
-use Rattle.std.proofs.Common.{inl, inr, ◌≡◌, ◌<◌, ◌≤◌, ◌+◌, ◌-◌, ◌*◌, ◌∙◌, ℕ, suc, Bool, true, false, List, Ok, Err, sym, ap, subst, refl, get_or, length, arith}
+use Rattle.std.proofs.Common.{◌≡◌, ◌<◌, ◌≤◌, ◌+◌, ◌-◌, ◌*◌, ◌∙◌, ℕ, suc, Bool, true, false, List, Ok, Err, sym, ap, subst, refl, get_or, length, arith}
 use Rattle.std.specs.Prelude.{slice_set}
 use Rattle.std.specs.List.{range_with_len}
-use Rattle.std.proofs.lemmas.List.{length-set, get_or_past}
-use Rattle.std.proofs.lemmas.Bool.{cases_lt}
+use Rattle.std.proofs.lemmas.List.{length-set}
 use Rattle.wb_types.specs.declared.number.Place.{Place}
 use Rattle.wb_format.specs.declared.root.Root.{Root}
 use Rattle.wb_bits.specs.BitWords.{is_member}
@@ -96,10 +95,3 @@ taken-all mapped leaf words dirty₀ dirty k h all root reached =
     let e : 2048 - k ≡ 0 = omega arith in
     h.taken root reached
     ∙ (ap (λ n. each (bit_step root mapped leaf words) (range_with_len k n) (marks_of reached dirty)) e ∙ each-none (bit_step root mapped leaf words) (marks_of reached dirty))
-
--- a member lies below the end of the list
-pub member_below : (bits : List Bool) (i : ℕ) → get_or bits i false ≡ true → i < length bits
-member_below bits i e = elim (cases_lt i (length bits)) [
-  | inl below ↦ below
-  | inr past ↦ let none : get_or bits i false ≡ false = get_or_past bits i false past in let both : true ≡ false = sym e ∙ none in absurd cc
-]

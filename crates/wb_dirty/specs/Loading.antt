@@ -8,7 +8,7 @@ use Rattle.wb_format.specs.declared.root.Root.{Root}
 use Rattle.wb_tree.specs.Reading.{Nodes}
 use Rattle.wb_tree.specs.declared.placed.PlacedNode.{PlacedNode}
 use Rattle.wb_dirty.specs.declared.child.Child.{Child}
-use Rattle.wb_dirty.specs.Reading.{Asked, Marks, MarksOutcome, ◌next◌, each, child_read, node_read, is_among}
+use Rattle.wb_dirty.specs.Reading.{Asked, Marks, MarksOutcome, ◌next◌, each, dirty_child_read, node_read, is_among}
 
 -- a reading so far: what was read, the words whose children are still to be read, the next of them last, and the node that is
 -- to be read first
@@ -19,13 +19,13 @@ pub record DirtyLoading : Type 0 where
   pub wanted : Option PlacedNode
 
 -- the levels of nodes that words may name
-pub record IsBelow (child : Child) : Type 0 where
+pub record IsLevelOfChild (child : Child) : Type 0 where
   pub from : 1 ≤ child.level
   pub to : child.level ≤ 2
 
 -- a child that is still to be read
 abbrev pub left_read : Asked → Nodes → Child → Marks → MarksOutcome
-left_read asked nodes child marks = child_read asked.root (node_read asked nodes child.level) child marks
+left_read asked nodes child marks = dirty_child_read asked.root (node_read asked nodes child.level) child marks
 
 -- all that are, one after the other
 abbrev pub rest_read : Asked → Nodes → List Child → Marks → MarksOutcome
@@ -70,14 +70,14 @@ abbrev pub ReachedWanted : DirtyLoading → DirtyLoading → Type 0
 ReachedWanted l after = (wanted : PlacedNode) → l.wanted ≡ Some wanted → after.marks.reached ≡ l.marks.reached ++ wanted.place ∷ []
 
 -- or it fails so
-abbrev pub FailsOn : DirtyLoading → Option Node → Refusal → Type 0
-FailsOn l node refusal = (wanted : PlacedNode) (nodes : Nodes) → l.wanted ≡ Some wanted → nodes wanted.place.0 ≡ node → EndsBy refusal (outcome_of l nodes)
+abbrev pub FailsOnceTold : DirtyLoading → Option Node → Refusal → Type 0
+FailsOnceTold l node refusal = (wanted : PlacedNode) (nodes : Nodes) → l.wanted ≡ Some wanted → nodes wanted.place.0 ≡ node → EndsBy refusal (outcome_of l nodes)
 
 -- What holds of every reading: it has ended where no node is wanted, it has a mark for each cache block, a node that is wanted has
 -- a level of the tree and a place that may be read.
 pub record IsDirtyLoading (l : DirtyLoading) : Type 0 where
   pub ended : l.wanted ≡ None → l.left ≡ []
-  pub levels : All IsBelow l.left
+  pub levels : All IsLevelOfChild l.left
   pub mapped : length l.asked.mapped ≡ l.asked.root.geometry.cache_blocks
   pub dirty : length l.marks.dirty ≡ l.asked.root.geometry.cache_blocks
   pub level_from : (node : PlacedNode) → l.wanted ≡ Some node → 1 ≤ node.level

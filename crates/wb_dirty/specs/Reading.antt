@@ -66,8 +66,8 @@ names_node root reached child =
     nat_le 2 child.word && nat_lt child.word root.geometry.meta_sectors && not (is_among child.word reached) && nat_lt (64 * (child.index * 32 ^ child.level)) root.geometry.cache_blocks
 
 -- a child, by what reads a node of its level
-abbrev pub child_read : Root → (ℕ → Place → Marks → MarksOutcome) → Child → Marks → MarksOutcome
-child_read root read child marks = if names_node root marks.reached child then read child.index (record { 0 = child.word }) marks else Err child.from
+abbrev pub dirty_child_read : Root → (ℕ → Place → Marks → MarksOutcome) → Child → Marks → MarksOutcome
+dirty_child_read root read child marks = if names_node root marks.reached child then read child.index (record { 0 = child.word }) marks else Err child.from
 
 -- a node is one of dirty bits that the tree has here: of this level and index, and not newer than the root
 abbrev pub is_dirty_node : Root → ℕ → ℕ → Node → Bool
@@ -78,26 +78,26 @@ abbrev pub reached_also : Place → Marks → Marks
 reached_also place marks = record marks { reached = marks.reached ++ place ∷ [] }
 
 -- the words of what is spelled here, where that is the node that the tree has here
-abbrev pub words_read : Root → ℕ → ℕ → Place → (Node → Marks → MarksOutcome) → Option Node → Marks → MarksOutcome
-words_read root level index here read None marks = Err here
-words_read root level index here read (Some node) marks = if is_dirty_node root level index node then read node (reached_also here marks) else Err here
+abbrev pub dirty_words_read : Root → ℕ → ℕ → Place → (Node → Marks → MarksOutcome) → Option Node → Marks → MarksOutcome
+dirty_words_read root level index here read None marks = Err here
+dirty_words_read root level index here read (Some node) marks = if is_dirty_node root level index node then read node (reached_also here marks) else Err here
 
 -- the node that stands at a place, and all below it
 unfoldable pub node_read : Asked → Nodes → ℕ → ℕ → Place → Marks → MarksOutcome
 node_read asked nodes zero index here marks = Err here
-node_read asked nodes (suc zero) index here marks = words_read asked.root 1 index here (λ node. bits_read asked here index node.words) (nodes here.0) marks
+node_read asked nodes (suc zero) index here marks = dirty_words_read asked.root 1 index here (λ node. bits_read asked here index node.words) (nodes here.0) marks
 node_read asked nodes (suc (suc level)) index here marks =
-    words_read asked.root (suc (suc level)) index here
-    (λ node. each (child_read asked.root (node_read asked nodes (suc level))) (children_from 32 (suc level) index here node.words 0)) (nodes here.0) marks
+    dirty_words_read asked.root (suc (suc level)) index here
+    (λ node. each (dirty_child_read asked.root (node_read asked nodes (suc level))) (children_from 32 (suc level) index here node.words 0)) (nodes here.0) marks
 
 -- the slot of a root, which has the word that names the top
-abbrev pub slot_of : Root → Place
-slot_of root = record { 0 = root.generation % 2 }
+abbrev pub slot_of_root : Root → Place
+slot_of_root root = record { 0 = root.generation % 2 }
 
 -- the tree of these levels from its top, where a root names one
-abbrev pub top_read : Asked → Nodes → ℕ → Option Place → Marks → MarksOutcome
-top_read asked nodes depth None marks = Ok marks
-top_read asked nodes depth (Some top) marks = if is_among top.0 marks.reached then Err (slot_of asked.root) else node_read asked nodes depth 0 top marks
+abbrev pub dirty_top_read : Asked → Nodes → ℕ → Option Place → Marks → MarksOutcome
+dirty_top_read asked nodes depth None marks = Ok marks
+dirty_top_read asked nodes depth (Some top) marks = if is_among top.0 marks.reached then Err (slot_of_root asked.root) else node_read asked nodes depth 0 top marks
 
 -- before any of it was read: no block is dirty, and the places of the mapping's nodes were reached
 abbrev pub none_dirty : Asked → List Place → Marks
@@ -105,4 +105,4 @@ none_dirty asked reached = record { reached = reached; dirty = replicate (length
 
 -- the dirty bits of a root, behind a mapping whose nodes stand at these places
 abbrev pub dirty_read : Asked → Nodes → List Place → MarksOutcome
-dirty_read asked nodes reached = top_read asked nodes (dirty_depth_of asked.root.geometry.cache_blocks) asked.root.top_dirty (none_dirty asked reached)
+dirty_read asked nodes reached = dirty_top_read asked nodes (dirty_depth_of asked.root.geometry.cache_blocks) asked.root.top_dirty (none_dirty asked reached)

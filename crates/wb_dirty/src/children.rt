@@ -4,7 +4,7 @@ ghost use Rattle.std.specs.Prelude.{◌≡◌, ◌≤◌, ◌<◌, ◌+◌, ◌-
 ghost use Rattle.wb_types.specs.declared.refusal.Refusal.TheVariants.{Memory as OutOfMemory};
 ghost use Rattle.wb_tree.specs.Reading.{Nodes};
 ghost use Rattle.wb_dirty.specs.Reading.{Asked, Marks, children_from, names_node};
-ghost use Rattle.wb_dirty.specs.Loading.{IsBelow, MayReach, EndsBy, rest_read, wanted_read};
+ghost use Rattle.wb_dirty.specs.Loading.{IsLevelOfChild, MayReach, EndsBy, rest_read, wanted_read};
 
 use crate::child::Child;
 use crate::reached::Reached;
@@ -20,8 +20,8 @@ pub(crate) fn put_children(
 ) -> Result<(), Refusal>
     requires from { 2 ≤ parent.level }
     requires to { parent.level ≤ 3 }
-    requires levels { All IsBelow left.old.items }
-    ensures levels { OnOk result (All IsBelow left.new.items) }
+    requires levels { All IsLevelOfChild left.old.items }
+    ensures levels { OnOk result (All IsLevelOfChild left.new.items) }
     ensures ok { OnOk result (reverse left.new.items ≡ children_from 32 (parent.level - 1) parent.index parent.place words.now 0 ++ reverse left.old.items) }
     ensures refused { IfErr result (λ refusal. refusal ≡ OutOfMemory) }
 {
@@ -44,7 +44,7 @@ pub(crate) fn put_children(
 impl Child {
     /// The node that the word names, where it names one.
     pub(crate) fn node(&self, root: &Root, reached: &Reached) -> Option<PlacedNode>
-        requires { IsBelow self.now }
+        requires { IsLevelOfChild self.now }
         ensures named { IfSome result (λ _. names_node root.now reached.now self.now ≡ true) }
         ensures level { IfSome result (λ node. node.level ≡ self.now.level) }
         ensures index { IfSome result (λ node. node.index ≡ self.now.index) }
@@ -63,7 +63,7 @@ impl Child {
 
     /// Whether it names one.
     fn is_named(&self, root: &Root, reached: &Reached) -> bool
-        requires { IsBelow self.now }
+        requires { IsLevelOfChild self.now }
         ensures { result ≡ names_node root.now reached.now self.now }
     {
         self.word >= 2
@@ -74,7 +74,7 @@ impl Child {
 
     /// Whether the bit of a cache block lies below it.
     fn is_below(&self, cache_blocks: u32) -> bool
-        requires level { IsBelow self.now }
+        requires level { IsLevelOfChild self.now }
         requires blocks { cache_blocks < 2 ^ 20 }
         ensures { result ≡ nat_lt (64 * (self.now.index * 32 ^ self.now.level)) cache_blocks }
     {
@@ -83,7 +83,7 @@ impl Child {
 
     /// The first cache block whose bit lies below it.
     fn first_block(&self) -> u64
-        requires level { IsBelow self.now }
+        requires level { IsLevelOfChild self.now }
         requires index { self.now.index < 2 ^ 20 }
         ensures { result ≡ 64 * (self.now.index * 32 ^ self.now.level) }
     {
@@ -102,8 +102,8 @@ pub(crate) fn next_wanted(
     reached: &Reached,
     left: &mut Vec<Child>,
 ) -> Result<Option<PlacedNode>, Refusal>
-    requires { All IsBelow left.old.items }
-    ensures levels { OnOk result (All IsBelow left.new.items) }
+    requires { All IsLevelOfChild left.old.items }
+    ensures levels { OnOk result (All IsLevelOfChild left.new.items) }
     ensures goes_on { IfOk result (λ wanted. (asked : Asked) (nodes : Nodes) (marks : Marks) → asked.root ≡ root.now → marks.reached ≡ reached.now
         → rest_read asked nodes left.old.items marks ≡ wanted_read asked nodes left.new.items wanted marks) }
     ensures ended { IfOk result (λ wanted. wanted ≡ None → left.new.items ≡ []) }

@@ -5,8 +5,8 @@ ghost use Rattle.wb_types.specs.declared.refusal.Refusal.TheVariants.{Memory as 
 ghost use Rattle.wb_types.specs.declared.number.Place.{Place as At};
 ghost use Rattle.wb_tree.specs.Reading.{Nodes};
 ghost use Rattle.wb_types.specs.Limits.{dirty_depth_of};
-ghost use Rattle.wb_dirty.specs.Reading.{Asked, Marks, is_dirty_node as is_right_node, slot_of as slot_in, top_read, dirty_read};
-ghost use Rattle.wb_dirty.specs.Loading.{IsBelow, outcome_of, wanted_read, rest_read, place_wanted, MayReach, EndsBy, GoesOnBy, ReachedWanted, FailsOn};
+ghost use Rattle.wb_dirty.specs.Reading.{Asked, Marks, is_dirty_node as is_right_node, slot_of_root as slot_in, dirty_top_read, dirty_read};
+ghost use Rattle.wb_dirty.specs.Loading.{IsLevelOfChild, outcome_of, wanted_read, rest_read, place_wanted, MayReach, EndsBy, GoesOnBy, ReachedWanted, FailsOnceTold};
 
 use crate::bits::take_bits;
 use crate::child::Child;
@@ -94,7 +94,7 @@ impl DirtyLoader {
         ensures asked { IfOk result (λ l. l.asked ≡ self.asked) }
         ensures idle { IfOk result (λ l. self.wanted ≡ None → l ≡ self) }
         ensures cause { IfErr result (λ _. IsSome self.wanted) }
-        ensures err { IfErr result (λ refusal. FailsOn self node refusal) }
+        ensures err { IfErr result (λ refusal. FailsOnceTold self node refusal) }
     {
         let Some(wanted) = self.wanted else {
             return Ok(self);
@@ -166,12 +166,12 @@ fn take_in(
     requires from { 1 ≤ wanted.level }
     requires to { wanted.level ≤ 3 }
     requires sizes { length dirty.old ≡ length mapped.now }
-    requires levels { All IsBelow left.old.items }
+    requires levels { All IsLevelOfChild left.old.items }
     ensures ok { OnOk result ((nodes : Nodes) (reached : List At) → nodes wanted.place.0 ≡ Some node.now
         → wanted_read (record { root = root.now; mapped = mapped.now }) nodes left.old.items (Some wanted) (record { reached = reached; dirty = dirty.old })
         ≡ rest_read (record { root = root.now; mapped = mapped.now }) nodes left.new.items (record { reached = reached ++ wanted.place ∷ []; dirty = dirty.new })) }
     ensures sizes { OnOk result (length dirty.new ≡ length dirty.old) }
-    ensures levels { OnOk result (All IsBelow left.new.items) }
+    ensures levels { OnOk result (All IsLevelOfChild left.new.items) }
     ensures err { IfErr result (λ refusal. (nodes : Nodes) (reached : List At) → nodes wanted.place.0 ≡ Some node.now
         → EndsBy refusal (wanted_read (record { root = root.now; mapped = mapped.now }) nodes left.old.items (Some wanted) (record { reached = reached; dirty = dirty.old }))) }
 {
@@ -188,12 +188,12 @@ fn take_in(
 /// The top of the dirty bits of a root, where it names one. `Damaged` with the root's slot where something was read at its place.
 fn first_wanted(root: &Root, reached: &Reached) -> Result<Option<PlacedNode>, Refusal>
     ensures begun { IfOk result (λ wanted. (asked : Asked) (nodes : Nodes) (marks : Marks) → asked.root ≡ root.now → marks.reached ≡ reached.now
-        → wanted_read asked nodes [] wanted marks ≡ top_read asked nodes (dirty_depth_of root.now.geometry.cache_blocks) root.now.top_dirty marks) }
+        → wanted_read asked nodes [] wanted marks ≡ dirty_top_read asked nodes (dirty_depth_of root.now.geometry.cache_blocks) root.now.top_dirty marks) }
     ensures fresh { IfOk result (λ wanted. IfSome wanted (λ node. MayReach root.now reached.now node.place)) }
     ensures level_from { IfOk result (λ wanted. IfSome wanted (λ node. 1 ≤ node.level)) }
     ensures level_to { IfOk result (λ wanted. IfSome wanted (λ node. node.level ≤ 3)) }
     ensures err { IfErr result (λ refusal. (asked : Asked) (nodes : Nodes) (marks : Marks) → asked.root ≡ root.now → marks.reached ≡ reached.now
-        → EndsBy refusal (top_read asked nodes (dirty_depth_of root.now.geometry.cache_blocks) root.now.top_dirty marks)) }
+        → EndsBy refusal (dirty_top_read asked nodes (dirty_depth_of root.now.geometry.cache_blocks) root.now.top_dirty marks)) }
 {
     let Some(top) = root.top_dirty else {
         return Ok(None);

@@ -3,7 +3,8 @@ use Rattle.std.proofs.lemmas.Result.{IfOk-weaker}
 use Rattle.wb_tree.specs.declared.placed.PlacedNode.{PlacedNode}
 use Rattle.wb_dirty.specs.Loading.{DirtyLoading}
 use Rattle.wb_dirty.specs.Reading.{is_dirty_node}
-use Rattle.wb_dirty.proofs.Loads.{outcome-none, outcome-other, same_wanted}
+use Rattle.wb_tree.proofs.Reading.LoaderSteps.{same_wanted}
+use Rattle.wb_dirty.proofs.Loads.{outcome-none, outcome-other}
 use Rattle.wb_dirty.proofs.loader.DirtyLoader.tell.Goals as goal
 
 pub returns-in_default-node-clause-err : goal.returns-in_default-node-clause-err
