@@ -1,7 +1,7 @@
 //! A stage without devices.
 
 ghost use Rattle.wb_tasks.specs.Plan.{Fits};
-ghost use Rattle.wb_tasks.specs.declared.step.Want.TheVariants.{Desk, Device};
+ghost use Rattle.wb_tasks.specs.declared.step.Want.TheVariants.{Cell, Desk, Device};
 ghost use Rattle.wb_tasks.specs.declared.step.DeviceStep.TheVariants.{ReadMetadata};
 ghost use Rattle.wb_tasks.specs.declared.step.DeskStep.TheVariants.{Arrive, Ask, BeginCommit};
 
@@ -43,6 +43,17 @@ impl Noted {
             refuses: row.refuses,
             meets: row.meets,
         })
+    }
+
+    fn cell(&mut self, step: CellStep) -> Got
+        ensures { Fits (Cell step) result }
+    {
+        match step {
+            CellStep::Look(_) => return Got::Word(self.fail),
+            CellStep::SetFailed => self.fail = 1,
+            _ => {}
+        }
+        Got::Done
     }
 
     fn device(&mut self, step: DeviceStep) -> Got
@@ -118,13 +129,7 @@ impl Stage for Noted {
     fn perform(&mut self, want: &Want) -> Got {
         let _ = self.wants.push(*want);
         match *want {
-            Want::Cell(CellStep::Look(_)) => Got::Word(self.fail),
-            Want::Cell(step) => {
-                if step == CellStep::SetFailed {
-                    self.fail = 1;
-                }
-                Got::Done
-            }
+            Want::Cell(step) => self.cell(step),
             Want::Device(step) => self.device(step),
             Want::Desk(step) => self.desk(step),
             Want::End(_) => unreachable!(),
