@@ -1,3 +1,6 @@
 pub mod Steps
 pub mod TakenBits
 pub mod Loads
+pub mod DirtyBits
+pub mod PlanBits
+pub mod PlanSteps

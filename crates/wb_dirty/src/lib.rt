@@ -9,6 +9,8 @@ mod bits;
 mod child;
 mod children;
 mod loader;
+mod planning;
 mod reached;
 
 pub use loader::DirtyLoader;
+pub use planning::{DirtyPlan, plan_dirty};
