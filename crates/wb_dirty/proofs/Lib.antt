@@ -4,3 +4,5 @@ pub mod Loads
 pub mod DirtyBits
 pub mod PlanBits
 pub mod PlanSteps
+pub mod DirtyNames
+pub mod ReadBack

@@ -8,9 +8,11 @@
 mod bits;
 mod child;
 mod children;
+mod law;
 mod loader;
 mod planning;
 mod reached;
 
+pub use law::read_back_law;
 pub use loader::DirtyLoader;
 pub use planning::{DirtyPlan, plan_dirty};
