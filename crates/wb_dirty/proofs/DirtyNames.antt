@@ -2,7 +2,7 @@
 use Rattle.std.proofs.Common.{◌≡◌, ◌≤◌, ◌<◌, ◌+◌, ◌-◌, ◌*◌, ◌/◌, ◌^◌, ◌&&◌, ◌∙◌, sym, ap, subst, refl, ℕ, zero, suc, Bool, true, false, cond, ◌==◌, List, [], ◌∷◌, ◌++◌, Option, Some, length, map, get_or, arith, inl, inr}
 use Rattle.std.specs.Prelude.{◌⊎◌, Contains, slice_get, option_map}
 use Rattle.std.specs.List.{AllByRecursion}
-use Rattle.std.proofs.lemmas.Bool.{eqb-true, false≢true, cases_Bool}
+use Rattle.std.proofs.lemmas.Bool.{eqb-true, false≢true}
 use Rattle.std.proofs.lemmas.Option.{slice_get-get_or, slice_get-map}
 use Rattle.std.proofs.Math.Nat.{div-one}
 use Rattle.wb_types.specs.declared.number.Place.{Place}
@@ -10,9 +10,8 @@ use Rattle.wb_types.proofs.Truth.{yes, or_true}
 use Rattle.wb_format.specs.declared.node.Node.{Node}
 use Rattle.wb_format.specs.declared.root.Root.{Root}
 use Rattle.wb_tree.specs.Mapping.{NodeName, each_from}
-use Rattle.wb_tree.specs.Images.{name_of}
 use Rattle.wb_tree.specs.Planning.{names}
-use Rattle.wb_tree.proofs.Nodes.Names.{AllByRecursion-append, AllByRecursion-weaker, IsBelow, below_up, AreApart, has, has_not, same_name, apart-append, had_left, had_right}
+use Rattle.wb_tree.proofs.Nodes.Names.{AllByRecursion-append, AllByRecursion-weaker, IsBelow, below_up, AreApart, has, has_not, same_name, apart-append, had_right}
 use Rattle.wb_dirty.specs.Reading.{is_among}
 use Rattle.wb_dirty.specs.Planning.{has_dirty, dirty_below, StandsAt}
 use Rattle.wb_dirty.specs.ReadBack.{MayBeRead}

@@ -6,3 +6,4 @@ pub mod PlanBits
 pub mod PlanSteps
 pub mod DirtyNames
 pub mod ReadBack
+pub mod PlanCounting

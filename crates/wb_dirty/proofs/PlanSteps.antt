@@ -1,33 +1,26 @@
 -- The nodes of dirty bits that are planned, one after the other.
-use Rattle.std.proofs.Common.{◌≡◌, ◌≢◌, ◌≤◌, ◌<◌, ◌+◌, ◌-◌, ◌*◌, ◌^◌, ◌∙◌, sym, ap, subst, refl, ℕ, zero, suc, Bool, true, false, cond, List, [], ◌∷◌, ◌++◌, Option, Some, None, length, map, take, get_or, append_assoc, arith, inl, inr}
+use Rattle.std.proofs.Common.{◌≡◌, ◌≤◌, ◌<◌, ◌+◌, ◌-◌, ◌*◌, ◌∙◌, sym, ap, subst, refl, ℕ, zero, suc, Bool, true, false, List, [], ◌∷◌, ◌++◌, Option, Some, None, length, take, get_or, append_assoc, arith, inl, inr}
 use Rattle.std.specs.Prelude.{Contains, slice_get, slice_index}
+use Rattle.std.proofs.lemmas.Bool.{cond-true, cond-false}
 use Rattle.std.proofs.lemmas.List.{length-append, length-map, map-append, take_more, length_push, append-nil, get_or-map, length-take, get_or-take}
 use Rattle.std.proofs.lemmas.List.Elements.{Contains-append_left, Contains-push, Contains-push_cases}
 use Rattle.std.proofs.lemmas.Option.{slice_get-get_or}
 use Rattle.wb_types.specs.declared.number.Place.{Place}
 use Rattle.wb_format.specs.declared.node.Node.{Node}
-use Rattle.wb_format.specs.NodeWords.{IsInnerWord, IsNodeWord}
+use Rattle.wb_format.specs.NodeWords.{IsInnerWord}
 use Rattle.wb_tree.specs.Mapping.{NodeName, each_from}
 use Rattle.wb_tree.specs.Images.{name_of, place_word}
 use Rattle.wb_tree.specs.Planning.{names}
 use Rattle.wb_tree.proofs.Nodes.Listing.{each_from-split}
-use Rattle.wb_dirty.specs.Planning.{has_dirty, dirty_below, StandsAt, IsPlaced, IsNamedBy, HasDirtyWords, IsPlanned, ArePlanned, Continues}
+use Rattle.wb_dirty.specs.Planning.{has_dirty, dirty_below, StandsAt, IsPlaceIfNeeded, IsNamedBy, IsPlanned, ArePlanned, Continues}
 
 -- ---- the names
-
-cond-then : (b : Bool) (nodes : List NodeName) → b ≡ true → cond b nodes [] ≡ nodes
-cond-then true nodes e = refl
-cond-then false nodes e = absurd cc
-
-cond-else : (b : Bool) (nodes : List NodeName) → b ≡ false → cond b nodes [] ≡ []
-cond-else true nodes e = absurd cc
-cond-else false nodes e = refl
 
 -- a node without a dirty block below it needs none
 pub dirty_below-none : (dirty : List Bool) (level index : ℕ) → has_dirty dirty level index ≡ false → dirty_below dirty level index ≡ []
 unfolding dirty_below
 dirty_below-none dirty zero index e = refl
-dirty_below-none dirty (suc level) index e = cond-else (has_dirty dirty (suc level) index) (each_from (dirty_below dirty level) 32 (32 * index) ++ record { level = suc level; index = index } ∷ []) e
+dirty_below-none dirty (suc level) index e = cond-false (has_dirty dirty (suc level) index) (each_from (dirty_below dirty level) 32 (32 * index) ++ record { level = suc level; index = index } ∷ []) [] e
 
 -- one with a dirty block comes behind its children
 pub dirty_below-some : (dirty : List Bool) (level index : ℕ) → 1 ≤ level → has_dirty dirty level index ≡ true
@@ -36,7 +29,7 @@ unfolding dirty_below
 dirty_below-some dirty zero index from e = absurd (omega arith)
 dirty_below-some dirty (suc level) index from e =
     let below : suc level - 1 ≡ level = omega arith in
-    rw below (cond-then (has_dirty dirty (suc level) index) (each_from (dirty_below dirty level) 32 (32 * index) ++ record { level = suc level; index = index } ∷ []) e)
+    rw below (cond-true (has_dirty dirty (suc level) index) (each_from (dirty_below dirty level) 32 (32 * index) ++ record { level = suc level; index = index } ∷ []) [] e)
 
 none_each : (dirty : List Bool) (count first : ℕ) → each_from (dirty_below dirty 0) count first ≡ []
 unfolding each_from dirty_below
@@ -121,7 +114,7 @@ contains-more old new node h there = subst (λ ns. Contains ns node) (sym h.is) 
 stands-more : (old new : List (Place × Node)) (level index : ℕ) (place : Place) → Continues old new → StandsAt old level index place → StandsAt new level index place
 stands-more old new level index place h s = record { node = s.node; there = contains-more old new (place, s.node) h s.there; level_is = s.level_is; index_is = s.index_is }
 
-pub placed-more : (dirty : List Bool) (old new : List (Place × Node)) (level index : ℕ) (place : Option Place) → Continues old new → IsPlaced dirty old level index place → IsPlaced dirty new level index place
+pub placed-more : (dirty : List Bool) (old new : List (Place × Node)) (level index : ℕ) (place : Option Place) → Continues old new → IsPlaceIfNeeded dirty old level index place → IsPlaceIfNeeded dirty new level index place
 placed-more dirty old new level index None h p = p
 placed-more dirty old new level index (Some place) h p = (p.0, stands-more old new level index place h p.1)
 
@@ -179,7 +172,7 @@ place-free dirty generation free nodes node h there =
 
 -- the place of a child is a word of its parent
 pub inner-of : (dirty : List Bool) (generation : ℕ) (free : List Place) (nodes : List (Place × Node)) (level index word : ℕ) (place : Option Place) → ArePlanned dirty generation free nodes
-    → ((i : ℕ) (p : Place) → slice_get free i ≡ Some p → 2 ≤ p.0) → IsPlaced dirty nodes level index place → word ≡ place_word place → word ≤ 4294967295 → IsInnerWord word
+    → ((i : ℕ) (p : Place) → slice_get free i ≡ Some p → 2 ≤ p.0) → IsPlaceIfNeeded dirty nodes level index place → word ≡ place_word place → word ≤ 4294967295 → IsInnerWord word
 inner-of dirty generation free nodes level index word None h behind p e fits = record { no_slot = λ same. absurd (omega arith); place = fits }
 inner-of dirty generation free nodes level index word (Some place) h behind p e fits =
     let at = place-free dirty generation free nodes (place, p.1.node) h p.1.there in

@@ -1,13 +1,14 @@
 -- A plan that was stored is read back.
-use Rattle.std.proofs.Common.{◌≡◌, ◌≢◌, ◌≤◌, ◌<◌, ◌+◌, ◌-◌, ◌*◌, ◌^◌, ◌&&◌, ◌==◌, ◌∙◌, sym, ap, subst, refl, ℕ, zero, suc, Bool, true, false, cond, not, nat_eq, nat_le, nat_lt, List, [], ◌∷◌, ◌++◌, Option, Some, None, Ok, length, map, take, get_or, set, replicate, append_assoc, slice_index, arith, inl, inr}
-use Rattle.std.specs.Prelude.{◌⊎◌, Contains, slice_get, if◌then◌else◌}
+use Rattle.std.proofs.Common.{◌≡◌, ◌≢◌, ◌≤◌, ◌<◌, ◌+◌, ◌-◌, ◌*◌, ◌^◌, ◌&&◌, ◌==◌, ◌∙◌, sym, ap, subst, refl, ℕ, zero, suc, Bool, true, false, not, nat_le, nat_lt, List, [], ◌∷◌, ◌++◌, Option, Some, None, Ok, length, map, take, get_or, replicate, append_assoc, slice_index, arith, inl, inr}
+use Rattle.std.specs.Prelude.{Contains, slice_get}
 use Rattle.std.specs.List.{range_with_len}
-use Rattle.std.proofs.lemmas.Bool.{cases_Bool, false≢true, false_from_ne_true, eqb-true, eq-eqb, ne_eqb, le-leb, lt-ltb}
-use Rattle.std.proofs.lemmas.List.{append-nil, length-append, length-map}
+use Rattle.std.specs.Cmp.{both_ways}
+use Rattle.std.proofs.lemmas.Bool.{cond-true, false≢true, false_from_ne_true, eqb-true, eq-eqb, ne_eqb, le-leb, lt-ltb}
+use Rattle.std.proofs.lemmas.List.{append-nil, length-append}
 use Rattle.std.proofs.Math.Nat.{add-mul, one-mul, pow-suc, mul_comm, mul_assoc}
 use Rattle.wb_types.specs.declared.number.Place.{Place}
 use Rattle.wb_types.specs.Limits.{dirty_depth_of}
-use Rattle.wb_types.proofs.Truth.{yes, or_true, either_true}
+use Rattle.wb_types.proofs.Truth.{or_true, either_true}
 use Rattle.wb_bits.specs.BitWords.{is_member}
 use Rattle.wb_format.specs.declared.node.Node.{Node}
 use Rattle.wb_format.specs.declared.root.Root.{Root}
@@ -19,14 +20,14 @@ use Rattle.wb_tree.specs.Reading.{Nodes}
 use Rattle.wb_tree.proofs.Nodes.Names.{AreApart, has, had_left, had_right}
 use Rattle.wb_dirty.specs.declared.child.Child.{Child}
 use Rattle.wb_dirty.specs.declared.planning.DirtyPlan.{DirtyPlan}
-use Rattle.wb_dirty.specs.Reading.{Asked, Marks, MarksOutcome, ◌next◌, each, is_among, bit_read, bits_read, children_from, names_node, is_dirty_node, reached_also, node_read, dirty_top_read, dirty_read, none_dirty}
-use Rattle.wb_dirty.specs.Loading.{MayReach, left_read}
-use Rattle.wb_dirty.specs.Planning.{has_dirty, dirty_below, dirty_names, StandsAt, IsPlaced, IsNamedBy, HasDirtyWords, IsPlanned, IsDirtyPlan}
+use Rattle.wb_dirty.specs.Reading.{Asked, Marks, MarksOutcome, ◌next◌, each, is_among, bit_read, bits_read, children_from, names_node, is_dirty_node, node_read, dirty_top_read, none_dirty}
+use Rattle.wb_dirty.specs.Loading.{left_read}
+use Rattle.wb_dirty.specs.Planning.{has_dirty, dirty_below, dirty_names, StandsAt, IsPlaceIfNeeded, IsNamedBy, IsPlanned, IsDirtyPlan}
 use Rattle.wb_dirty.specs.ReadBack.{MayBeRead, taken_places, IsStoredPlan, IsReadBack, PlanIsReadBack, TakenPlacesMayBeRead}
 use Rattle.wb_dirty.proofs.TakenBits.{marks_of}
 use Rattle.wb_dirty.proofs.Steps.{each-first, dirty_child_read-named, node_read-leaf, node_read-inner}
 use Rattle.wb_dirty.proofs.Loads.{is_among-push}
-use Rattle.wb_dirty.proofs.DirtyBits.{dirty_to, dirty_to-none, dirty_to-all, dirty_to-set, dirty_to-skip, dirty_to-skip_many, has_dirty-begins, has_dirty-none, depth-holds, depth-from}
+use Rattle.wb_dirty.proofs.DirtyBits.{dirty_to, dirty_to-none, dirty_to-all, dirty_to-set, dirty_to-skip, dirty_to-skip_many, has_dirty-begins, has_dirty-none, depth-holds}
 use Rattle.wb_dirty.proofs.DirtyNames.{dirty_each-apart, dirty_open-apart, dirty_below-apart, apart-not_both, had_either, had_itself, had_only, contained-had, stands-once, contained-place, place-once, is_among-append, contained-among, among-contained}
 use Rattle.wb_dirty.proofs.PlanSteps.{dirty_below-none, dirty_below-some, leaf_needs_none, length-names}
 
@@ -84,9 +85,6 @@ one_left all xs ys number o = record { level = o.level; index = o.index; place =
 one_right : (all : List (Place × Node)) (xs ys : List NodeName) (number : ℕ) → IsOneOf all ys number → IsOneOf all (xs ++ ys) number
 one_right all xs ys number o = record { level = o.level; index = o.index; place = o.place; had = had_right xs ys o.level o.index o.had; stands = o.stands; is = o.is }
 
-first_true : (a b : Bool) → a ≡ true → cond a true b ≡ true
-first_true a b e = rw e refl
-
 read-then : (dirty : List Bool) (all : List (Place × Node)) (xs ys : List NodeName) (reached : List Place) (middle to : ℕ) (first : MarksOutcome) (rest : Marks → MarksOutcome)
     → (one : IsRead dirty all xs reached middle first) → IsRead dirty all ys (reached ++ one.places) to (rest (marks_of (reached ++ one.places) (dirty_to middle dirty))) → IsRead dirty all (xs ++ ys) reached to (first next rest)
 read-then dirty all xs ys reached middle to first rest one two = record {
@@ -99,7 +97,7 @@ read-then dirty all xs ys reached middle to first rest one two = record {
     | inr b ↦ one_right all xs ys number (two.among number b)
   ];
   every = λ level index place h s. is_among-append place.0 one.places two.places ∙ (elim (had_either xs ys level index h) [
-    | inl a ↦ first_true (is_among place.0 one.places) (is_among place.0 two.places) (one.every level index place a s)
+    | inl a ↦ cond-true (is_among place.0 one.places) true (is_among place.0 two.places) (one.every level index place a s)
     | inr b ↦ or_true (is_among place.0 one.places) (is_among place.0 two.places) (two.every level index place b s)
   ]);
   many = length-append one.places two.places ∙ (omega (arith, one.many, two.many, length-append xs ys));
@@ -115,10 +113,6 @@ fresh-rest asked nodes dirty generation all xs ys reached to reading r apart fre
     let o = one.among place.0 t in
     let same = r.same o.level o.index level index o.place place o.stands s o.is in
     apart-not_both xs ys level index apart (subst (λ l. has xs l index ≡ true) same.0 (subst (λ i. has xs o.level i ≡ true) same.1 o.had)) h)))
-
-fresh-left : (all : List (Place × Node)) (xs ys : List NodeName) (reached : List Place) → Fresh all (xs ++ ys) reached → Fresh all xs reached
-unfolding Fresh
-fresh-left all xs ys reached fresh = λ level index place h s. fresh level index place (had_left xs ys level index h) s
 
 -- ---- a leaf
 
@@ -166,7 +160,7 @@ read-node asked nodes dirty generation all level index here children reached to 
     | inr b ↦
         let only = had_only level index l i b in
         let there : StandsAt all level index place = subst (λ n. StandsAt all n index place) (sym only.0) (subst (λ n. StandsAt all l n place) (sym only.1) t) in
-        first_true (here.0 == place.0) (is_among place.0 c.places) (eq-eqb here.0 place.0 (ap (λ (p : Place). p.0) (r.once level index here place s there)))
+        cond-true (here.0 == place.0) true (is_among place.0 c.places) (eq-eqb here.0 place.0 (ap (λ (p : Place). p.0) (r.once level index here place s there)))
   ];
   many = omega (arith, c.many, length-append children (record { level = level; index = index } ∷ []));
 }
@@ -247,7 +241,7 @@ ReadsChildren asked nodes dirty all level index here words count j i = (reached 
 
 -- the next word, and then the others
 child-next : (asked : Asked) (nodes : Nodes) (dirty : List Bool) (generation : ℕ) (all : List (Place × Node)) (level index : ℕ) (here : Place) (words : List ℕ) (count j i : ℕ) (place : Option Place) → IsReadable asked nodes dirty generation all → 1 ≤ level
-    → ReadsLevel asked nodes dirty all level → i ≡ 32 * index + j → IsPlaced dirty all level (32 * index + j) place → slice_index words j ≡ place_word place
+    → ReadsLevel asked nodes dirty all level → i ≡ 32 * index + j → IsPlaceIfNeeded dirty all level (32 * index + j) place → slice_index words j ≡ place_word place
     → ReadsChildren asked nodes dirty all level index here words count (j + 1) (i + 1) → ReadsChildren asked nodes dirty all level index here words (suc count) j i
 unfolding ReadsLevel ReadsChildren each_from start Fresh
 child-next asked nodes dirty generation all level index here words count j i None r from child e placed word rest reached fresh =
@@ -390,11 +384,6 @@ nothing_named : (nodes : List (Place × Node)) → names nodes ≡ [] → nodes 
 nothing_named [] e = refl
 nothing_named (node ∷ nodes) e = absurd cc
 
-both_ways : (a b : Bool) → (a ≡ true → b ≡ true) → (b ≡ true → a ≡ true) → a ≡ b
-both_ways true b f g = sym (f refl)
-both_ways false true f g = g refl
-both_ways false false f g = refl
-
 -- before anything of it was read
 begins : (mapped dirty : List Bool) (place : ℕ) → length mapped ≡ length dirty → place ≡ 0 → replicate (length mapped) false ≡ dirty_to place dirty
 begins mapped dirty place size e = ap (λ n. replicate n false) size ∙ (dirty_to-none dirty ∙ ap (λ n. dirty_to n dirty) (sym e))
@@ -466,7 +455,7 @@ read-back-some root nodes reached mapped dirty generation free plan top p st e s
     }
 
 by-top : (root : Root) (nodes : Nodes) (reached : List Place) (mapped dirty : List Bool) (generation : ℕ) (free : List Place) (plan : DirtyPlan) (top : Option Place) → IsDirtyPlan dirty generation free plan
-    → IsStoredPlan root nodes reached mapped dirty generation plan → plan.top ≡ top → IsPlaced dirty plan.nodes.items (dirty_depth_of (length dirty)) 0 top → IsReadBack root nodes reached mapped dirty plan
+    → IsStoredPlan root nodes reached mapped dirty generation plan → plan.top ≡ top → IsPlaceIfNeeded dirty plan.nodes.items (dirty_depth_of (length dirty)) 0 top → IsReadBack root nodes reached mapped dirty plan
 by-top root nodes reached mapped dirty generation free plan None p st e placed = read-back-none root nodes reached mapped dirty generation free plan p st e placed
 by-top root nodes reached mapped dirty generation free plan (Some top) p st e placed = read-back-some root nodes reached mapped dirty generation free plan top p st e placed.0 placed.1
 

@@ -1,18 +1,14 @@
 -- The nodes that store which cache blocks are dirty: which they are, in which order, what they say, and where they stand.
-use Rattle.std.specs.Prelude.{◌≡◌, ◌≢◌, ◌≤◌, ◌<◌, ◌+◌, ◌-◌, ◌*◌, ◌^◌, ℕ, zero, suc, Bool, true, false, if◌then◌else◌, Option, Some, None, Ok, List, [], ◌∷◌, ◌++◌, Contains, get_or, slice_get, slice_index, length, map, take, drop}
+use Rattle.std.specs.Prelude.{◌≡◌, ◌≢◌, ◌<◌, ◌+◌, ◌-◌, ◌*◌, ◌^◌, ℕ, zero, suc, Bool, true, false, if◌then◌else◌, Option, Some, None, List, [], ◌∷◌, ◌++◌, Contains, get_or, slice_index, length, map, take, drop}
 use Rattle.std.specs.List.{list_any}
 use Rattle.wb_types.specs.declared.number.Place.{Place}
 use Rattle.wb_types.specs.Limits.{dirty_depth_of}
 use Rattle.wb_bits.specs.BitWords.{is_member}
 use Rattle.wb_format.specs.declared.node.Node.{Node}
-use Rattle.wb_format.specs.declared.root.Root.{Root}
 use Rattle.wb_tree.specs.Mapping.{NodeName, each_from}
 use Rattle.wb_tree.specs.Images.{place_word}
 use Rattle.wb_tree.specs.Planning.{names}
-use Rattle.wb_tree.specs.Reading.{Nodes}
 use Rattle.wb_dirty.specs.declared.planning.DirtyPlan.{DirtyPlan}
-use Rattle.wb_dirty.specs.Reading.{dirty_read, is_among}
-use Rattle.wb_dirty.specs.Loading.{MayReach}
 
 -- the bit of a dirty block lies below a node, which has those of 64 * 32 ^ level blocks below it
 unfoldable pub has_dirty : List Bool → ℕ → ℕ → Bool
@@ -39,14 +35,14 @@ pub record StandsAt (nodes : List (Place × Node)) (level index : ℕ) (place : 
   pub index_is : node.index ≡ index
 
 -- it stands here where a dirty block lies below it, else nowhere
-abbrev pub IsPlaced : List Bool → List (Place × Node) → ℕ → ℕ → Option Place → Type 0
-IsPlaced dirty nodes level index None = has_dirty dirty level index ≡ false
-IsPlaced dirty nodes level index (Some place) = (has_dirty dirty level index ≡ true) × StandsAt nodes level index place
+abbrev pub IsPlaceIfNeeded : List Bool → List (Place × Node) → ℕ → ℕ → Option Place → Type 0
+IsPlaceIfNeeded dirty nodes level index None = has_dirty dirty level index ≡ false
+IsPlaceIfNeeded dirty nodes level index (Some place) = (has_dirty dirty level index ≡ true) × StandsAt nodes level index place
 
 -- a word names it: the word is its place, or 0 where it has none
 pub record IsNamedBy (dirty : List Bool) (nodes : List (Place × Node)) (level index word : ℕ) : Type 0 where
   pub place : Option Place
-  pub placed : IsPlaced dirty nodes level index place
+  pub placed : IsPlaceIfNeeded dirty nodes level index place
   pub spelled : word ≡ place_word place
 
 -- The words that a node of the plan has: bit k of a leaf is that of cache block 2048 i + k, and word j of a node above the leaves
@@ -76,4 +72,4 @@ pub record Continues (old new : List (Place × Node)) : Type 0 where
 pub record IsDirtyPlan (dirty : List Bool) (generation : ℕ) (free : List Place) (plan : DirtyPlan) : Type 0 where
   pub nodes_are : names plan.nodes.items ≡ dirty_names dirty
   pub planned : ArePlanned dirty generation free plan.nodes.items
-  pub top : IsPlaced dirty plan.nodes.items (dirty_depth_of (length dirty)) 0 plan.top
+  pub top : IsPlaceIfNeeded dirty plan.nodes.items (dirty_depth_of (length dirty)) 0 plan.top

@@ -10,7 +10,7 @@ ghost use Rattle.wb_format.specs.NodeWords.{IsNodeWord};
 ghost use Rattle.wb_tree.specs.Images.{place_word};
 ghost use Rattle.wb_tree.specs.Mapping.{each_from};
 ghost use Rattle.wb_tree.specs.Planning.{names};
-ghost use Rattle.wb_dirty.specs.Planning.{has_dirty, dirty_below, dirty_names, IsPlaced, IsNamedBy, ArePlanned, Continues, IsDirtyPlan};
+ghost use Rattle.wb_dirty.specs.Planning.{has_dirty, dirty_below, dirty_names, IsPlaceIfNeeded, IsNamedBy, ArePlanned, Continues, IsDirtyPlan};
 
 use std::alloc::Global;
 use wb_bits::BitSet;
@@ -58,7 +58,7 @@ pub fn plan_dirty(
 }
 
 /// The levels of the tree of dirty bits of so many cache blocks.
-fn depth(cache_blocks: usize) -> u32
+pub(crate) fn depth(cache_blocks: usize) -> u32
     requires { cache_blocks ≤ 1048576 }
     ensures value { result ≡ dirty_depth_of cache_blocks }
     ensures from { 1 ≤ result }
@@ -92,7 +92,7 @@ fn plan_node(
     ensures names { OnOk result (names nodes.new.items ≡ names nodes.old.items ++ dirty_below plan.now.dirty.now level index) }
     ensures continues { OnOk result (Continues nodes.old.items nodes.new.items) }
     ensures planned { OnOk result (ArePlanned plan.now.dirty.now plan.now.generation plan.now.free.now nodes.new.items) }
-    ensures place { IfOk result (IsPlaced plan.now.dirty.now nodes.new.items level index) }
+    ensures place { IfOk result (IsPlaceIfNeeded plan.now.dirty.now nodes.new.items level index) }
     ensures refused { IfErr result (λ refusal. refusal ≡ OutOfMemory) }
 {
     if !is_any_below(plan.dirty, level, index) {
@@ -151,7 +151,7 @@ fn plan_words(
 }
 
 /// Whether the bit of a dirty block lies below a node.
-fn is_any_below(dirty: &BitSet, level: u32, index: u32) -> bool
+pub(crate) fn is_any_below(dirty: &BitSet, level: u32, index: u32) -> bool
     requires level_from { 1 ≤ level }
     requires level_to { level ≤ 3 }
     requires index { index < 2 ^ 20 }

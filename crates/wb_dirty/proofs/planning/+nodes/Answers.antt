@@ -8,7 +8,7 @@ use Rattle.wb_tree.proofs.Nodes.Listing.{each_from-none}
 use Rattle.wb_tree.proofs.Images.PlanWords.{words_everywhere, IsInnerWord-zero}
 use Rattle.wb_tree.proofs.Images.PlanSteps.{child-more}
 use Rattle.wb_dirty.specs.Planning.{dirty_below, has_dirty, IsNamedBy}
-use Rattle.wb_dirty.proofs.DirtyBits.{has_dirty-begins, has_dirty-low}
+use Rattle.wb_dirty.proofs.DirtyBits.{has_dirty-low}
 use Rattle.wb_dirty.proofs.PlanSteps.{dirty_below-none, leaf_needs_none, place-left, places-below, places-next, listed-node, continues-self, continues-both, continues-same, continues-push, named-more, planned-push, stands-pushed, inner-of}
 use Rattle.wb_dirty.proofs.planning.+nodes.Goals as goal
 

@@ -1,4 +1,4 @@
-use Rattle.std.proofs.Common.{◌≡◌, ◌≤◌, ◌<◌, ◌+◌, ◌-◌, ◌*◌, ◌++◌, ℕ, length, slice_index}
+use Rattle.std.proofs.Common.{◌≡◌, ◌<◌, ◌+◌, ◌-◌, ◌*◌, ◌++◌, ℕ, length, slice_index}
 use Rattle.wb_format.specs.NodeWords.{IsInnerWord}
 use Rattle.wb_tree.specs.Mapping.{each_from}
 use Rattle.wb_tree.specs.Planning.{names}
