@@ -162,13 +162,3 @@ depth-holds blocks few = elim (cases_lt 2048 blocks) [
     | inl more ↦ subst (λ n. blocks ≤ 64 * 32 ^ n) (depth-three blocks more few) (let most : blocks ≤ 2097152 = omega arith in most)
   ]
 ]
-
--- a tree has a level, and three at most
-pub depth-from : (blocks : ℕ) → blocks ≤ 1048576 → 1 ≤ dirty_depth_of blocks
-depth-from blocks few = elim (cases_lt 2048 blocks) [
-  | inr one ↦ omega (arith, depth-one blocks one)
-  | inl many ↦ elim (cases_lt 65536 blocks) [
-    | inr two ↦ omega (arith, depth-two blocks many two)
-    | inl more ↦ omega (arith, depth-three blocks more few)
-  ]
-]

@@ -26,14 +26,12 @@ counted-more dirty level first j count one h same most =
     ap length (each_from-more (dirty_below dirty level) j first) ∙ length-append (each_from (dirty_below dirty level) j first) (dirty_below dirty level (first + j)) in
     record { is = omega (arith, h.is, all, same); most = omega (arith, h.most, most, add-mul j 1 (32 ^ level)) }
 
-few_at : (level : ℕ) → level ≤ 3 → 32 ^ level ≤ 32768
-few_at level to = pow-le-pow_right (omega arith) to
-
 -- a number that fits
 pub counted-fits : (dirty : List Bool) (level first j count one : ℕ) → level ≤ 3 → j < 32 → IsCountedTo dirty level first j count → 31 * one < 32 ^ level → count + one < 2 ^ 32
 counted-fits dirty level first j count one to less h most =
     let up : j * 32 ^ level ≤ 32 * 32 ^ level = mul-le-mul_right (32 ^ level) (omega arith) in
-    omega (arith, h.most, up, few_at level to, most)
+    let few : 32 ^ level ≤ 32768 = pow-le-pow_right (omega arith) to in
+    omega (arith, h.most, up, few, most)
 
 pub some_at : (level : ℕ) → 0 < 32 ^ level
 some_at level = one-le-pow level 32 (omega arith)
