@@ -1,2 +1,4 @@
 pub mod Reading
 pub mod Loading
+pub mod Planning
+pub mod ReadBack

@@ -8,7 +8,13 @@
 mod bits;
 mod child;
 mod children;
+mod counting;
+mod law;
 mod loader;
+mod planning;
 mod reached;
 
+pub use counting::dirty_nodes_of;
+pub use law::read_back_law;
 pub use loader::DirtyLoader;
+pub use planning::{DirtyPlan, plan_dirty};

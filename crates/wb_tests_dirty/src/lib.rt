@@ -2,6 +2,8 @@
 #![tactic(auto)]
 
 #[cfg(test)]
+mod planning;
+#[cfg(test)]
 mod reading;
 #[cfg(test)]
 mod sectors;
