@@ -1,3 +1,5 @@
 pub mod Steps
 pub mod TakenBits
 pub mod Loads
+pub mod MappingsFound
+pub mod Images

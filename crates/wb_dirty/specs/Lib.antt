@@ -1,2 +1,4 @@
 pub mod Reading
 pub mod Loading
+pub mod ImageReading
+pub mod ImageLoading

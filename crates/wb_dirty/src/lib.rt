@@ -8,7 +8,11 @@
 mod bits;
 mod child;
 mod children;
+mod image_loader;
+mod image_part;
+mod image_steps;
 mod loader;
 mod reached;
 
+pub use image_loader::ImageLoader;
 pub use loader::DirtyLoader;
