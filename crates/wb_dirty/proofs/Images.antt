@@ -175,7 +175,7 @@ image-behind root l nodes tree mapped places others reading named same ended are
     ∙ ap (λ (r : ReadOutcome). r then bits_behind root others root.top_dirty) (sym ended)))
 
 -- nothing was reached behind the mapping
-pub front_alone : (nodes : List PlacedNode) (reached : List Place) → reached ≡ map (λ node. node.place) nodes → drop (length nodes) reached ≡ []
+front_alone : (nodes : List PlacedNode) (reached : List Place) → reached ≡ map (λ node. node.place) nodes → drop (length nodes) reached ≡ []
 front_alone nodes reached e =
     let places : List Place = map (λ (node : PlacedNode). node.place) nodes in
     ap (λ (ps : List Place). drop (length nodes) ps) (e ∙ sym (append-nil places))
@@ -185,6 +185,9 @@ pub front-begun : (nodes : List PlacedNode) (reached : List Place) → reached �
 front-begun nodes reached e =
     let places : List Place = map (λ (node : PlacedNode). node.place) nodes in
     e ∙ (sym (append-nil places) ∙ ap (λ (ps : List Place). places ++ ps) (sym (front_alone nodes reached e)))
+
+pub reached_alone : (nodes : List PlacedNode) (reached : List Place) → reached ≡ map (λ node. node.place) nodes → nodes ++ map dirty_node (drop (length nodes) reached) ≡ nodes
+reached_alone nodes reached e = ap (λ (ps : List Place). nodes ++ map dirty_node ps) (front_alone nodes reached e) ∙ append-nil nodes
 
 -- ---- dirty bits are read
 
