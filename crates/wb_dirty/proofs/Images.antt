@@ -1,5 +1,6 @@
 -- A reading of an image that goes over from its mapping to its dirty bits, and goes on with these.
 use Rattle.std.proofs.Common.{◌≡◌, ◌≤◌, ◌+◌, ◌-◌, ◌∙◌, sym, ap, subst, refl, ℕ, Bool, true, false, cond, nat_eq, List, [], ◌∷◌, ◌++◌, Option, Some, None, Ok, Err, IsSome, is_some, length, map, drop, append_assoc, append-nil, arith}
+use Rattle.std.specs.Prelude.{IfSome}
 use Rattle.std.proofs.Math.Seq.{drop-append_seam}
 use Rattle.std.proofs.lemmas.Bool.{ne_eqb}
 use Rattle.std.proofs.lemmas.Bool.Decides.{nat_tests}
@@ -68,6 +69,23 @@ ends_fail GenerationEnd mapping reading ends = absurd ends
 pub memory_fails : (refusal : Refusal) (reading : ReadOutcome) → refusal ≡ Memory → FailsBy refusal reading
 memory_fails refusal reading e = subst (λ (r : Refusal). FailsBy r reading) (sym e) tt
 
+-- ---- what is wanted
+
+-- the node whose place is wanted
+pub record IsPlaceWanted (o : Option PlacedNode) (place : Place) : Type 0 where
+  pub node : PlacedNode
+  pub some : o ≡ Some node
+  pub there : node.place ≡ place
+
+pub place_wanted-is : (o : Option PlacedNode) (place : Place) → wanted_place o ≡ Some place → IsPlaceWanted o place
+place_wanted-is None place e = absurd cc
+place_wanted-is (Some node) place e = record { node = node; some = refl; there = cc }
+
+-- what holds where another thing does
+pub IfSome-weaker : {X : Type 0} (o : Option X) (P Q : X → Type 0) → ((x : X) → P x → Q x) → IfSome o P → IfSome o Q
+IfSome-weaker {X} None P Q f h = tt
+IfSome-weaker {X} (Some x) P Q f h = f x h
+
 -- ---- places
 
 -- the places that were reached, the mapping's and those of dirty bits behind them
@@ -95,11 +113,11 @@ told_with told here node place = cond (nat_eq here place) node (told place)
 
 told_with-here : (told : Nodes) (here : ℕ) (node : Option Node) → told_with told here node here ≡ node
 unfolding told_with
-told_with-here told here node = let yes : nat_eq here here ≡ true = grind (arith, nat_tests) in rw yes refl
+told_with-here told here what = let yes : nat_eq here here ≡ true = grind (arith, nat_tests) in rw yes refl
 
 told_with-there : (told : Nodes) (here : ℕ) (node : Option Node) (place : ℕ) → nat_eq here place ≡ false → told_with told here node place ≡ told place
 unfolding told_with
-told_with-there told here node place e = rw e refl
+told_with-there told here what place e = rw e refl
 
 other_than : (here place : ℕ) (reached : List PlacedNode) → is_reached here reached ≡ false → is_reached place reached ≡ true → nat_eq here place ≡ false
 other_than here place reached unread r = ne_eqb here place (λ same. let both : true ≡ false = sym r ∙ (ap (λ p. is_reached p reached) (sym same) ∙ unread) in cc)
@@ -114,12 +132,12 @@ split_unread true r e = absurd cc
 split_unread false r e = (refl, e)
 
 same_told : (told : Nodes) (here : ℕ) (node : Option Node) (reached : List PlacedNode) → is_reached here reached ≡ false → as_told (told_with told here node) reached ≡ as_told told reached
-same_told told here node [] unread = refl
-same_told told here node (first ∷ reached) unread =
+same_told told here what [] unread = refl
+same_told told here what (first ∷ reached) unread =
     let parts = split_unread (nat_eq first.place.0 here) (is_reached here reached) unread in
     let apart : nat_eq here first.place.0 ≡ false = ne_eqb here first.place.0 (λ same. let yes : nat_eq first.place.0 here ≡ true = grind (arith, nat_tests) in let both : true ≡ false = sym yes ∙ parts.0 in cc) in
-    ap (λ (o : Option Node). node_told o first.place ∷ as_told (told_with told here node) reached) (told_with-there told here node first.place.0 apart)
-    ∙ ap (λ (rest : List PlacedNode). node_told (told first.place.0) first.place ∷ rest) (same_told told here node reached parts.1)
+    ap (λ (o : Option Node). node_told o first.place ∷ as_told (told_with told here what) reached) (told_with-there told here what first.place.0 apart)
+    ∙ ap (λ (rest : List PlacedNode). node_told (told first.place.0) first.place ∷ rest) (same_told told here what reached parts.1)
 
 -- one node more was told
 pub ahead_more : (root : Root) (l next : Loading) (wanted : PlacedNode) (node : Option Node) (nodes more : List PlacedNode) → IsAhead root l nodes → is_reached wanted.place.0 l.found.reached ≡ false → next.root ≡ l.root
