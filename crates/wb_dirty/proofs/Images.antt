@@ -1,6 +1,7 @@
 -- A reading of an image that goes over from its mapping to its dirty bits, and goes on with these.
 use Rattle.std.proofs.Common.{◌≡◌, ◌≤◌, ◌+◌, ◌-◌, ◌∙◌, sym, ap, subst, refl, ℕ, Bool, true, false, cond, nat_eq, List, [], ◌∷◌, ◌++◌, Option, Some, None, Ok, Err, IsSome, is_some, length, map, drop, append_assoc, append-nil, arith}
-use Rattle.std.specs.Prelude.{IfSome}
+use Rattle.std.specs.Prelude.{Result, IfSome, IfErr}
+use Rattle.std.specs.Result.{IsErrAnd}
 use Rattle.std.proofs.Math.Seq.{drop-append_seam}
 use Rattle.std.proofs.lemmas.Bool.{ne_eqb}
 use Rattle.std.proofs.lemmas.Bool.Decides.{nat_tests}
@@ -68,6 +69,11 @@ ends_fail GenerationEnd mapping reading ends = absurd ends
 
 pub memory_fails : (refusal : Refusal) (reading : ReadOutcome) → refusal ≡ Memory → FailsBy refusal reading
 memory_fails refusal reading e = subst (λ (r : Refusal). FailsBy r reading) (sym e) tt
+
+-- what holds of the refusal that a `?` hands on
+pub handed : {T E : Type 0} (r : Result T E) (refusal : E) (P : E → Type 0) → IsErrAnd r (λ e. e ≡ refusal) → P refusal → IfErr r P
+handed (Ok x) refusal P is h = tt
+handed (Err e) refusal P is h = subst P (sym is) h
 
 -- ---- what is wanted
 

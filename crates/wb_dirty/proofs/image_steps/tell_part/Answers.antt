@@ -1,5 +1,4 @@
-use Rattle.std.proofs.Common.{◌≡◌, ◌∙◌, sym, ap, subst, Some, Result, Ok, Err, IfErr, ◌++◌, ◌∷◌, []}
-use Rattle.std.specs.Result.{IsErrAnd}
+use Rattle.std.proofs.Common.{◌≡◌, ◌∙◌, sym, ap, subst, Some, ◌++◌, ◌∷◌, []}
 use Rattle.std.proofs.lemmas.Result.{IfOk-weaker, IfErr-weaker}
 use Rattle.wb_tree.specs.declared.placed.PlacedNode.{PlacedNode}
 use Rattle.wb_tree.specs.Reading.{ReadOutcome, ◌then◌}
@@ -9,13 +8,8 @@ use Rattle.wb_dirty.specs.Loading.{outcome_of}
 use Rattle.wb_dirty.specs.ImageReading.{bits_behind, found_with, outcome_with}
 use Rattle.wb_dirty.specs.declared.image_part.ImagePart.{ImagePart}
 use Rattle.wb_dirty.specs.ImageLoading.{IsImagePart, found_in, found_so_far, next_node, part_of, part_outcome, part_mapping_outcome}
-use Rattle.wb_dirty.proofs.Images.{dirty_wanted-is, behind_told, reached_more, ends_fail, fails_then}
+use Rattle.wb_dirty.proofs.Images.{dirty_wanted-is, behind_told, reached_more, ends_fail, fails_then, handed}
 use Rattle.wb_dirty.proofs.image_steps.tell_part.Goals as goal
-
--- what holds of the refusal that a `?` hands on
-handed : {T E : Type 0} (r : Result T E) (refusal : E) (P : E → Type 0) → IsErrAnd r (λ e. e ≡ refusal) → P refusal → IfErr r P
-handed (Ok x) refusal P is h = tt
-handed (Err e) refusal P is h = subst P (sym is) h
 
 pub returns-in_err-tell-in-Alone-clause-err : goal.returns-in_err-tell-in-Alone-clause-err
 returns-in_err-tell-in-Alone-clause-err g c =
