@@ -21,13 +21,13 @@ use Rattle.wb_dirty.specs.ImageReading.{dirty_node, places_reached, asked_behind
 use Rattle.wb_dirty.proofs.Images.{reached-behind}
 
 -- places were reached behind those before, and where the same is read at all of them, another reading gives the same
-record MarksFollow (a b : Nodes) (other : MarksOutcome) (marks next : Marks) : Type 0 where
+record MarksFollow (a b : Nodes) (other : MarksOutcome) (marks after : Marks) : Type 0 where
   rest : List Place
-  grows : next.reached ≡ marks.reached ++ rest
-  same : AgreeOn next.reached a b → other ≡ Ok next
+  grows : after.reached ≡ marks.reached ++ rest
+  same : AgreeOn after.reached a b → other ≡ Ok after
 
 abbrev MarksFollowing : Nodes → Nodes → (Marks → MarksOutcome) → (Marks → MarksOutcome) → Type 0
-MarksFollowing a b read other = (marks next : Marks) → read marks ≡ Ok next → MarksFollow a b (other marks) marks next
+MarksFollowing a b read other = (marks after : Marks) → read marks ≡ Ok after → MarksFollow a b (other marks) marks after
 
 among-front : (place : ℕ) (xs ys : List Place) → is_among place xs ≡ true → is_among place (xs ++ ys) ≡ true
 among-front place [] ys r = absurd cc
@@ -38,53 +38,53 @@ among-front place (first ∷ xs) ys r = by_test (nat_eq first.0 place) (is_among
     by_test false r s e f = f e
 
 -- what was reached before is still reached
-before_too : (a b : Nodes) (other : MarksOutcome) (marks next : Marks) → MarksFollow a b other marks next → (place : ℕ) → is_among place marks.reached ≡ true → is_among place next.reached ≡ true
-before_too a b other marks next h place r = ap (is_among place) h.grows ∙ among-front place marks.reached h.rest r
+before_too : (a b : Nodes) (other : MarksOutcome) (marks after : Marks) → MarksFollow a b other marks after → (place : ℕ) → is_among place marks.reached ≡ true → is_among place after.reached ≡ true
+before_too a b other marks after h place r = ap (is_among place) h.grows ∙ among-front place marks.reached h.rest r
 
-next_both : (reading : MarksOutcome) (go_on : Marks → MarksOutcome) (next : Marks) → (reading next go_on) ≡ Ok next → (marks : Marks) × (reading ≡ Ok marks) × (go_on marks ≡ Ok next)
-next_both (Ok marks) go_on next e = (marks, refl, e)
-next_both (Err place) go_on next e = absurd cc
+next_both : (reading : MarksOutcome) (go_on : Marks → MarksOutcome) (after : Marks) → (reading next go_on) ≡ Ok after → (marks : Marks) × (reading ≡ Ok marks) × (go_on marks ≡ Ok after)
+next_both (Ok marks) go_on after e = (marks, refl, e)
+next_both (Err place) go_on after e = absurd cc
 
-marks_kept : (a b : Nodes) (marks made next : Marks) → made.reached ≡ marks.reached → ◌≡◌ {A = MarksOutcome} (Ok made) (Ok next) → MarksFollow a b (Ok made) marks next
-marks_kept a b marks made next same e =
-    let is : made ≡ next = cc in
+marks_kept : (a b : Nodes) (marks made after : Marks) → made.reached ≡ marks.reached → ◌≡◌ {A = MarksOutcome} (Ok made) (Ok after) → MarksFollow a b (Ok made) marks after
+marks_kept a b marks made after same e =
+    let is : made ≡ after = cc in
     record { rest = []; grows = ap (λ (m : Marks). m.reached) (sym is) ∙ (same ∙ sym (append-nil marks.reached)); same = λ agree. e }
 
 each_follow : {X : Type 0} (a b : Nodes) (step other : X → Marks → MarksOutcome) → ((x : X) → MarksFollowing a b (step x) (other x)) → (xs : List X) → MarksFollowing a b (each step xs) (each other xs)
 unfolding each
-each_follow {X} a b step other h [] marks next e = marks_kept a b marks marks next refl e
-each_follow {X} a b step other h (x ∷ xs) marks next e =
-    let w = next_both (step x marks) (each step xs) next e in
+each_follow {X} a b step other h [] marks after e = marks_kept a b marks marks after refl e
+each_follow {X} a b step other h (x ∷ xs) marks after e =
+    let w = next_both (step x marks) (each step xs) after e in
     let one = h x marks w.0 w.1 in
-    let rest = each_follow a b step other h xs w.0 next w.2 in
+    let rest = each_follow a b step other h xs w.0 after w.2 in
     record {
       rest = one.rest ++ rest.rest;
       grows = rest.grows ∙ (ap (λ (ps : List Place). ps ++ rest.rest) one.grows ∙ append_assoc marks.reached one.rest rest.rest);
       same = λ agree.
-          ap (λ (r : MarksOutcome). r next each other xs) (one.same (λ place r. agree place (before_too a b (each other xs w.0) w.0 next rest place r))) ∙ rest.same agree;
+          ap (λ (r : MarksOutcome). r next each other xs) (one.same (λ place r. agree place (before_too a b (each other xs w.0) w.0 after rest place r))) ∙ rest.same agree;
     }
 
 -- a bit reaches nothing
 bit_follow : (a b : Nodes) (asked : Asked) (here : Place) (block : ℕ) (bit : Bool) → MarksFollowing a b (bit_read asked here block bit) (bit_read asked here block bit)
-bit_follow a b asked here block false marks next e = marks_kept a b marks marks next refl e
-bit_follow a b asked here block true marks next e = by_entry (get_or asked.mapped block false) _ refl e
+bit_follow a b asked here block false marks after e = marks_kept a b marks marks after refl e
+bit_follow a b asked here block true marks after e = by_entry (get_or asked.mapped block false) _ refl e
   where
-    by_entry : (test : Bool) (made : Marks) → made.reached ≡ marks.reached → (if test then Ok made else Err here) ≡ Ok next → MarksFollow a b (if test then Ok made else Err here) marks next
-    by_entry true made same e = marks_kept a b marks made next same e
+    by_entry : (test : Bool) (made : Marks) → made.reached ≡ marks.reached → (if test then Ok made else Err here) ≡ Ok after → MarksFollow a b (if test then Ok made else Err here) marks after
+    by_entry true made same e = marks_kept a b marks made after same e
     by_entry false made same e = absurd cc
 
 child_follow : (a b : Nodes) (root : Root) (read other : ℕ → Place → Marks → MarksOutcome) → ((index : ℕ) (place : Place) → MarksFollowing a b (read index place) (other index place)) → (child : Child)
     → MarksFollowing a b (dirty_child_read root read child) (dirty_child_read root other child)
-child_follow a b root read other h child marks next e = by_name (names_node root marks.reached child) e
+child_follow a b root read other h child marks after e = by_name (names_node root marks.reached child) e
   where
-    by_name : (test : Bool) → (if test then read child.index (record { 0 = child.word }) marks else Err child.from) ≡ Ok next
-        → MarksFollow a b (if test then other child.index (record { 0 = child.word }) marks else Err child.from) marks next
-    by_name true e = h child.index (record { 0 = child.word }) marks next e
+    by_name : (test : Bool) → (if test then read child.index (record { 0 = child.word }) marks else Err child.from) ≡ Ok after
+        → MarksFollow a b (if test then other child.index (record { 0 = child.word }) marks else Err child.from) marks after
+    by_name true e = h child.index (record { 0 = child.word }) marks after e
     by_name false e = absurd cc
 
-right_both : (test : Bool) (here : Place) (reading : MarksOutcome) (next : Marks) → (if test then reading else Err here) ≡ Ok next → (test ≡ true) × (reading ≡ Ok next)
-right_both true here reading next e = (refl, e)
-right_both false here reading next e = absurd cc
+right_both : (test : Bool) (here : Place) (reading : MarksOutcome) (after : Marks) → (if test then reading else Err here) ≡ Ok after → (test ≡ true) × (reading ≡ Ok after)
+right_both true here reading after e = (refl, e)
+right_both false here reading after e = absurd cc
 
 among_last : (place : Place) (xs : List Place) → is_among place.0 (xs ++ place ∷ []) ≡ true
 among_last place [] = ap (λ (t : Bool). cond t true false) (yes place.0)
@@ -95,42 +95,42 @@ among_last place (first ∷ xs) = ap (λ (r : Bool). cond (nat_eq first.0 place.
     either false = refl
 
 words_follow : (a b : Nodes) (root : Root) (level index : ℕ) (here : Place) (read other : Node → Marks → MarksOutcome) → ((node : Node) → MarksFollowing a b (read node) (other node)) → (was : Option Node) → a here.0 ≡ was
-    → (marks next : Marks) → dirty_words_read root level index here read was marks ≡ Ok next → MarksFollow a b (dirty_words_read root level index here other (b here.0) marks) marks next
-words_follow a b root level index here read other h None is marks next e = absurd cc
-words_follow a b root level index here read other h (Some node) is marks next e =
-    let w = right_both (is_dirty_node root level index node) here (read node (reached_also here marks)) next e in
-    let rest = h node (reached_also here marks) next w.1 in
+    → (marks after : Marks) → dirty_words_read root level index here read was marks ≡ Ok after → MarksFollow a b (dirty_words_read root level index here other (b here.0) marks) marks after
+words_follow a b root level index here read other h None is marks after e = absurd cc
+words_follow a b root level index here read other h (Some node) is marks after e =
+    let w = right_both (is_dirty_node root level index node) here (read node (reached_also here marks)) after e in
+    let rest = h node (reached_also here marks) after w.1 in
     record {
       rest = here ∷ rest.rest;
       grows = rest.grows ∙ append_assoc marks.reached (here ∷ []) rest.rest;
       same = λ agree.
-          let there : b here.0 ≡ Some node = sym (agree here.0 (before_too a b (other node (reached_also here marks)) (reached_also here marks) next rest here.0 (among_last here marks.reached))) ∙ is in
+          let there : b here.0 ≡ Some node = sym (agree here.0 (before_too a b (other node (reached_also here marks)) (reached_also here marks) after rest here.0 (among_last here marks.reached))) ∙ is in
           ap (λ (o : Option Node). dirty_words_read root level index here other o marks) there
           ∙ (ap (λ (test : Bool). if test then other node (reached_also here marks) else Err here) w.0 ∙ rest.same agree);
     }
 
 node_follow : (a b : Nodes) (asked : Asked) (level index : ℕ) (here : Place) → MarksFollowing a b (node_read asked a level index here) (node_read asked b level index here)
 unfolding node_read
-node_follow a b asked zero index here marks next e = absurd cc
-node_follow a b asked (suc zero) index here marks next e =
+node_follow a b asked zero index here marks after e = absurd cc
+node_follow a b asked (suc zero) index here marks after e =
     words_follow a b asked.root 1 index here _ _
-    (λ node. each_follow a b _ _ (λ k. bit_follow a b asked here (2048 * index + k) (is_member node.words k)) (range_with_len 0 2048)) (a here.0) refl marks next e
-node_follow a b asked (suc (suc level)) index here marks next e =
+    (λ node. each_follow a b _ _ (λ k. bit_follow a b asked here (2048 * index + k) (is_member node.words k)) (range_with_len 0 2048)) (a here.0) refl marks after e
+node_follow a b asked (suc (suc level)) index here marks after e =
     words_follow a b asked.root (suc (suc level)) index here _ _
     (λ node. each_follow a b _ _ (child_follow a b asked.root (node_read asked a (suc level)) (node_read asked b (suc level)) (λ i place. node_follow a b asked (suc level) i place))
-    (children_from 32 (suc level) index here node.words 0)) (a here.0) refl marks next e
+    (children_from 32 (suc level) index here node.words 0)) (a here.0) refl marks after e
 
 top_follow : (a b : Nodes) (asked : Asked) (depth : ℕ) (top : Option Place) → MarksFollowing a b (dirty_top_read asked a depth top) (dirty_top_read asked b depth top)
-top_follow a b asked depth None marks next e = marks_kept a b marks marks next refl e
-top_follow a b asked depth (Some top) marks next e = by_test (is_among top.0 marks.reached) _ e
+top_follow a b asked depth None marks after e = marks_kept a b marks marks after refl e
+top_follow a b asked depth (Some top) marks after e = by_test (is_among top.0 marks.reached) _ e
   where
-    by_test : (test : Bool) (slot : Place) → (if test then Err slot else node_read asked a depth 0 top marks) ≡ Ok next → MarksFollow a b (if test then Err slot else node_read asked b depth 0 top marks) marks next
+    by_test : (test : Bool) (slot : Place) → (if test then Err slot else node_read asked a depth 0 top marks) ≡ Ok after → MarksFollow a b (if test then Err slot else node_read asked b depth 0 top marks) marks after
     by_test true slot e = absurd cc
-    by_test false slot e = node_follow a b asked depth 0 top marks next e
+    by_test false slot e = node_follow a b asked depth 0 top marks after e
 
 -- dirty bits that are read without a fault are read so from all sectors that read the same at the places that were reached
-pub dirty_following : (a b : Nodes) (asked : Asked) (reached : List Place) (next : Marks) → dirty_read asked a reached ≡ Ok next → AgreeOn next.reached a b → dirty_read asked b reached ≡ Ok next
-dirty_following a b asked reached next e agree = (top_follow a b asked (dirty_depth_of asked.root.geometry.cache_blocks) asked.root.top_dirty (none_dirty asked reached) next e).same agree
+pub dirty_following : (a b : Nodes) (asked : Asked) (reached : List Place) (after : Marks) → dirty_read asked a reached ≡ Ok after → AgreeOn after.reached a b → dirty_read asked b reached ≡ Ok after
+dirty_following a b asked reached after e agree = (top_follow a b asked (dirty_depth_of asked.root.geometry.cache_blocks) asked.root.top_dirty (none_dirty asked reached) after e).same agree
 
 -- ---- an image
 
@@ -160,9 +160,12 @@ bits_follow a b root mapping found (Some top) e agree =
     let all : (place : ℕ) → is_reached place found.reached ≡ is_among place w.0.reached = λ place.
     ap (λ (f : Found). is_reached place f.reached) (sym w.2) ∙ (reached-behind mapping.reached (drop (length mapping.reached) w.0.reached) place ∙ ap (is_among place) (sym same)) in
     let agreed : AgreeOn w.0.reached a b = λ place r. agree place (all place ∙ r) in
-    (λ place r. agreed place (before_too a b (dirty_top_read asked b (dirty_depth_of root.geometry.cache_blocks) root.top_dirty (none_dirty asked (places_reached mapping))) (none_dirty asked (places_reached mapping)) w.0 follow place
-        (ap (is_among place) (sym (append-nil (places_reached mapping))) ∙ (sym (reached-behind mapping.reached [] place) ∙ (ap (λ (ns : List PlacedNode). is_reached place ns) (append-nil mapping.reached) ∙ r))),
-    ap (outcome_with mapping) (follow.same agreed) ∙ ap (λ (f : Found). Ok f) w.2)
+    let first : Marks = none_dirty asked (places_reached mapping) in
+    let among : (place : ℕ) → is_among place (places_reached mapping) ≡ is_reached place mapping.reached = λ place.
+    sym (ap (λ (ns : List PlacedNode). is_reached place ns) (sym (append-nil mapping.reached)) ∙ (reached-behind mapping.reached [] place ∙ ap (is_among place) (append-nil (places_reached mapping)))) in
+    let before : AgreeAt mapping.reached a b = λ place r.
+    agreed place (before_too a b (dirty_top_read asked b (dirty_depth_of root.geometry.cache_blocks) root.top_dirty first) first w.0 follow place (among place ∙ r)) in
+    (before, ap (outcome_with mapping) (follow.same agreed) ∙ ap (λ (f : Found). Ok f) w.2)
 
 -- An image that is read without a fault is read so from all sectors that read the same at the places that were reached, as its mapping is.
 pub image_following : (a b : Nodes) (root : Root) (found : Found) → MappingFollows root a b → image_read root a ≡ Ok found → AgreeAt found.reached a b → image_read root b ≡ Ok found

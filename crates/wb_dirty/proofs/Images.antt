@@ -162,8 +162,8 @@ ahead_more root l next wanted node nodes more h unread same reached goes_on push
           let last : is_reached here (l.found.reached ++ wanted ∷ []) ≡ true = is_reached-push here l.found.reached wanted ∙ ap (λ (t : Bool). cond t true (is_reached here l.found.reached)) this in
           goes_on others (sym (at here last) ∙ told_with-here h.told here node)
           ∙ h.goes_on others (λ place r.
-              sym (told_with-there h.told here node place (other_than here place l.found.reached unread r))
-              ∙ at place (is_reached-push place l.found.reached wanted ∙ both_or (nat_eq here place) (is_reached place l.found.reached) r));
+          sym (told_with-there h.told here node place (other_than here place l.found.reached unread r))
+          ∙ at place (is_reached-push place l.found.reached wanted ∙ both_or (nat_eq here place) (is_reached place l.found.reached) r));
       nodes_are = pushed
           ∙ (ap (λ (ns : List PlacedNode). ns ++ node_told node wanted.place ∷ []) (h.nodes_are ∙ sym (same_told h.told here node l.found.reached unread))
           ∙ (ap (λ (o : Option Node). as_told told l.found.reached ++ node_told o wanted.place ∷ []) (sym (told_with-here h.told here node))

@@ -3,3 +3,4 @@ pub mod TakenBits
 pub mod Loads
 pub mod MappingsFound
 pub mod Images
+pub mod Following

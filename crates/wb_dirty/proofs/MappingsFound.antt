@@ -132,19 +132,19 @@ node_to root nodes (suc zero) index here found next h e =
     (λ node f h e. subst (λ n. IsFoundTo root nodes n next) to
     (each_to root nodes (λ j. entry_read root here (32 * index + j) (entry_in (slice_index node.words j))) (λ j. 32 * index + j)
     (λ j f g h e.
-        let after : suc (32 * index + j) ≡ 32 * index + suc j = omega arith in
-        subst (λ n. IsFoundTo root nodes n g) after (entry_to root nodes here (32 * index + j) (entry_in (slice_index node.words j)) f g h e)) 32 0 f next h e))
+    let after : suc (32 * index + j) ≡ 32 * index + suc j = omega arith in
+    subst (λ n. IsFoundTo root nodes n g) after (entry_to root nodes here (32 * index + j) (entry_in (slice_index node.words j)) f g h e)) 32 0 f next h e))
     (subst (λ n. IsFoundTo root nodes n found) from h) e
 node_to root nodes (suc (suc level)) index here found next h e =
     words_to root nodes (suc (suc level)) index here _ ((32 * index + 0) * 32 ^ suc level) ((index + 1) * 32 ^ suc (suc level)) (nodes here.0) found next refl
     (λ node f h e. subst (λ n. IsFoundTo root nodes n next) (ends_below index (suc level))
     (each_to root nodes (λ j. child_read root here (suc level) (32 * index + j) (node_read root nodes (suc level)) (slice_index node.words j)) (λ j. (32 * index + j) * 32 ^ suc level)
     (λ j f g h e.
-        let after : 32 * index + j + 1 ≡ 32 * index + suc j = omega arith in
-        let more : (32 * index + j) * 32 ^ suc level ≤ (32 * index + suc j) * 32 ^ suc level = mul-le-mul_right (32 ^ suc level) (omega arith) in
-        child_to root nodes (slice_index node.words j == 0) (names_child root f.reached (suc level) (32 * index + j) (slice_index node.words j)) here (node_read root nodes (suc level) (32 * index + j) (record { 0 = slice_index node.words j }))
-        ((32 * index + j) * 32 ^ suc level) ((32 * index + suc j) * 32 ^ suc level) f g more
-        (λ g e. subst (λ n. IsFoundTo root nodes (n * 32 ^ suc level) g) after (node_to root nodes (suc level) (32 * index + j) (record { 0 = slice_index node.words j }) f g h e)) h e) 32 0 f next h e))
+    let after : 32 * index + j + 1 ≡ 32 * index + suc j = omega arith in
+    let more : (32 * index + j) * 32 ^ suc level ≤ (32 * index + suc j) * 32 ^ suc level = mul-le-mul_right (32 ^ suc level) (omega arith) in
+    child_to root nodes (slice_index node.words j == 0) (names_child root f.reached (suc level) (32 * index + j) (slice_index node.words j)) here (node_read root nodes (suc level) (32 * index + j) (record { 0 = slice_index node.words j }))
+    ((32 * index + j) * 32 ^ suc level) ((32 * index + suc j) * 32 ^ suc level) f g more
+    (λ g e. subst (λ n. IsFoundTo root nodes (n * 32 ^ suc level) g) after (node_to root nodes (suc level) (32 * index + j) (record { 0 = slice_index node.words j }) f g h e)) h e) 32 0 f next h e))
     (subst (λ n. IsFoundTo root nodes n found) (begins_below index (suc level)) h) e
 
 -- ---- the whole mapping

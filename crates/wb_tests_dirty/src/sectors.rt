@@ -45,6 +45,11 @@ fn put(sector: &mut Content, at: usize, bytes: &[u8]) {
 /// The clean root of generation 3 of so many cache blocks, 4,096 origin blocks and 400 metadata sectors, whose dirty bits have their top here,
 /// if anywhere.
 pub fn root_of(cache_blocks: u16, top_dirty: u8) -> Option<Root> {
+    image_root_of(cache_blocks, 0, top_dirty)
+}
+
+/// The same root, whose mapping has its top here, if anywhere.
+pub fn image_root_of(cache_blocks: u16, top: u8, top_dirty: u8) -> Option<Root> {
     let mut sector = [0; SECTOR_BYTES];
     put(&mut sector, 0, b"WBCROOT1");
     put(&mut sector, 8, &[3]);
@@ -54,6 +59,7 @@ pub fn root_of(cache_blocks: u16, top_dirty: u8) -> Option<Root> {
     put(&mut sector, 28, &cache_blocks.to_le_bytes());
     put(&mut sector, 32, &4096u16.to_le_bytes());
     put(&mut sector, 36, &400u16.to_le_bytes());
+    put(&mut sector, 40, &[top]);
     put(&mut sector, 44, &[top_dirty]);
     Root::read(&sector)
 }

@@ -23,7 +23,7 @@ go_on-requires g c =
 pub returns-in-Ok-clause-goes_on : goal.returns-in-Ok-clause-goes_on
 returns-in-Ok-clause-goes_on g c =
     IfOk-weaker c.go_on.result _ _ (λ next same wanted others e told.
-        same others ∙ ap (λ (r : ReadOutcome). r then bits_behind c.args.root.now others c.args.root.now.top_dirty) (c.in-Ok.ensures.goes_on wanted others e told)) c.go_on.ensures.goes_on
+    same others ∙ ap (λ (r : ReadOutcome). r then bits_behind c.args.root.now others c.args.root.now.top_dirty) (c.in-Ok.ensures.goes_on wanted others e told)) c.go_on.ensures.goes_on
 
 pub returns-in-Ok-clause-mapping : goal.returns-in-Ok-clause-mapping
 returns-in-Ok-clause-mapping g c =
@@ -32,7 +32,7 @@ returns-in-Ok-clause-mapping g c =
 pub returns-in-Ok-clause-err : goal.returns-in-Ok-clause-err
 returns-in-Ok-clause-err g c =
     IfErr-weaker c.go_on.result _ _ (λ refusal fails wanted others e told.
-        subst (λ (r : ReadOutcome). FailsBy refusal (r then bits_behind c.args.root.now others c.args.root.now.top_dirty)) (c.in-Ok.ensures.goes_on wanted others e told) (fails others)) c.go_on.ensures.err
+    subst (λ (r : ReadOutcome). FailsBy refusal (r then bits_behind c.args.root.now others c.args.root.now.top_dirty)) (c.in-Ok.ensures.goes_on wanted others e told) (fails others)) c.go_on.ensures.err
 
 pub returns-in-Err-clause-err : goal.returns-in-Err-clause-err
 returns-in-Err-clause-err g c wanted others e told =

@@ -16,19 +16,19 @@ returns-in_err-tell-in-Alone-clause-err g c =
     let root = c.args.root.now in
     let refusal = c.in_err-tell-in-Alone.field-0.0 in
     handed c.from_residual.result refusal _ c.from_residual.ensures.1 (λ wanted others e told.
-        subst (λ (p : ImagePart _). FailsBy refusal (part_outcome root (part_of root p) others)) (sym c.in-Alone.is)
-        (fails_then refusal (outcome c.in-Alone.loader others) (bits_behind root others root.top_dirty)
-        (c.in_err-tell-in-Alone.ensures.err wanted others (sym (ap (λ (p : ImagePart _). next_node (part_of root p)) c.in-Alone.is) ∙ e) told)))
+    subst (λ (p : ImagePart _). FailsBy refusal (part_outcome root (part_of root p) others)) (sym c.in-Alone.is)
+    (fails_then refusal (outcome c.in-Alone.loader others) (bits_behind root others root.top_dirty)
+    (c.in_err-tell-in-Alone.ensures.err wanted others (sym (ap (λ (p : ImagePart _). next_node (part_of root p)) c.in-Alone.is) ∙ e) told)))
 
 pub returns-in_err-tell-in-Behind-clause-err : goal.returns-in_err-tell-in-Behind-clause-err
 returns-in_err-tell-in-Behind-clause-err g c =
     let root = c.args.root.now in
     let refusal = c.in_err-tell-in-Behind.field-0.0 in
     handed c.from_residual-in_err-tell-in-Behind.result refusal _ c.from_residual-in_err-tell-in-Behind.ensures.1 (λ wanted others e told.
-        let w = dirty_wanted-is c.in-Behind.loader.wanted wanted (sym (ap (λ (p : ImagePart _). next_node (part_of root p)) c.in-Behind.is) ∙ e) in
-        subst (λ (p : ImagePart _). FailsBy refusal (part_outcome root (part_of root p) others)) (sym c.in-Behind.is)
-        (ends_fail refusal (found_in root c.in-Behind.nodes.items c.in-Behind.tree) (outcome_of c.in-Behind.loader others)
-        (c.in_err-tell-in-Behind.ensures.err w.node others w.some (ap (λ (n : PlacedNode). others n.place.0) w.is ∙ told))))
+    let w = dirty_wanted-is c.in-Behind.loader.wanted wanted (sym (ap (λ (p : ImagePart _). next_node (part_of root p)) c.in-Behind.is) ∙ e) in
+    subst (λ (p : ImagePart _). FailsBy refusal (part_outcome root (part_of root p) others)) (sym c.in-Behind.is)
+    (ends_fail refusal (found_in root c.in-Behind.nodes.items c.in-Behind.tree) (outcome_of c.in-Behind.loader others)
+    (c.in_err-tell-in-Behind.ensures.err w.node others w.some (ap (λ (n : PlacedNode). others n.place.0) w.is ∙ told))))
 
 pub returns-in_ok-tell-in-Alone-clause-goes_on : goal.returns-in_ok-tell-in-Alone-clause-goes_on
 returns-in_ok-tell-in-Alone-clause-goes_on g c wanted others e told =
@@ -47,22 +47,22 @@ pub returns-in-Ahead-clause-goes_on : goal.returns-in-Ahead-clause-goes_on
 returns-in-Ahead-clause-goes_on g c =
     let root = c.args.root.now in
     IfOk-weaker c.tell_ahead.result _ _ (λ next h wanted others e told.
-        h wanted others (sym (ap (λ (p : ImagePart _). next_node (part_of root p)) c.in-Ahead.is) ∙ e) told
-        ∙ sym (ap (λ (p : ImagePart _). part_outcome root (part_of root p) others) c.in-Ahead.is)) c.tell_ahead.ensures.goes_on
+    h wanted others (sym (ap (λ (p : ImagePart _). next_node (part_of root p)) c.in-Ahead.is) ∙ e) told
+    ∙ sym (ap (λ (p : ImagePart _). part_outcome root (part_of root p) others) c.in-Ahead.is)) c.tell_ahead.ensures.goes_on
 
 pub returns-in-Ahead-clause-mapping : goal.returns-in-Ahead-clause-mapping
 returns-in-Ahead-clause-mapping g c =
     let root = c.args.root.now in
     IfOk-weaker c.tell_ahead.result _ _ (λ next h wanted others e told.
-        h wanted others (sym (ap (λ (p : ImagePart _). next_node (part_of root p)) c.in-Ahead.is) ∙ e) told
-        ∙ sym (ap (λ (p : ImagePart _). part_mapping_outcome (part_of root p) others) c.in-Ahead.is)) c.tell_ahead.ensures.mapping
+    h wanted others (sym (ap (λ (p : ImagePart _). next_node (part_of root p)) c.in-Ahead.is) ∙ e) told
+    ∙ sym (ap (λ (p : ImagePart _). part_mapping_outcome (part_of root p) others) c.in-Ahead.is)) c.tell_ahead.ensures.mapping
 
 pub returns-in-Ahead-clause-err : goal.returns-in-Ahead-clause-err
 returns-in-Ahead-clause-err g c =
     let root = c.args.root.now in
     IfErr-weaker c.tell_ahead.result _ _ (λ refusal h wanted others e told.
-        subst (λ (p : ImagePart _). FailsBy refusal (part_outcome root (part_of root p) others)) (sym c.in-Ahead.is)
-        (h wanted others (sym (ap (λ (p : ImagePart _). next_node (part_of root p)) c.in-Ahead.is) ∙ e) told)) c.tell_ahead.ensures.err
+    subst (λ (p : ImagePart _). FailsBy refusal (part_outcome root (part_of root p) others)) (sym c.in-Ahead.is)
+    (h wanted others (sym (ap (λ (p : ImagePart _). next_node (part_of root p)) c.in-Ahead.is) ∙ e) told)) c.tell_ahead.ensures.err
 
 pub returns-in_ok-tell-in-Behind-clause-part : goal.returns-in_ok-tell-in-Behind-clause-part
 returns-in_ok-tell-in-Behind-clause-part g c =

@@ -8,8 +8,8 @@ pub returns-in_err-part-clause-err : goal.returns-in_err-part-clause-err
 returns-in_err-part-clause-err g c =
     let refusal = c.in_err-part.field-0.0 in
     handed c.from_residual.result refusal _ c.from_residual.ensures.1 (λ wanted others e told.
-        subst (λ (l : ImageLoading). FailsBy refusal (image_outcome l others)) c.self.view_is
-        (c.in_err-part.ensures.err wanted others (ap (λ (l : ImageLoading). l.wanted) c.self.view_is ∙ e) told))
+    subst (λ (l : ImageLoading). FailsBy refusal (image_outcome l others)) c.self.view_is
+    (c.in_err-part.ensures.err wanted others (ap (λ (l : ImageLoading). l.wanted) c.self.view_is ∙ e) told))
 
 pub returns-clause-goes_on : goal.returns-clause-goes_on
 returns-clause-goes_on g c wanted others e told =
