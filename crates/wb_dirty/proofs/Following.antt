@@ -6,7 +6,7 @@ use Rattle.std.proofs.Math.Seq.{drop-append_seam}
 use Rattle.std.proofs.lemmas.List.{length-map}
 use Rattle.wb_types.specs.declared.number.Place.{Place}
 use Rattle.wb_types.specs.Limits.{dirty_depth_of}
-use Rattle.wb_types.proofs.Truth.{or_true, yes}
+use Rattle.wb_types.proofs.Truth.{yes}
 use Rattle.wb_bits.specs.BitWords.{is_member}
 use Rattle.wb_format.specs.declared.node.Node.{Node}
 use Rattle.wb_format.specs.declared.root.Root.{Root}
@@ -17,7 +17,7 @@ use Rattle.wb_tree.proofs.Reading.Steps.{then_ok}
 use Rattle.wb_dirty.specs.declared.child.Child.{Child}
 use Rattle.wb_dirty.specs.Reading.{Asked, Marks, MarksOutcome, ◌next◌, each, is_among, bit_read, children_from, names_node, dirty_child_read, is_dirty_node, reached_also, dirty_words_read, node_read, dirty_top_read, none_dirty, dirty_read}
 use Rattle.wb_dirty.specs.Loading.{AgreeOn}
-use Rattle.wb_dirty.specs.ImageReading.{dirty_node, places_reached, asked_behind, found_with, outcome_with, bits_behind, image_read}
+use Rattle.wb_dirty.specs.ImageReading.{places_reached, asked_behind, found_with, outcome_with, bits_behind, image_read}
 use Rattle.wb_dirty.proofs.Images.{reached-behind}
 
 -- places were reached behind those before, and where the same is read at all of them, another reading gives the same

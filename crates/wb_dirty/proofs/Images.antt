@@ -1,5 +1,5 @@
 -- A reading of an image that goes over from its mapping to its dirty bits, and goes on with these.
-use Rattle.std.proofs.Common.{◌≡◌, ◌≤◌, ◌+◌, ◌-◌, ◌∙◌, sym, ap, subst, refl, ℕ, Bool, true, false, cond, nat_eq, List, [], ◌∷◌, ◌++◌, Option, Some, None, Ok, Err, IsSome, is_some, length, map, drop, append_assoc, append-nil, arith}
+use Rattle.std.proofs.Common.{◌≡◌, ◌+◌, ◌∙◌, sym, ap, subst, refl, ℕ, Bool, true, false, cond, nat_eq, List, [], ◌∷◌, ◌++◌, Option, Some, None, Ok, Err, IsSome, is_some, length, map, drop, append_assoc, append-nil, arith}
 use Rattle.std.specs.Prelude.{Result, IfSome, IfErr}
 use Rattle.std.specs.Result.{IsErrAnd}
 use Rattle.std.proofs.Math.Seq.{drop-append_seam}
@@ -15,14 +15,14 @@ use Rattle.wb_format.specs.declared.node.Node.{Node}
 use Rattle.wb_tree.specs.declared.placed.PlacedNode.{PlacedNode}
 use Rattle.wb_tree.specs.Mapping.{Mapping}
 use Rattle.wb_tree.specs.Reading.{Found, ReadOutcome, Nodes, ◌then◌, is_reached, tree_read}
-use Rattle.wb_tree.specs.Loading.{Loading, outcome, wanted_place, IsFresh, FailsBy, AgreeAt}
+use Rattle.wb_tree.specs.Loading.{Loading, outcome, wanted_place, IsFresh, FailsBy}
 use Rattle.wb_tree.proofs.Reading.ReachedLemmas.{is_reached-push}
 use Rattle.wb_tree.proofs.Reading.LoaderSteps.{found_same}
-use Rattle.wb_dirty.specs.Reading.{Asked, Marks, MarksOutcome, is_among, dirty_read}
+use Rattle.wb_dirty.specs.Reading.{Asked, MarksOutcome, is_among, dirty_read}
 use Rattle.wb_dirty.specs.Loading.{DirtyLoading, EndsBy, MayReach}
 use Rattle.wb_dirty.specs.ImageReading.{dirty_node, places_reached, asked_behind, found_with, outcome_with, bits_behind}
-use Rattle.wb_dirty.specs.ImageLoading.{PartRead, node_told, as_told, found_in, dirty_wanted, part_outcome, IsAhead, IsBehind}
-use Rattle.wb_dirty.specs.ImageLoading.PartRead.{OfMapping, OfBits}
+use Rattle.wb_dirty.specs.ImageLoading.{node_told, as_told, found_in, dirty_wanted, part_outcome, IsAhead, IsBehind}
+use Rattle.wb_dirty.specs.ImageLoading.PartRead.{OfMapping}
 use Rattle.wb_dirty.proofs.MappingsFound.{found_as_told}
 
 -- ---- refusals

@@ -1,5 +1,5 @@
 -- A reading of an image that has come to some node of its mapping or of its dirty bits.
-use Rattle.std.specs.Prelude.{◌≡◌, ℕ, true, false, cond, nat_eq, Option, Some, None, IsSome, Ok, List, [], ◌∷◌, ◌++◌, length, map, drop, replicate}
+use Rattle.std.specs.Prelude.{◌≡◌, false, Option, Some, None, IsSome, Ok, List, [], ◌∷◌, ◌++◌, length, map, drop, replicate}
 use Rattle.wb_types.specs.declared.number.Place.{Place}
 use Rattle.wb_types.specs.declared.refusal.Refusal.{Refusal}
 use Rattle.wb_format.specs.declared.node.Node.{Node}
@@ -10,7 +10,6 @@ use Rattle.wb_tree.specs.Reading.{Found, ReadOutcome, Nodes, ◌then◌, tree_re
 use Rattle.wb_tree.specs.Loading.{Loading, outcome, AgreeAt, FailsBy}
 use Rattle.wb_tree.specs.Loaded.{IsMappingOf, IsLoaded}
 use Rattle.wb_tree.specs.Whole.{marked}
-use Rattle.wb_dirty.specs.Reading.{Marks}
 use Rattle.wb_dirty.specs.Loading.{DirtyLoading, outcome_of}
 use Rattle.wb_dirty.specs.ImageReading.{dirty_node, found_with, outcome_with, bits_behind}
 use Rattle.wb_dirty.specs.declared.image_part.ImagePart.{ImagePart}

@@ -1,5 +1,5 @@
 -- What is read of an image of either version: the mapping, and behind it the dirty bits, where the root names a tree of them.
-use Rattle.std.specs.Prelude.{◌≡◌, ◌++◌, Bool, false, Option, Some, None, is_some, Ok, Err, List, [], ◌∷◌, length, map, drop}
+use Rattle.std.specs.Prelude.{◌++◌, Bool, false, Option, Some, None, is_some, Ok, Err, List, [], ◌∷◌, length, map, drop}
 use Rattle.wb_types.specs.declared.entry.Entry.{Entry}
 use Rattle.wb_types.specs.declared.number.Place.{Place}
 use Rattle.wb_format.specs.declared.root.Root.{Root}

@@ -1,4 +1,4 @@
-use Rattle.std.proofs.Common.{◌≡◌, ◌<◌, ◌∙◌, sym, None, false, length, is_some, arith}
+use Rattle.std.proofs.Common.{◌≡◌, ◌∙◌, sym, None, false, length, is_some, arith}
 use Rattle.std.proofs.lemmas.List.{ext_get_or, get_or-map, length-map}
 use Rattle.wb_dirty.proofs.image_steps.blocks_mapped.Goals as goal
 

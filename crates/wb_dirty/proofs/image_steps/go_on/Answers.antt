@@ -1,12 +1,11 @@
-use Rattle.std.proofs.Common.{◌≡◌, ◌∙◌, sym, ap, subst, refl, Ok, List, length, map, drop}
-use Rattle.wb_types.specs.declared.number.Place.{Place}
+use Rattle.std.proofs.Common.{◌≡◌, ◌∙◌, sym, ap, subst, refl, Ok, List, map}
 use Rattle.wb_format.specs.declared.root.Root.{Root}
 use Rattle.wb_tree.specs.Loading.{FailsBy}
 use Rattle.wb_tree.specs.Loaded.{IsMappingOf, IsLoaded}
 use Rattle.wb_tree.specs.Reading.{Found, ReadOutcome}
 use Rattle.wb_tree.specs.declared.placed.PlacedNode.{PlacedNode}
 use Rattle.wb_dirty.specs.Reading.{Asked, dirty_read}
-use Rattle.wb_dirty.specs.ImageReading.{dirty_node, places_reached}
+use Rattle.wb_dirty.specs.ImageReading.{places_reached}
 use Rattle.wb_dirty.specs.ImageLoading.{found_in}
 use Rattle.wb_dirty.proofs.Images.{found-ahead, image-behind, front-begun, reached_alone, ends_fail}
 use Rattle.wb_dirty.proofs.image_steps.go_on.Goals as goal
