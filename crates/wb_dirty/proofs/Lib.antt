@@ -7,3 +7,6 @@ pub mod PlanSteps
 pub mod DirtyNames
 pub mod ReadBack
 pub mod PlanCounting
+pub mod MappingsFound
+pub mod Images
+pub mod Following

@@ -9,12 +9,16 @@ mod bits;
 mod child;
 mod children;
 mod counting;
+mod image_loader;
+mod image_part;
+mod image_steps;
 mod law;
 mod loader;
 mod planning;
 mod reached;
 
 pub use counting::dirty_nodes_of;
+pub use image_loader::ImageLoader;
 pub use law::read_back_law;
 pub use loader::DirtyLoader;
 pub use planning::{DirtyPlan, plan_dirty};

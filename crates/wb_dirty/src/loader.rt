@@ -1,6 +1,6 @@
 //! Reading of a tree of dirty bits, one node a call.
 
-ghost use Rattle.std.specs.Prelude.{◌≡◌, ◌≤◌, ◌<◌, [], ◌∷◌, ◌++◌, ℕ, List, true, All, Some, None, Ok, Err, OnOk, IfOk, IfErr, IfSome, IfNone, IsSome, length};
+ghost use Rattle.std.specs.Prelude.{◌≡◌, ◌≢◌, ◌≤◌, ◌<◌, [], ◌∷◌, ◌++◌, ℕ, List, true, All, Some, None, Ok, Err, OnOk, IfOk, IfErr, IfSome, IfNone, IsSome, length};
 ghost use Rattle.wb_types.specs.declared.refusal.Refusal.TheVariants.{Memory as OutOfMemory};
 ghost use Rattle.wb_types.specs.declared.number.Place.{Place as At};
 ghost use Rattle.wb_tree.specs.Reading.{Nodes};
@@ -59,6 +59,7 @@ impl DirtyLoader {
         ensures reached { IfOk result (λ l. l.marks.reached ≡ places.now) }
         ensures begun { IfOk result (λ l. (nodes : Nodes) → outcome_of l nodes ≡ dirty_read (record { root = root.now; mapped = mapped }) nodes places.now) }
         ensures err { IfErr result (λ refusal. (nodes : Nodes) → EndsBy refusal (dirty_read (record { root = root.now; mapped = mapped }) nodes places.now)) }
+        ensures memory { IfErr result (λ refusal. places.now ≡ [] → refusal ≡ OutOfMemory) }
     {
         let dirty = BitSet::new(alloc, root.geometry.cache_blocks as usize)?;
         let reached = reached_before(alloc, places)?;
@@ -194,6 +195,7 @@ fn first_wanted(root: &Root, reached: &Reached) -> Result<Option<PlacedNode>, Re
     ensures level_to { IfOk result (λ wanted. IfSome wanted (λ node. node.level ≤ 3)) }
     ensures err { IfErr result (λ refusal. (asked : Asked) (nodes : Nodes) (marks : Marks) → asked.root ≡ root.now → marks.reached ≡ reached.now
         → EndsBy refusal (dirty_top_read asked nodes (dirty_depth_of root.now.geometry.cache_blocks) root.now.top_dirty marks)) }
+    ensures after { IfErr result (λ refusal. reached.now ≢ []) }
 {
     let Some(top) = root.top_dirty else {
         return Ok(None);

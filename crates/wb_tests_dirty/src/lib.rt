@@ -2,6 +2,8 @@
 #![tactic(auto)]
 
 #[cfg(test)]
+mod images;
+#[cfg(test)]
 mod planning;
 #[cfg(test)]
 mod reading;

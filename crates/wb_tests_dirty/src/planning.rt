@@ -95,7 +95,7 @@ fn read_of(alloc: Global, cache_blocks: u32, plan: &DirtyPlan) -> Result<BitSet,
         Some(Place(number)) => number,
         None => 0,
     };
-    let Some(root) = sized_root(cache_blocks, 8000, top) else {
+    let Some(root) = sized_root(cache_blocks, 8000, 0, top) else {
         return Err(Refusal::NotFormatted);
     };
     let mapped = set_of(alloc, root.geometry.cache_blocks, Blocks::All)?;

@@ -45,11 +45,16 @@ fn put(sector: &mut Content, at: usize, bytes: &[u8]) {
 /// The clean root of generation 3 of so many cache blocks, 4,096 origin blocks and 400 metadata sectors, whose dirty bits have their top here,
 /// if anywhere.
 pub fn root_of(cache_blocks: u16, top_dirty: u8) -> Option<Root> {
-    sized_root(u32::from(cache_blocks), 400, u32::from(top_dirty))
+    sized_root(u32::from(cache_blocks), 400, 0, u32::from(top_dirty))
 }
 
-/// The same of so many metadata sectors.
-pub fn sized_root(cache_blocks: u32, meta_sectors: u32, top_dirty: u32) -> Option<Root> {
+/// The same root, whose mapping has its top here, if anywhere.
+pub fn image_root_of(cache_blocks: u16, top: u8, top_dirty: u8) -> Option<Root> {
+    sized_root(u32::from(cache_blocks), 400, top, u32::from(top_dirty))
+}
+
+/// The same of so many cache blocks and metadata sectors.
+pub fn sized_root(cache_blocks: u32, meta_sectors: u32, top: u8, top_dirty: u32) -> Option<Root> {
     let mut sector = [0; SECTOR_BYTES];
     put(&mut sector, 0, b"WBCROOT1");
     put(&mut sector, 8, &[3]);
@@ -59,6 +64,7 @@ pub fn sized_root(cache_blocks: u32, meta_sectors: u32, top_dirty: u32) -> Optio
     put(&mut sector, 28, &cache_blocks.to_le_bytes());
     put(&mut sector, 32, &4096u16.to_le_bytes());
     put(&mut sector, 36, &meta_sectors.to_le_bytes());
+    put(&mut sector, 40, &[top]);
     put(&mut sector, 44, &top_dirty.to_le_bytes());
     Root::read(&sector)
 }
