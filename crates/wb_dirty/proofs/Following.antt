@@ -17,7 +17,7 @@ use Rattle.wb_tree.proofs.Reading.Steps.{then_ok}
 use Rattle.wb_dirty.specs.declared.child.Child.{Child}
 use Rattle.wb_dirty.specs.Reading.{Asked, Marks, MarksOutcome, ◌next◌, each, is_among, bit_read, children_from, names_node, dirty_child_read, is_dirty_node, reached_also, dirty_words_read, node_read, dirty_top_read, none_dirty, dirty_read}
 use Rattle.wb_dirty.specs.Loading.{AgreeOn}
-use Rattle.wb_dirty.specs.ImageReading.{places_reached, asked_behind, found_with, outcome_with, bits_behind, image_read}
+use Rattle.wb_dirty.specs.ImageReading.{places_reached, asked_behind, found_with_bits, outcome_with, bits_behind, image_read}
 use Rattle.wb_dirty.proofs.Images.{reached-behind}
 
 -- places were reached behind those before, and where the same is read at all of them, another reading gives the same
@@ -138,8 +138,8 @@ dirty_following a b asked reached after e agree = (top_follow a b asked (dirty_d
 abbrev pub MappingFollows : Root → Nodes → Nodes → Type 0
 MappingFollows root a b = (mapping : Found) → tree_read root a ≡ Ok mapping → AgreeAt mapping.reached a b → tree_read root b ≡ Ok mapping
 
-with_both : (mapping : Found) (reading : MarksOutcome) (found : Found) → outcome_with mapping reading ≡ Ok found → (marks : Marks) × (reading ≡ Ok marks) × (found_with mapping marks ≡ found)
-with_both mapping (Ok marks) found e = (marks, refl, (let same : found_with mapping marks ≡ found = cc in same))
+with_both : (mapping : Found) (reading : MarksOutcome) (found : Found) → outcome_with mapping reading ≡ Ok found → (marks : Marks) × (reading ≡ Ok marks) × (found_with_bits mapping marks ≡ found)
+with_both mapping (Ok marks) found e = (marks, refl, (let same : found_with_bits mapping marks ≡ found = cc in same))
 with_both mapping (Err place) found e = absurd cc
 
 -- the places that were reached behind the mapping

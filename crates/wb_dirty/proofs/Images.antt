@@ -10,6 +10,7 @@ use Rattle.wb_types.specs.declared.entry.Entry.{Entry}
 use Rattle.wb_types.specs.declared.number.Place.{Place}
 use Rattle.wb_types.specs.declared.refusal.Refusal.{Refusal}
 use Rattle.wb_types.specs.declared.refusal.Refusal.TheVariants.{Range, Crosses, Busy, Defer, Io, Failed, Memory, Worn, Geometry, NotFormatted, Damaged, Mismatch, NotClean, BadMessage, WrongMode, BadTable, GenerationEnd}
+use Rattle.wb_types.proofs.Truth.{or_true, either_false}
 use Rattle.wb_format.specs.declared.root.Root.{Root}
 use Rattle.wb_format.specs.declared.node.Node.{Node}
 use Rattle.wb_tree.specs.declared.placed.PlacedNode.{PlacedNode}
@@ -20,7 +21,7 @@ use Rattle.wb_tree.proofs.Reading.ReachedLemmas.{is_reached-push}
 use Rattle.wb_tree.proofs.Reading.LoaderSteps.{found_same}
 use Rattle.wb_dirty.specs.Reading.{Asked, MarksOutcome, is_among, dirty_read}
 use Rattle.wb_dirty.specs.Loading.{DirtyLoading, EndsBy, MayReach}
-use Rattle.wb_dirty.specs.ImageReading.{dirty_node, places_reached, asked_behind, found_with, outcome_with, bits_behind}
+use Rattle.wb_dirty.specs.ImageReading.{dirty_node, places_reached, asked_behind, found_with_bits, outcome_with, bits_behind}
 use Rattle.wb_dirty.specs.ImageLoading.{node_told, as_told, found_in, dirty_wanted, part_outcome, IsAhead, IsBehind}
 use Rattle.wb_dirty.specs.ImageLoading.PartRead.{OfMapping}
 use Rattle.wb_dirty.proofs.MappingsFound.{found_as_told}
@@ -67,9 +68,6 @@ ends_fail WrongMode mapping reading ends = absurd ends
 ends_fail BadTable mapping reading ends = absurd ends
 ends_fail GenerationEnd mapping reading ends = absurd ends
 
-pub memory_fails : (refusal : Refusal) (reading : ReadOutcome) → refusal ≡ Memory → FailsBy refusal reading
-memory_fails refusal reading e = subst (λ (r : Refusal). FailsBy r reading) (sym e) tt
-
 -- what holds of the refusal that a `?` hands on
 pub handed : {T E : Type 0} (r : Result T E) (refusal : E) (P : E → Type 0) → IsErrAnd r (λ e. e ≡ refusal) → P refusal → IfErr r P
 handed (Ok x) refusal P is h = tt
@@ -102,7 +100,7 @@ reached-behind [] (first ∷ places) place = ap (λ (r : Bool). cond (nat_eq fir
 
 -- a place that may be read among the dirty bits was not read before in either tree
 pub fresh-behind : (root : Root) (tree : Mapping) (nodes : List PlacedNode) (l : DirtyLoading) (place : Place) → IsBehind root tree nodes l → MayReach l.asked.root l.marks.reached place
-    → IsFresh root (found_with (found_in root nodes tree) l.marks).reached place
+    → IsFresh root (found_with_bits (found_in root nodes tree) l.marks).reached place
 fresh-behind root tree nodes l place h may =
     let m : MayReach root l.marks.reached place = subst (λ (r : Root). MayReach r l.marks.reached place) h.root_is may in
     record {
@@ -128,19 +126,11 @@ told_with-there told here what place e = rw e refl
 other_than : (here place : ℕ) (reached : List PlacedNode) → is_reached here reached ≡ false → is_reached place reached ≡ true → nat_eq here place ≡ false
 other_than here place reached unread r = ne_eqb here place (λ same. let both : true ≡ false = sym r ∙ (ap (λ p. is_reached p reached) (sym same) ∙ unread) in cc)
 
-both_or : (t r : Bool) → r ≡ true → cond t true r ≡ true
-both_or true r e = refl
-both_or false r e = e
-
 -- nodes at other places are as they were told
-split_unread : (t r : Bool) → cond t true r ≡ false → (t ≡ false) × (r ≡ false)
-split_unread true r e = absurd cc
-split_unread false r e = (refl, e)
-
 same_told : (told : Nodes) (here : ℕ) (node : Option Node) (reached : List PlacedNode) → is_reached here reached ≡ false → as_told (told_with told here node) reached ≡ as_told told reached
 same_told told here what [] unread = refl
 same_told told here what (first ∷ reached) unread =
-    let parts = split_unread (nat_eq first.place.0 here) (is_reached here reached) unread in
+    let parts = either_false (nat_eq first.place.0 here) (is_reached here reached) unread in
     let apart : nat_eq here first.place.0 ≡ false = ne_eqb here first.place.0 (λ same. let yes : nat_eq first.place.0 here ≡ true = grind (arith, nat_tests) in let both : true ≡ false = sym yes ∙ parts.0 in cc) in
     ap (λ (o : Option Node). node_told o first.place ∷ as_told (told_with told here what) reached) (told_with-there told here what first.place.0 apart)
     ∙ ap (λ (rest : List PlacedNode). node_told (told first.place.0) first.place ∷ rest) (same_told told here what reached parts.1)
@@ -163,7 +153,7 @@ ahead_more root l next wanted node nodes more h unread same reached goes_on push
           goes_on others (sym (at here last) ∙ told_with-here h.told here node)
           ∙ h.goes_on others (λ place r.
           sym (told_with-there h.told here node place (other_than here place l.found.reached unread r))
-          ∙ at place (is_reached-push place l.found.reached wanted ∙ both_or (nat_eq here place) (is_reached place l.found.reached) r));
+          ∙ at place (is_reached-push place l.found.reached wanted ∙ or_true (nat_eq here place) (is_reached place l.found.reached) r));
       nodes_are = pushed
           ∙ (ap (λ (ns : List PlacedNode). ns ++ node_told node wanted.place ∷ []) (h.nodes_are ∙ sym (same_told h.told here node l.found.reached unread))
           ∙ (ap (λ (o : Option Node). as_told told l.found.reached ++ node_told o wanted.place ∷ []) (sym (told_with-here h.told here node))
@@ -249,7 +239,7 @@ behind_told root tree nodes l next h asked reached idle = by_wanted l.wanted ref
     by_wanted (Some wanted) e = behind_more root tree nodes l next wanted h asked (reached wanted e)
 
 pub reached_more : (root : Root) (tree : Mapping) (nodes : List PlacedNode) (l next : DirtyLoading) (wanted : PlacedNode) → IsBehind root tree nodes l → next.marks.reached ≡ l.marks.reached ++ wanted.place ∷ []
-    → (found_with (found_in root nodes tree) next.marks).reached ≡ (found_with (found_in root nodes tree) l.marks).reached ++ dirty_node wanted.place ∷ []
+    → (found_with_bits (found_in root nodes tree) next.marks).reached ≡ (found_with_bits (found_in root nodes tree) l.marks).reached ++ dirty_node wanted.place ∷ []
 reached_more root tree nodes l next wanted h reached =
     ap (λ (ps : List Place). nodes ++ map dirty_node ps) (drop_more nodes l.marks.reached next.marks.reached wanted.place h.front reached)
     ∙ (ap (λ (ns : List PlacedNode). nodes ++ ns) (map-append dirty_node (drop (length nodes) l.marks.reached) (wanted.place ∷ []))
@@ -264,11 +254,3 @@ pub record IsDirtyWanted (o : Option PlacedNode) (wanted : PlacedNode) : Type 0 
 pub dirty_wanted-is : (o : Option PlacedNode) (wanted : PlacedNode) → dirty_wanted o ≡ Some wanted → IsDirtyWanted o wanted
 dirty_wanted-is None wanted e = absurd cc
 dirty_wanted-is (Some node) wanted e = record { node = node; some = refl; is = cc }
-
-pub dirty_wanted-none : (o : Option PlacedNode) → dirty_wanted o ≡ None → o ≡ None
-dirty_wanted-none None e = refl
-dirty_wanted-none (Some node) e = absurd cc
-
-pub dirty_wanted-some : (o : Option PlacedNode) → IsSome o → IsSome (dirty_wanted o)
-dirty_wanted-some None some = some
-dirty_wanted-some (Some node) some = refl

@@ -11,7 +11,7 @@ use Rattle.wb_tree.specs.Loading.{Loading, outcome, AgreeAt, FailsBy}
 use Rattle.wb_tree.specs.Loaded.{IsMappingOf, IsLoaded}
 use Rattle.wb_tree.specs.Whole.{marked}
 use Rattle.wb_dirty.specs.Loading.{DirtyLoading, outcome_of}
-use Rattle.wb_dirty.specs.ImageReading.{dirty_node, found_with, outcome_with, bits_behind}
+use Rattle.wb_dirty.specs.ImageReading.{dirty_node, found_with_bits, outcome_with, bits_behind}
 use Rattle.wb_dirty.specs.declared.image_part.ImagePart.{ImagePart}
 use Rattle.wb_dirty.specs.declared.image_part.ImagePart.TheVariants.{Alone, Ahead, Behind}
 
@@ -30,7 +30,7 @@ pub record ImageLoading : Type 0 where
 -- what was found of both trees
 abbrev pub found_so_far : PartRead → Found
 found_so_far (OfMapping l) = l.found
-found_so_far (OfBits mapping l) = found_with mapping l.marks
+found_so_far (OfBits mapping l) = found_with_bits mapping l.marks
 
 -- what was found of the mapping alone
 abbrev pub mapping_found : PartRead → Found
@@ -115,10 +115,10 @@ pub record IsBehind (root : Root) (tree : Mapping) (nodes : List PlacedNode) (l 
   pub root_is : l.asked.root ≡ root
   pub front : l.marks.reached ≡ map (λ node. node.place) nodes ++ drop (length nodes) l.marks.reached
 
-abbrev pub part_of : {A : Type 0} → Root → ImagePart A → PartRead
-part_of root (Alone loader) = OfMapping loader
-part_of root (Ahead loader nodes) = OfMapping loader
-part_of root (Behind tree nodes loader) = OfBits (found_in root nodes.items tree) loader
+abbrev pub part_read : {A : Type 0} → Root → ImagePart A → PartRead
+part_read root (Alone loader) = OfMapping loader
+part_read root (Ahead loader nodes) = OfMapping loader
+part_read root (Behind tree nodes loader) = OfBits (found_in root nodes.items tree) loader
 
 abbrev pub IsImagePart : {A : Type 0} → Root → ImagePart A → Type 0
 IsImagePart root (Alone loader) = (root.top_dirty ≡ None) × (loader.root ≡ root)

@@ -36,15 +36,15 @@ abbrev pub asked_behind : Root → Found → Asked
 asked_behind root mapping = record { root = root; mapped = map is_some mapping.entries }
 
 -- what was found of a mapping and of the dirty bits behind it
-abbrev pub found_with : Found → Marks → Found
-found_with mapping marks = record {
+abbrev pub found_with_bits : Found → Marks → Found
+found_with_bits mapping marks = record {
   reached = mapping.reached ++ map dirty_node (drop (length mapping.reached) marks.reached);
   entries = with_bits (Some marks.dirty) mapping.entries;
   mapped = mapping.mapped;
 }
 
 abbrev pub outcome_with : Found → MarksOutcome → ReadOutcome
-outcome_with mapping (Ok marks) = Ok (found_with mapping marks)
+outcome_with mapping (Ok marks) = Ok (found_with_bits mapping marks)
 outcome_with mapping (Err place) = Err place
 
 -- the dirty bits behind a mapping, where their top is named

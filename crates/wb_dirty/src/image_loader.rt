@@ -31,11 +31,11 @@ pub struct ImageLoader<A: Allocator> {
 }
 
 impl<A: Allocator> Model for ImageLoader<A> {
-    ghost use Rattle.wb_dirty.specs.ImageLoading.{ImageLoading, IsImagePart, image_loading, part_of};
+    ghost use Rattle.wb_dirty.specs.ImageLoading.{ImageLoading, IsImagePart, image_loading, part_read};
 
     ghost Value = { ImageLoading };
 
-    ghost view = { λ l. image_loading l.root (part_of l.root l.part) };
+    ghost view = { λ l. image_loading l.root (part_read l.root l.part) };
 
     ghost invariant = { λ l. IsImagePart l.root l.part };
 }

@@ -7,7 +7,7 @@ ghost use Rattle.wb_tree.specs.declared.placed.PlacedNode.{PlacedNode as NodeAt}
 ghost use Rattle.wb_tree.specs.Reading.{Nodes, tree_read};
 ghost use Rattle.wb_tree.specs.Loading.{FailsBy};
 ghost use Rattle.wb_dirty.specs.ImageReading.{image_read};
-ghost use Rattle.wb_dirty.specs.ImageLoading.{PartRead, IsImagePart, IsAhead, part_of, part_outcome, part_mapping_outcome, found_so_far, next_node, node_told};
+ghost use Rattle.wb_dirty.specs.ImageLoading.{PartRead, IsImagePart, IsAhead, part_read, part_outcome, part_mapping_outcome, found_so_far, next_node, node_told};
 ghost use Rattle.wb_dirty.specs.ImageLoading.PartRead.{OfMapping};
 
 use crate::DirtyLoader;
@@ -25,9 +25,9 @@ pub(crate) fn begin<A: Allocator + Clone>(
     root: &Root,
 ) -> Result<ImagePart<A>, Refusal>
     ensures part { IfOk result (IsImagePart root.now) }
-    ensures begun { IfOk result (λ part. (nodes : Nodes) → part_outcome root.now (part_of root.now part) nodes ≡ image_read root.now nodes) }
-    ensures begun_mapping { IfOk result (λ part. (nodes : Nodes) → part_mapping_outcome (part_of root.now part) nodes ≡ tree_read root.now nodes) }
-    ensures nothing { IfOk result (λ part. (found_so_far (part_of root.now part)).reached ≡ []) }
+    ensures begun { IfOk result (λ part. (nodes : Nodes) → part_outcome root.now (part_read root.now part) nodes ≡ image_read root.now nodes) }
+    ensures begun_mapping { IfOk result (λ part. (nodes : Nodes) → part_mapping_outcome (part_read root.now part) nodes ≡ tree_read root.now nodes) }
+    ensures nothing { IfOk result (λ part. (found_so_far (part_read root.now part)).reached ≡ []) }
     ensures refused { IfErr result (λ refusal. refusal ≡ OutOfMemory) }
 {
     let loader = Loader::new(alloc, global, root)?;
@@ -47,9 +47,9 @@ fn go_on<A: Allocator + Clone>(
 ) -> Result<ImagePart<A>, Refusal>
     requires { IsAhead root.now loader nodes.items }
     ensures part { IfOk result (IsImagePart root.now) }
-    ensures goes_on { IfOk result (λ part. (nodes : Nodes) → part_outcome root.now (part_of root.now part) nodes ≡ part_outcome root.now (OfMapping loader) nodes) }
-    ensures mapping { IfOk result (λ part. (nodes : Nodes) → part_mapping_outcome (part_of root.now part) nodes ≡ part_mapping_outcome (OfMapping loader) nodes) }
-    ensures reached { IfOk result (λ part. (found_so_far (part_of root.now part)).reached ≡ loader.found.reached) }
+    ensures goes_on { IfOk result (λ part. (nodes : Nodes) → part_outcome root.now (part_read root.now part) nodes ≡ part_outcome root.now (OfMapping loader) nodes) }
+    ensures mapping { IfOk result (λ part. (nodes : Nodes) → part_mapping_outcome (part_read root.now part) nodes ≡ part_mapping_outcome (OfMapping loader) nodes) }
+    ensures reached { IfOk result (λ part. (found_so_far (part_read root.now part)).reached ≡ loader.found.reached) }
     ensures err { IfErr result (λ refusal. (nodes : Nodes) → FailsBy refusal (part_outcome root.now (OfMapping loader) nodes)) }
     ensures none { IfErr result (λ refusal. loader.found.reached ≡ [] → refusal ≡ OutOfMemory) }
 {
@@ -77,16 +77,16 @@ pub(crate) fn tell_part<A: Allocator + Clone>(
 ) -> Result<ImagePart<A>, Refusal>
     requires { IsImagePart root.now part }
     ensures part { IfOk result (IsImagePart root.now) }
-    ensures goes_on { IfOk result (λ next. (wanted : NodeAt) (nodes : Nodes) → next_node (part_of root.now part) ≡ Some wanted → nodes wanted.place.0 ≡ node
-        → part_outcome root.now (part_of root.now next) nodes ≡ part_outcome root.now (part_of root.now part) nodes) }
-    ensures mapping { IfOk result (λ next. (wanted : NodeAt) (nodes : Nodes) → next_node (part_of root.now part) ≡ Some wanted → nodes wanted.place.0 ≡ node
-        → part_mapping_outcome (part_of root.now next) nodes ≡ part_mapping_outcome (part_of root.now part) nodes) }
-    ensures reached { IfOk result (λ next. (wanted : NodeAt) → next_node (part_of root.now part) ≡ Some wanted
-        → (found_so_far (part_of root.now next)).reached ≡ (found_so_far (part_of root.now part)).reached ++ wanted ∷ []) }
-    ensures idle { IfOk result (λ next. next_node (part_of root.now part) ≡ None → part_of root.now next ≡ part_of root.now part) }
-    ensures cause { IfErr result (λ _. IsSome (next_node (part_of root.now part))) }
-    ensures err { IfErr result (λ refusal. (wanted : NodeAt) (nodes : Nodes) → next_node (part_of root.now part) ≡ Some wanted → nodes wanted.place.0 ≡ node
-        → FailsBy refusal (part_outcome root.now (part_of root.now part) nodes)) }
+    ensures goes_on { IfOk result (λ next. (wanted : NodeAt) (nodes : Nodes) → next_node (part_read root.now part) ≡ Some wanted → nodes wanted.place.0 ≡ node
+        → part_outcome root.now (part_read root.now next) nodes ≡ part_outcome root.now (part_read root.now part) nodes) }
+    ensures mapping { IfOk result (λ next. (wanted : NodeAt) (nodes : Nodes) → next_node (part_read root.now part) ≡ Some wanted → nodes wanted.place.0 ≡ node
+        → part_mapping_outcome (part_read root.now next) nodes ≡ part_mapping_outcome (part_read root.now part) nodes) }
+    ensures reached { IfOk result (λ next. (wanted : NodeAt) → next_node (part_read root.now part) ≡ Some wanted
+        → (found_so_far (part_read root.now next)).reached ≡ (found_so_far (part_read root.now part)).reached ++ wanted ∷ []) }
+    ensures idle { IfOk result (λ next. next_node (part_read root.now part) ≡ None → part_read root.now next ≡ part_read root.now part) }
+    ensures cause { IfErr result (λ _. IsSome (next_node (part_read root.now part))) }
+    ensures err { IfErr result (λ refusal. (wanted : NodeAt) (nodes : Nodes) → next_node (part_read root.now part) ≡ Some wanted → nodes wanted.place.0 ≡ node
+        → FailsBy refusal (part_outcome root.now (part_read root.now part) nodes)) }
 {
     match part {
         ImagePart::Alone(loader) => Ok(ImagePart::Alone(loader.tell(node)?)),
@@ -115,10 +115,10 @@ fn tell_ahead<A: Allocator + Clone>(
     requires some { IsSome loader.wanted }
     ensures part { IfOk result (IsImagePart root.now) }
     ensures goes_on { IfOk result (λ next. (wanted : NodeAt) (nodes : Nodes) → loader.wanted ≡ Some wanted → nodes wanted.place.0 ≡ node
-        → part_outcome root.now (part_of root.now next) nodes ≡ part_outcome root.now (OfMapping loader) nodes) }
+        → part_outcome root.now (part_read root.now next) nodes ≡ part_outcome root.now (OfMapping loader) nodes) }
     ensures mapping { IfOk result (λ next. (wanted : NodeAt) (nodes : Nodes) → loader.wanted ≡ Some wanted → nodes wanted.place.0 ≡ node
-        → part_mapping_outcome (part_of root.now next) nodes ≡ part_mapping_outcome (OfMapping loader) nodes) }
-    ensures reached { IfOk result (λ next. (wanted : NodeAt) → loader.wanted ≡ Some wanted → (found_so_far (part_of root.now next)).reached ≡ loader.found.reached ++ wanted ∷ []) }
+        → part_mapping_outcome (part_read root.now next) nodes ≡ part_mapping_outcome (OfMapping loader) nodes) }
+    ensures reached { IfOk result (λ next. (wanted : NodeAt) → loader.wanted ≡ Some wanted → (found_so_far (part_read root.now next)).reached ≡ loader.found.reached ++ wanted ∷ []) }
     ensures err { IfErr result (λ refusal. (wanted : NodeAt) (nodes : Nodes) → loader.wanted ≡ Some wanted → nodes wanted.place.0 ≡ node
         → FailsBy refusal (part_outcome root.now (OfMapping loader) nodes)) }
 {

@@ -1,6 +1,6 @@
 use Rattle.std.proofs.Common.{◌≡◌, ◌∙◌, ap, subst}
 use Rattle.wb_tree.specs.Loading.{FailsBy}
-use Rattle.wb_dirty.specs.ImageLoading.{ImageLoading, image_loading, image_outcome, mapping_outcome, part_of}
+use Rattle.wb_dirty.specs.ImageLoading.{ImageLoading, image_loading, image_outcome, mapping_outcome, part_read}
 use Rattle.wb_dirty.proofs.Images.{handed}
 use Rattle.wb_dirty.proofs.image_loader.ImageLoader.tell.Goals as goal
 
@@ -13,12 +13,12 @@ returns-in_err-part-clause-err g c =
 
 pub returns-clause-goes_on : goal.returns-clause-goes_on
 returns-clause-goes_on g c wanted others e told =
-    let next : ImageLoading = image_loading c.self.inside.root (part_of c.self.inside.root c.in_ok-part.part) in
+    let next : ImageLoading = image_loading c.self.inside.root (part_read c.self.inside.root c.in_ok-part.part) in
     subst (λ (l : ImageLoading). image_outcome next others ≡ image_outcome l others) c.self.view_is
     (c.in_ok-part.ensures.goes_on wanted others (ap (λ (l : ImageLoading). l.wanted) c.self.view_is ∙ e) told)
 
 pub returns-clause-mapping : goal.returns-clause-mapping
 returns-clause-mapping g c wanted others e told =
-    let next : ImageLoading = image_loading c.self.inside.root (part_of c.self.inside.root c.in_ok-part.part) in
+    let next : ImageLoading = image_loading c.self.inside.root (part_read c.self.inside.root c.in_ok-part.part) in
     subst (λ (l : ImageLoading). mapping_outcome next others ≡ mapping_outcome l others) c.self.view_is
     (c.in_ok-part.ensures.mapping wanted others (ap (λ (l : ImageLoading). l.wanted) c.self.view_is ∙ e) told)
