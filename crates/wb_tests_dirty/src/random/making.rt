@@ -33,7 +33,7 @@ struct Maker {
     step: u32,
 }
 
-/// The next image: half of them right, the others with one or two things changed, which may leave them right.
+/// The next image: a third of them as they were made, the others with one or two things changed, which may leave them right.
 pub(super) fn random_image(alloc: Global, dice: &mut Dice) -> Result<PlainImage, AllocError> {
     let size = dice.below(8) as usize % 8;
     let cache_blocks = if dice.below(12) == 0 {
@@ -58,7 +58,8 @@ pub(super) fn random_image(alloc: Global, dice: &mut Dice) -> Result<PlainImage,
     };
     maker.fill(alloc, dice)?;
     let Maker { mut image, .. } = maker;
-    for _ in 0..dice.below(6).saturating_sub(2) / 2 + dice.below(2) {
+    let more = dice.below(6).saturating_sub(2) / 2;
+    for _ in 0..more.saturating_add(dice.below(2)) {
         change_something(&mut image, dice);
     }
     Ok(image)
