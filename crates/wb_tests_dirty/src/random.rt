@@ -17,7 +17,8 @@ use wb_dirty::ImageLoader;
 use wb_tree::Tree;
 use wb_types::{CBlock, Entry, OBlock, Place, Refusal};
 
-/// How many images are played. By hand 100,000 are: with that number here, `rt try --test` takes about half a minute.
+/// How many images are played: so many as `rt try --test` plays well within its minute. By hand 100,000 are, with that number here: by
+/// `rt try --test --seconds 1200` in some minutes, by what the gate builds in two seconds.
 const IMAGES: u32 = 4000;
 
 /// How many images were right, and of the others how many had each kind of fault first.
