@@ -226,8 +226,11 @@ fn change_something(image: &mut PlainImage, dice: &mut Dice) {
     }
 }
 
-/// Any node, by its number, those above the leaves more often.
+/// Any node, by its number: more often those above the leaves, and the last, the top of the dirty bits where there are such.
 fn random_node(image: &PlainImage, dice: &mut Dice, count: u32) -> usize {
+    if dice.happens(1) {
+        return count.saturating_sub(1) as usize;
+    }
     let at = dice.below(count) as usize;
     if dice.happens(4) {
         return at;
