@@ -6,6 +6,8 @@ mod images;
 #[cfg(test)]
 mod planning;
 #[cfg(test)]
+mod random;
+#[cfg(test)]
 mod reading;
 #[cfg(test)]
 mod sectors;
