@@ -110,6 +110,7 @@ fresh
 printf 'w 0 4 22\nr 0 4\nwork\nw 0 4 33\nsuspend\n' | "$cache" run "$table" >/dev/null
 { hello; request 6 1 512 1024; read_of 2 0 2048; goodbye; } | serve "$table"
 { full_of 3 512; full_of '\000' 1024; full_of 3 512; } >wanted.bin
+check 'what was opened over a cached block' "$(head -n 1 told.txt)" 'wbnbd: opened 640 sectors; 1 of 4 cache blocks mapped, 1 dirty'
 check 'zeros in a block that is cached' "$(status) $(tail -c 2048 out.bin | cmp - wanted.bin 2>&1). $(head -c 512 o.img | tr -d '"' | wc -c)" '0 . 0'
 { hello; request 6 1 0 327680; request 6 2 0 4294966784; request 6 3 327680 512; flush_of 4; goodbye; } | serve "$table"
 check 'zeros all over the origin, and past its end' "$(status) $(replies)" '0 00:01 00:04 1c:02 1c:03 '

@@ -54,6 +54,35 @@ fn fill_cache<D: Disk + Drop, P: Policy>(rt: &impl Wait, client: &mut Client<'_,
     })
 }
 
+/// Writes the first sector of each of the four, in the cache.
+fn write_each(rt: &impl Wait, client: &mut Lent<'_>) -> bool {
+    client.write(rt, Sector(0), &[begun_with(0x20)]).is_ok()
+        && client.write(rt, Sector(64), &[begun_with(0x21)]).is_ok()
+        && client.write(rt, Sector(128), &[begun_with(0x22)]).is_ok()
+        && client.write(rt, Sector(192), &[begun_with(0x23)]).is_ok()
+}
+
+/// Whether each of the four is shown as it was written there.
+pub fn shows_each(rt: &impl Wait, client: &mut Lent<'_>) -> bool {
+    shows(rt, client, 0, 0x20)
+        && shows(rt, client, 64, 0x21)
+        && shows(rt, client, 128, 0x22)
+        && shows(rt, client, 192, 0x23)
+}
+
+/// Whether four blocks are cached, each is written there, and all are flushed.
+pub fn fills_and_flushes(rt: &impl Wait, client: &mut Lent<'_>) -> bool {
+    fill_cache(rt, client) && write_each(rt, client) && client.flush(rt).is_ok()
+}
+
+#[test]
+fn blocks_that_were_flushed_are_found_each_in_its_place(rt: HostRuntime) -> Result<(), Fail> {
+    let (devices, target) = open(rt.alloc(), formatted(rt.alloc())?)?;
+    let (devices, done) = done_by(&rt, rt.alloc(), &target, devices, Question::FillsAndFlushes)?;
+    assert!(rt; done && answered_over(&rt, rt.alloc(), devices, Question::ShowsEach)?);
+    Ok(())
+}
+
 /// Accesses the sixth block three times, after which another is to leave for it.
 fn wants_another<D: Disk + Drop, P: Policy>(rt: &impl Wait, client: &mut Client<'_, D, P>) -> bool {
     (0..3).all(|_| write_and_read(rt, client, 320, 0x55))

@@ -1,6 +1,8 @@
 //! What is asked of a target over formatted devices in memory, and of a client of it, which are then let go.
 
-use crate::caching::{caches, caches_and_flushes, replaces, replaces_another};
+use crate::caching::{
+    caches, caches_and_flushes, fills_and_flushes, replaces, replaces_another, shows_each,
+};
 use crate::faults::{Rounds, shows_allowed};
 use crate::fixture::{Asked, Lent, Memory, client_of, formatted, open_with, shows, worked};
 use crate::messages::{goes_by_threshold, invalidates, is_in_another_mode, takes_settings};
@@ -23,6 +25,8 @@ use wb_types::{Key, Refusal};
 pub enum Question {
     Caches,
     CachesAndFlushes,
+    FillsAndFlushes,
+    ShowsEach,
     CachesAtTheThird,
     Replaces,
     ReplacesAnother,
@@ -132,6 +136,8 @@ fn answer(
     match question {
         Question::Caches => caches(rt, target, client),
         Question::CachesAndFlushes => caches_and_flushes(rt, client),
+        Question::FillsAndFlushes => fills_and_flushes(rt, client),
+        Question::ShowsEach => shows_each(rt, client),
         Question::CachesAtTheThird => caches_at_the_third(rt, client),
         Question::Replaces => replaces(rt, target, client),
         Question::ReplacesAnother => replaces_another(rt, target, client),
