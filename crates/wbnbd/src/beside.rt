@@ -1,6 +1,6 @@
 //! What is done beside one another: a connection is served by several, and orders are carried out.
 
-ghost use Rattle.std.specs.Prelude.{◌≡◌, ◌*◌};
+ghost use Rattle.std.specs.Prelude.{◌≡◌, ◌<◌, ◌*◌};
 
 use crate::control::{Control, answer_lines};
 use crate::lent::Lent;
@@ -183,7 +183,8 @@ fn note<T: Eprint>(teller: &Teller<'_, T>, refusal: Refusal) {
 /// What a client is told of the origin: a request is best of one block, where its size is a power of two, and else of the greatest
 /// power of two that divides it.
 fn terms_of(geometry: &Geometry) -> Terms
-    ensures { result.size ≡ geometry.now.block * geometry.now.origin_blocks * 512 }
+    ensures size { result.size ≡ geometry.now.block * geometry.now.origin_blocks * 512 }
+    ensures preferred { 0 < result.preferred }
 {
     let block = u64::from(geometry.block) * SECTOR_BYTES as u64;
     let mut preferred = u64::from(MOST_BYTES);

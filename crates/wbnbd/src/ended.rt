@@ -78,7 +78,9 @@ impl<'a> Ended<'a> {
 
 /// The exit status of a refusal.
 fn code_of(refusal: Refusal) -> u8
-    ensures { 0 < result }
+    ensures some { 0 < result }
+    ensures device { (device : _) → refusal ≡ Refusal.Io device → result ≡ 3 }
+    ensures failed { refusal ≡ Refusal.Failed → result ≡ 3 }
 {
     match refusal {
         Refusal::Io(_) | Refusal::Failed => 3,

@@ -1,6 +1,6 @@
 //! The origin of a target, as an export.
 
-ghost use Rattle.std.specs.Prelude.{◌≡◌};
+ghost use Rattle.std.specs.Prelude.{◌≡◌, ◌⊎◌};
 ghost use Rattle.wbnbd.specs.Lending.{DoneBy};
 
 use crate::pace::Pace;
@@ -56,7 +56,11 @@ impl<'r, 'c, 'p, R: Wait, C: Served, T: Eprint> Export for Lent<'r, 'c, 'p, R, C
 }
 
 /// What a client is told of a refusal; a device that failed is told of on standard error, too.
-fn errno_of<T: Eprint>(alarm: &Alarm<'_, T>, refusal: Refusal) -> Errno {
+fn errno_of<T: Eprint>(alarm: &Alarm<'_, T>, refusal: Refusal) -> Errno
+    ensures device { (device : _) → refusal ≡ Refusal.Io device → (result ≡ Errno.Io) ⊎ (result ≡ Errno.Space) }
+    ensures failed { refusal ≡ Refusal.Failed → result ≡ Errno.Shutdown }
+    ensures memory { refusal ≡ Refusal.Memory → result ≡ Errno.Memory }
+{
     match refusal {
         Refusal::Range => Errno::Invalid,
         Refusal::Failed => Errno::Shutdown,
