@@ -81,7 +81,7 @@ unfit_in mode geometry left now commit refusal after commit' (inr s) = let same 
 all_read : {A : Type 0} (now : ReadSteps A) → IsDone now → (state : State A) × (now ≡ AllRead state)
 all_read (Begun alloc global) h = absurd h
 all_read (FirstSlotRead alloc global first) h = absurd h
-all_read (RootFound global root loader) h = absurd h
+all_read (RootFound global root loader nodes) h = absurd h
 all_read (AllRead state) h = (state, refl)
 
 -- what the device gives agrees with it everywhere
@@ -133,7 +133,7 @@ module _ {D : Type 0} (tells : Type 0) (size : D → ℕ) (contents : D → List
     next : RunningCommit
     commit_is : stage.opening.commit ≡ Some next
     opens : IsOpening next.image state.root
-    represents : tells → RepresentsState (map newest Settled) state.root state.tree state.used.items
+    represents : tells → RepresentsState (map newest Settled) state.root state.tree state.dirty state.used.items
     copies : tells → DataIsDurable contents first.devices stage.devices
     clean : first.mode ≡ Passthrough → IsLeftClean state
 
@@ -321,7 +321,7 @@ module _ {D : Type 0} (tells : Type 0) (size : D → ℕ) (contents : D → List
             found = record {
               state = state;
               reading_is = is;
-              fits = subst (λ (o : Option (ReadSteps Global)). IfSome o (AreStepsOn (size mid.devices.metadata))) is led.3;
+              fits = (subst (λ (o : Option (ReadSteps Global)). IfSome o (AreStepsOn (size mid.devices.metadata))) is led.3).0;
               geometry_is = fits ∙ sym led.2;
               next = next.next;
               commit_is = next.commit_is;

@@ -5,3 +5,4 @@ pub mod Stopping
 pub mod Serving
 pub mod Ending
 pub mod Reopened
+pub mod BitEntries

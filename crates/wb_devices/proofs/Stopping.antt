@@ -46,7 +46,7 @@ of_root geometry now root known fits other also =
 pub not_done : {A : Type 0} (now : ReadSteps A) → None ≡ known_root now → IsDone now → ⊥
 not_done (Begun alloc global) none done = done
 not_done (FirstSlotRead alloc global first) none done = done
-not_done (RootFound global root loader) none done = done
+not_done (RootFound global root loader nodes) none done = done
 not_done (AllRead state) none done = cc
 
 pub did_tell : {A : Type 0} (mode : Mode) (geometry : Geometry) (sectors left : ℕ) (was now : ReadSteps A) (device : List History) (commit commit' : Option RunningCommit) (got : Got) (after : Option (ReadSteps A)) → ReadingGoesOn was device now → AreStepsOn sectors now → HasComeIn mode geometry left now commit got after commit' → ReadOneMore was now → (HasGeneration commit → HasGeneration commit') → (got ≡ More → ¬ IsDone now) → DidTell mode geometry sectors left was device commit got after commit'

@@ -1,5 +1,5 @@
 -- Whether the metadata that an opening read were left clean, and what an opening in passthrough does of it.
-use Rattle.std.specs.Prelude.{◌≡◌, ◌<◌, ◌⊎◌, ℕ, Bool, true, false, List, Option, Some, None, length}
+use Rattle.std.specs.Prelude.{◌≡◌, ◌<◌, ◌⊎◌, ℕ, Bool, true, false, List, Option, Some, None, length, slice_index_or}
 use Rattle.wb_types.specs.declared.entry.Entry.{Entry}
 use Rattle.wb_types.specs.declared.geometry.Geometry.{Geometry}
 use Rattle.wb_types.specs.declared.mode.Mode.{Mode}
@@ -7,7 +7,7 @@ use Rattle.wb_types.specs.declared.mode.Mode.TheVariants.{Passthrough}
 use Rattle.wb_types.specs.declared.refusal.Refusal.{Refusal}
 use Rattle.wb_types.specs.declared.refusal.Refusal.TheVariants.{NotClean}
 use Rattle.wb_disk.specs.Device.{History}
-use Rattle.wb_tree.specs.Mapping.{Mapping, entry_at}
+use Rattle.wb_dirty.specs.ImageReading.{with_bits}
 use Rattle.wb_meta.specs.States.{CountsFault, IsOfReading}
 use Rattle.wb_meta.specs.Reads.{AreStepsOn, ReadingGoesOn, ReadOneMore, StopsBy, IsDone}
 use Rattle.wb_meta.specs.declared.read_steps.ReadSteps.{ReadSteps}
@@ -23,21 +23,25 @@ abbrev pub is_mapped_dirty : Option Entry → Bool
 is_mapped_dirty (Some entry) = entry.dirty
 is_mapped_dirty None = false
 
--- no mapped block of a tree is dirty
-abbrev pub AreAllClean : Mapping → Type 0
-AreAllClean tree = (block : ℕ) → block < length tree.entries → is_mapped_dirty (entry_at tree block) ≡ false
+-- the entries that were read, with the dirty bits beside the tree, where they are kept apart
+abbrev pub entries_of : {A : Type 0} → State A → List (Option Entry)
+entries_of state = with_bits state.dirty state.tree.entries
+
+-- no mapped block is dirty
+abbrev pub AreAllClean : List (Option Entry) → Type 0
+AreAllClean entries = (block : ℕ) → block < length entries → is_mapped_dirty (slice_index_or entries block None) ≡ false
 
 -- some is
-abbrev pub HasDirty : Mapping → Type 0
-HasDirty tree = (block : ℕ) × (is_mapped_dirty (entry_at tree block) ≡ true)
+abbrev pub HasDirty : List (Option Entry) → Type 0
+HasDirty entries = (block : ℕ) × (is_mapped_dirty (slice_index_or entries block None) ≡ true)
 
 -- what was read was left clean: its root has the clean flag, and none of its entries is dirty
 abbrev pub IsLeftClean : {A : Type 0} → State A → Type 0
-IsLeftClean state = (state.root.clean ≡ true) × AreAllClean state.tree
+IsLeftClean state = (state.root.clean ≡ true) × AreAllClean (entries_of state)
 
 -- it was not
 abbrev pub IsLeftUnclean : {A : Type 0} → State A → Type 0
-IsLeftUnclean state = (state.root.clean ≡ false) ⊎ HasDirty state.tree
+IsLeftUnclean state = (state.root.clean ≡ false) ⊎ HasDirty (entries_of state)
 
 -- all was read, of metadata of this geometry, and they were not left clean
 pub record IsUnclean {A : Type 0} (geometry : Geometry) (now : ReadSteps A) : Type 0 where

@@ -44,7 +44,7 @@ opened_state opened = record opened.state { root = opened.next.image.root }
 -- What was read is what the metadata device represented when it was made durable, and since then nothing but that root was
 -- written there; it is durable.
 pub record IsOpenOver {sectors : ℕ} {opening : Opening} (opened : IsOpen sectors opening) (before after : List History) : Type 0 where
-  pub represents : RepresentsState (map newest (synced before)) opened.state.root opened.state.tree opened.state.used.items
+  pub represents : RepresentsState (map newest (synced before)) opened.state.root opened.state.tree opened.state.dirty opened.state.used.items
   pub content : Content
   pub spelled : SpellsRoot content opened.next.image.root
   pub wrote : after ≡ synced (written (synced before) (slot_of opened.next.image.root).0 content)

@@ -1,6 +1,6 @@
 //! Whether metadata that were read were left clean, as an opening in passthrough wants them.
 
-ghost use Rattle.std.specs.Prelude.{◌≡◌, ℕ, None, IfSome, length};
+ghost use Rattle.std.specs.Prelude.{◌≡◌, ◌<◌, ℕ, None, IfSome, length, slice_index_or};
 ghost use Rattle.std.specs.Bool.{OnTrue, OnFalse};
 ghost use Rattle.wb_tasks.specs.Plan.{Fits};
 ghost use Rattle.wb_tasks.specs.declared.step.Want.TheVariants.{Device};
@@ -8,7 +8,8 @@ ghost use Rattle.wb_tasks.specs.declared.step.DeviceStep.TheVariants.{ReadMetada
 ghost use Rattle.wb_tasks.specs.declared.step.Got.TheVariants.{More};
 ghost use Rattle.wb_meta.specs.Reads.{AreStepsOn, IsDone};
 ghost use Rattle.wb_devices.specs.Opened.{HasGeneration};
-ghost use Rattle.wb_devices.specs.Clean.{HasComeIn, IsUnclean, IsCleanSoFar, IsLeftClean, IsLeftUnclean, is_mapped_dirty};
+ghost use Rattle.wb_devices.specs.Clean.{HasComeIn, IsUnclean, IsCleanSoFar, IsLeftClean, IsLeftUnclean, entries_of, is_mapped_dirty};
+ghost use Rattle.wb_dirty.specs.ImageReading.{entry_with};
 
 use crate::opening::Opening;
 use crate::reading::is_same;
@@ -52,7 +53,7 @@ pub(crate) fn is_unclean(steps: &ReadSteps<Global>, geometry: Geometry) -> bool
     is_left_unclean(state)
 }
 
-/// Whether this root lacks the clean flag, or an entry of its tree is dirty.
+/// Whether this root lacks the clean flag, or an entry is dirty.
 fn is_left_unclean(state: &State<Global>) -> bool
     requires size { length state.now.tree.entries ≡ state.now.root.geometry.cache_blocks }
     ensures unclean { OnTrue result (IsLeftUnclean state.now) }
@@ -62,11 +63,38 @@ fn is_left_unclean(state: &State<Global>) -> bool
         return true;
     }
     for c in 0..state.root.geometry.cache_blocks {
-        if is_mapped_dirty(state.tree.get(CBlock(c))) {
+        if is_mapped_dirty(stored_entry(state, CBlock(c))) {
             return true;
         }
     }
     false
+}
+
+/// The entry of a cache block, with the dirty bit that was read of it; none where the block is not mapped.
+pub fn stored_entry(state: &State<Global>, block: CBlock) -> Option<Entry>
+    requires { block.0 < length state.now.tree.entries }
+    ensures { result ≡ slice_index_or (entries_of state.now) block.0 None }
+{
+    let entry = state.tree.get(block);
+    let CBlock(number) = block;
+    match &state.dirty {
+        None => entry,
+        Some(bits) => entry_with_bit(entry, bits.has(number as usize)),
+    }
+}
+
+/// An entry with this dirty bit.
+fn entry_with_bit(entry: Option<Entry>, dirty: bool) -> Option<Entry>
+    ensures { result ≡ entry_with dirty entry }
+{
+    match entry {
+        None => None,
+        Some(entry) => Some(Entry {
+            origin: entry.origin,
+            dirty,
+            hint: entry.hint,
+        }),
+    }
 }
 
 fn is_mapped_dirty(entry: Option<Entry>) -> bool

@@ -21,7 +21,9 @@ impl Opening {
         Some(State {
             root: commit.image().root,
             tree: state.tree,
+            dirty: state.dirty,
             used: state.used,
+            nodes: state.nodes,
         })
     }
 }

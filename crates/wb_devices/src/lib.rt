@@ -14,6 +14,7 @@ mod performing;
 mod reading;
 mod running;
 
+pub use clean::stored_entry;
 pub use committing::{put, sync_metadata};
 pub use devices::Devices;
 pub use moving::{read_extent, sync, write_extent};

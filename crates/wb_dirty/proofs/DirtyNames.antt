@@ -1,6 +1,6 @@
 -- The names of the nodes that a set of dirty blocks needs: none comes twice, and what stands under them.
-use Rattle.std.proofs.Common.{◌≡◌, ◌≤◌, ◌<◌, ◌+◌, ◌-◌, ◌*◌, ◌/◌, ◌^◌, ◌&&◌, ◌∙◌, sym, ap, subst, refl, ℕ, zero, suc, Bool, true, false, cond, ◌==◌, List, [], ◌∷◌, ◌++◌, Option, Some, length, map, get_or, arith, inl, inr}
-use Rattle.std.specs.Prelude.{◌⊎◌, Contains, slice_get, option_map}
+use Rattle.std.proofs.Common.{◌≡◌, ◌≤◌, ◌<◌, ◌+◌, ◌-◌, ◌*◌, ◌/◌, ◌^◌, ◌&&◌, ◌∙◌, sym, ap, subst, refl, ℕ, zero, suc, Bool, true, false, cond, ◌==◌, List, [], ◌∷◌, ◌++◌, Option, Some, length, map, get_or, arith}
+use Rattle.std.specs.Prelude.{Contains, slice_get, option_map}
 use Rattle.std.specs.List.{AllByRecursion}
 use Rattle.std.proofs.lemmas.Bool.{eqb-true, false≢true}
 use Rattle.std.proofs.lemmas.Option.{slice_get-get_or, slice_get-map}
@@ -11,7 +11,7 @@ use Rattle.wb_format.specs.declared.node.Node.{Node}
 use Rattle.wb_format.specs.declared.root.Root.{Root}
 use Rattle.wb_tree.specs.Mapping.{NodeName, each_from}
 use Rattle.wb_tree.specs.Planning.{names}
-use Rattle.wb_tree.proofs.Nodes.Names.{AllByRecursion-append, AllByRecursion-weaker, IsBelow, below_up, AreApart, has, has_not, same_name, apart-append, had_right}
+use Rattle.wb_tree.proofs.Nodes.Names.{AllByRecursion-append, AllByRecursion-weaker, IsBelow, below_up, each_from-below, AreApart, has, has_not, same_name, apart-append, each_from-apart, had_right}
 use Rattle.wb_dirty.specs.Reading.{is_among}
 use Rattle.wb_dirty.specs.Planning.{has_dirty, dirty_below, StandsAt}
 use Rattle.wb_dirty.specs.ReadBack.{MayBeRead}
@@ -21,27 +21,6 @@ use Rattle.wb_dirty.specs.ReadBack.{MayBeRead}
 if_any : (P : List NodeName → Type 0) (b : Bool) (nodes : List NodeName) → P [] → P nodes → P (cond b nodes [])
 if_any P true nodes none some = some
 if_any P false nodes none some = none
-
--- of each of some children
-each-below : (f : ℕ → List NodeName) (level : ℕ) → ((index : ℕ) → AllByRecursion (IsBelow level index (index + 1)) (f index)) → (count first : ℕ) → AllByRecursion (IsBelow level first (first + count)) (each_from f count first)
-unfolding each_from
-each-below f level below zero first = tt
-each-below f level below (suc count) first =
-    AllByRecursion-append (IsBelow level first (first + suc count)) (f first) (each_from f count (first + 1))
-    (AllByRecursion-weaker (IsBelow level first (first + 1)) (IsBelow level first (first + suc count)) (λ node h. record { from = h.from; to = h.to; at_least = h.at_least; before = omega (arith, h.before) }) (f first) (below first))
-    (AllByRecursion-weaker (IsBelow level (first + 1) (first + 1 + count)) (IsBelow level first (first + suc count)) (λ node h. record { from = h.from; to = h.to; at_least = omega (arith, h.at_least); before = omega (arith, h.before) }) (each_from f count (first + 1))
-    (each-below f level below count (first + 1)))
-
--- those of two children have no name in common
-each-apart : (f : ℕ → List NodeName) (level : ℕ) → ((index : ℕ) → AllByRecursion (IsBelow level index (index + 1)) (f index)) → ((index : ℕ) → AreApart (f index)) → (count first : ℕ) → AreApart (each_from f count first)
-unfolding each_from
-each-apart f level below apart zero first = tt
-each-apart f level below apart (suc count) first =
-    apart-append (f first) (each_from f count (first + 1)) (apart first) (each-apart f level below apart count (first + 1))
-    (AllByRecursion-weaker (IsBelow level first (first + 1)) (λ node. has (each_from f count (first + 1)) node.level node.index ≡ false)
-    (λ node h. has_not (IsBelow level (first + 1) (first + 1 + count)) (each_from f count (first + 1)) node.level node.index (each-below f level below count (first + 1))
-    (λ other. absurd (omega (arith, h.before, other.at_least))))
-    (f first) (below first))
 
 -- every node that is needed is the node or lies below it
 dirty_below-below : (dirty : List Bool) (level index : ℕ) → AllByRecursion (IsBelow level index (index + 1)) (dirty_below dirty level index)
@@ -53,16 +32,16 @@ dirty_below-below dirty (suc level) index =
     if_any (AllByRecursion (IsBelow (suc level) index (index + 1))) (has_dirty dirty (suc level) index) (each_from (dirty_below dirty level) 32 (32 * index) ++ self ∷ []) tt
     (AllByRecursion-append (IsBelow (suc level) index (index + 1)) (each_from (dirty_below dirty level) 32 (32 * index)) (self ∷ [])
     (AllByRecursion-weaker (IsBelow level (32 * index) (32 * index + 32)) (IsBelow (suc level) index (index + 1)) (below_up level index) (each_from (dirty_below dirty level) 32 (32 * index))
-    (each-below (dirty_below dirty level) level (dirty_below-below dirty level) 32 (32 * index)))
+    (each_from-below (dirty_below dirty level) level (dirty_below-below dirty level) 32 (32 * index)))
     (record { from = omega arith; to = omega arith; at_least = omega arith; before = omega arith }, tt))
 
 open-apart : (dirty : List Bool) (level index : ℕ) → ((i : ℕ) → AreApart (dirty_below dirty level i)) → AreApart (each_from (dirty_below dirty level) 32 (32 * index) ++ record { level = suc level; index = index } ∷ [])
 open-apart dirty level index below =
     let self : NodeName = record { level = suc level; index = index } in
-    apart-append (each_from (dirty_below dirty level) 32 (32 * index)) (self ∷ []) (each-apart (dirty_below dirty level) level (dirty_below-below dirty level) below 32 (32 * index)) (refl, tt)
+    apart-append (each_from (dirty_below dirty level) 32 (32 * index)) (self ∷ []) (each_from-apart (dirty_below dirty level) level (dirty_below-below dirty level) below 32 (32 * index)) (refl, tt)
     (AllByRecursion-weaker (IsBelow level (32 * index) (32 * index + 32)) (λ node. has (self ∷ []) node.level node.index ≡ false)
     (λ node h. has_not (λ other. other.level ≡ suc level) (self ∷ []) node.level node.index (refl, tt) (λ same. let a = h.to in absurd (omega arith)))
-    (each_from (dirty_below dirty level) 32 (32 * index)) (each-below (dirty_below dirty level) level (dirty_below-below dirty level) 32 (32 * index)))
+    (each_from (dirty_below dirty level) 32 (32 * index)) (each_from-below (dirty_below dirty level) level (dirty_below-below dirty level) 32 (32 * index)))
 
 -- no node is needed twice
 pub dirty_below-apart : (dirty : List Bool) (level index : ℕ) → AreApart (dirty_below dirty level index)
@@ -73,7 +52,7 @@ dirty_below-apart dirty (suc level) index =
 
 -- nor among children
 pub dirty_each-apart : (dirty : List Bool) (level count first : ℕ) → AreApart (each_from (dirty_below dirty level) count first)
-dirty_each-apart dirty level count first = each-apart (dirty_below dirty level) level (dirty_below-below dirty level) (dirty_below-apart dirty level) count first
+dirty_each-apart dirty level count first = each_from-apart (dirty_below dirty level) level (dirty_below-below dirty level) (dirty_below-apart dirty level) count first
 
 -- nor is the parent of children among them
 pub dirty_open-apart : (dirty : List Bool) (level index : ℕ) → 1 ≤ level → AreApart (each_from (dirty_below dirty (level - 1)) 32 (32 * index) ++ record { level = level; index = index } ∷ [])
@@ -95,19 +74,7 @@ apart-not_both (x ∷ xs) ys level index apart h g = by_name ((x.level == level)
         false≢true (sym apart.0 ∙ (ap (λ (n : NodeName). has (xs ++ ys) n.level n.index) name ∙ had_right xs ys level index g))
     by_name false e t later = later t
 
--- one that is in the two together is in one of them
-pub had_either : (xs ys : List NodeName) (level index : ℕ) → has (xs ++ ys) level index ≡ true → (has xs level index ≡ true) ⊎ (has ys level index ≡ true)
-had_either [] ys level index h = inr h
-had_either (x ∷ xs) ys level index h = by_name ((x.level == level) && (x.index == index)) h (had_either xs ys level index)
-  where
-    by_name : (b : Bool) → cond b true (has (xs ++ ys) level index) ≡ true → (has (xs ++ ys) level index ≡ true → (has xs level index ≡ true) ⊎ (has ys level index ≡ true)) → (cond b true (has xs level index) ≡ true) ⊎ (has ys level index ≡ true)
-    by_name true t later = inl refl
-    by_name false t later = later t
-
 -- a name by itself
-pub had_itself : (level index : ℕ) → has (record { level = level; index = index } ∷ []) level index ≡ true
-had_itself level index = rw (yes level, yes index) refl
-
 pub had_only : (level index l i : ℕ) → has (record { level = level; index = index } ∷ []) l i ≡ true → (level ≡ l) × (index ≡ i)
 had_only level index l i h = by_name ((level == l) && (index == i)) refl h
   where

@@ -9,4 +9,5 @@ pub mod ReadBack
 pub mod PlanCounting
 pub mod MappingsFound
 pub mod Images
+pub mod DirtyFraming
 pub mod Following

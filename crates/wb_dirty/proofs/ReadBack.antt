@@ -17,7 +17,7 @@ use Rattle.wb_tree.specs.Mapping.{NodeName, each_from}
 use Rattle.wb_tree.specs.Images.{place_word}
 use Rattle.wb_tree.specs.Planning.{names}
 use Rattle.wb_tree.specs.Reading.{Nodes}
-use Rattle.wb_tree.proofs.Nodes.Names.{AreApart, has, had_left, had_right}
+use Rattle.wb_tree.proofs.Nodes.Names.{AreApart, has, either_had, itself_had, had_left, had_right}
 use Rattle.wb_dirty.specs.declared.child.Child.{Child}
 use Rattle.wb_dirty.specs.declared.planning.DirtyPlan.{DirtyPlan}
 use Rattle.wb_dirty.specs.Reading.{Asked, Marks, MarksOutcome, ◌next◌, each, is_among, bit_read, bits_read, children_from, names_node, is_dirty_node, node_read, dirty_top_read, none_dirty}
@@ -28,7 +28,7 @@ use Rattle.wb_dirty.proofs.TakenBits.{marks_of}
 use Rattle.wb_dirty.proofs.Steps.{each-first, dirty_child_read-named, node_read-leaf, node_read-inner}
 use Rattle.wb_dirty.proofs.Loads.{is_among-push}
 use Rattle.wb_dirty.proofs.DirtyBits.{dirty_to, dirty_to-none, dirty_to-all, dirty_to-set, dirty_to-skip, dirty_to-skip_many, has_dirty-begins, has_dirty-none, depth-holds}
-use Rattle.wb_dirty.proofs.DirtyNames.{dirty_each-apart, dirty_open-apart, dirty_below-apart, apart-not_both, had_either, had_itself, had_only, contained-had, stands-once, contained-place, place-once, is_among-append, contained-among, among-contained}
+use Rattle.wb_dirty.proofs.DirtyNames.{dirty_each-apart, dirty_open-apart, dirty_below-apart, apart-not_both, had_only, contained-had, stands-once, contained-place, place-once, is_among-append, contained-among, among-contained}
 use Rattle.wb_dirty.proofs.PlanSteps.{dirty_below-none, dirty_below-some, leaf_needs_none, length-names}
 
 -- what stands in some nodes is read, of a set of dirty blocks
@@ -96,7 +96,7 @@ read-then dirty all xs ys reached middle to first rest one two = record {
     | inl a ↦ one_left all xs ys number (one.among number a)
     | inr b ↦ one_right all xs ys number (two.among number b)
   ];
-  every = λ level index place h s. is_among-append place.0 one.places two.places ∙ (elim (had_either xs ys level index h) [
+  every = λ level index place h s. is_among-append place.0 one.places two.places ∙ (elim (either_had xs ys level index h) [
     | inl a ↦ cond-true (is_among place.0 one.places) true (is_among place.0 two.places) (one.every level index place a s)
     | inr b ↦ or_true (is_among place.0 one.places) (is_among place.0 two.places) (two.every level index place b s)
   ]);
@@ -152,10 +152,10 @@ read-node asked nodes dirty generation all level index here children reached to 
   places = here ∷ c.places;
   read = e ∙ (c.read ∙ ap (λ (ps : List Place). Ok (marks_of ps (dirty_to to dirty))) (append_assoc reached (here ∷ []) c.places));
   among = λ number h. elim (either_true (here.0 == number) (is_among number c.places) h) [
-    | inl a ↦ record { level = level; index = index; place = here; had = had_right children (record { level = level; index = index } ∷ []) level index (had_itself level index); stands = s; is = eqb-true here.0 number a }
+    | inl a ↦ record { level = level; index = index; place = here; had = had_right children (record { level = level; index = index } ∷ []) level index (itself_had level index); stands = s; is = eqb-true here.0 number a }
     | inr b ↦ one_left all children (record { level = level; index = index } ∷ []) number (c.among number b)
   ];
-  every = λ l i place h t. elim (had_either children (record { level = level; index = index } ∷ []) l i h) [
+  every = λ l i place h t. elim (either_had children (record { level = level; index = index } ∷ []) l i h) [
     | inl a ↦ or_true (here.0 == place.0) (is_among place.0 c.places) (c.every l i place a t)
     | inr b ↦
         let only = had_only level index l i b in
@@ -176,7 +176,7 @@ fresh-below asked nodes dirty generation all level index here children reached r
       fresh l i place (had_left children (record { level = level; index = index } ∷ []) l i h) t,
       false_from_ne_true (here.0 == place.0) (λ e.
           let same = r.same l i level index place here t s (sym (eqb-true here.0 place.0 e)) in
-          apart-not_both children (record { level = level; index = index } ∷ []) level index apart (subst (λ n. has children n index ≡ true) same.0 (subst (λ n. has children l n ≡ true) same.1 h)) (had_itself level index)),
+          apart-not_both children (record { level = level; index = index } ∷ []) level index apart (subst (λ n. has children n index ≡ true) same.0 (subst (λ n. has children l n ≡ true) same.1 h)) (itself_had level index)),
     ) refl)
 
 -- a leaf
@@ -263,7 +263,7 @@ child-next asked nodes dirty generation all level index here words count j i (So
     let ys : List NodeName = each_from (dirty_below dirty level) count (i + 1) in
     let one = child i place reached s some (λ l k p h t. fresh l k p (had_left (dirty_below dirty level i) (each_from (dirty_below dirty level) count (i + 1)) l k h) t) in
     let self : has (dirty_below dirty level i) level i ≡ true =
-    ap (λ (ns : List NodeName). has ns level i) (dirty_below-some dirty level i from some) ∙ had_right (each_from (dirty_below dirty (level - 1)) 32 (32 * i)) (record { level = level; index = i } ∷ []) level i (had_itself level i) in
+    ap (λ (ns : List NodeName). has ns level i) (dirty_below-some dirty level i from some) ∙ had_right (each_from (dirty_below dirty (level - 1)) 32 (32 * i)) (record { level = level; index = i } ∷ []) level i (itself_had level i) in
     let unread : is_among place.0 reached ≡ false = fresh level i place (had_left (dirty_below dirty level i) (each_from (dirty_below dirty level) count (i + 1)) level i self) s in
     let made : ℕ → ℕ → Child = λ n w. record { level = level; index = n; word = w; from = here } in
     let same : made (32 * index + j) (slice_index words j) ≡ made i place.0 = ap (λ n. made n (slice_index words j)) (sym e) ∙ ap (λ w. made i w) word in

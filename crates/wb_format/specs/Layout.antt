@@ -22,12 +22,10 @@ pub record SpellsRoot (sector : List ℕ) (root : Root) : Type 0 where
   pub top_dirty : number_at sector 44 4 ≡ top_number root.top_dirty
   pub rest : IsZero sector 48 512
 
--- A root in its slot, 0 or 1: roots of even generation go to the first, those of odd generation to the second. Until dirty
--- bits are read from their own tree, no root of the second version counts: an opening finds none.
+-- A root in its slot, 0 or 1: roots of even generation go to the first, those of odd generation to the second.
 pub record IsValidIn (slot : ℕ) (sector : List ℕ) (root : Root) : Type 0 where
   pub spelled : SpellsRoot sector root
   pub parity : root.generation % 2 ≡ slot
-  pub version : root.version ≡ One
 
 -- the bytes of a node
 pub record SpellsNode (sector : List ℕ) (node : Node) : Type 0 where

@@ -1,17 +1,21 @@
 -- Places of which none stands twice, when one more is reached.
 use Rattle.std.proofs.Common.{◌≡◌, ◌≤◌, ◌<◌, ◌+◌, ◌-◌, ◌==◌, ◌||◌, ℕ, zero, suc, get_or, Bool, true, false, cond, nat_eq, List, [], ◌∷◌, ◌++◌, length, map, refl, sym, ◌∙◌, ap, subst, arith}
-use Rattle.std.specs.Prelude.{Contains}
+use Rattle.std.specs.Prelude.{Contains, IfSome, Option}
 use Rattle.std.specs.List.{AllByRecursion, IsDistinct, list_any}
 use Rattle.std.proofs.lemmas.Bool.Decides.{nat_tests}
 use Rattle.std.proofs.lemmas.List.{map-append, length-map, length-append}
 use Rattle.std.proofs.lemmas.Map.Steps.{length-le_from_distinct_below}
 use Rattle.wb_types.specs.declared.number.Place.{Place}
 use Rattle.wb_format.specs.declared.root.Root.{Root}
+use Rattle.wb_format.specs.declared.node.Node.{Node}
+use Rattle.wb_format.specs.Layout.{IsOfVersion}
 use Rattle.wb_tree.specs.declared.placed.PlacedNode.{PlacedNode}
-use Rattle.wb_tree.specs.Reading.{is_reached}
-use Rattle.wb_tree.specs.Loading.{Loading, IsFresh}
+use Rattle.wb_tree.specs.Reading.{Nodes, is_reached, tree_read}
+use Rattle.wb_tree.specs.Loading.{IsFresh}
+use Rattle.wb_dirty.specs.ImageLoading.{ImageLoading, mapping_outcome}
+use Rattle.wb_meta.proofs.Telling.{told_more, told_none}
 use Rattle.wb_meta.specs.States.{places_of}
-use Rattle.wb_meta.specs.Reads.{AreApartPlaces, AreStepsOn, IsTreeOn, sectors_read}
+use Rattle.wb_meta.specs.Reads.{AreApartPlaces, AreStepsOn, IsImageOn, sectors_read}
 use Rattle.wb_meta.specs.declared.read_steps.ReadSteps.{ReadSteps}
 use Rattle.wb_meta.specs.declared.read_steps.ReadSteps.TheVariants.{Begun, FirstSlotRead, RootFound, Done as AllRead}
 
@@ -44,6 +48,26 @@ unread_apart place [] e = tt
 unread_apart place (node ∷ nodes) e =
     let w = unread_parts (nat_eq node.place.0 place.0) (is_reached place.0 nodes) e in
     (w.0, unread_apart place nodes w.1)
+
+-- the first of these places are apart too
+all_front : {X : Type 0} (P : X → Type 0) (xs ys : List X) → AllByRecursion P (xs ++ ys) → AllByRecursion P xs
+all_front P [] ys all = tt
+all_front P (x ∷ xs) ys all = (all.0, all_front P xs ys all.1)
+
+distinct_front : {X : Type 0} (same : X → X → Bool) (xs ys : List X) → IsDistinct same (xs ++ ys) → IsDistinct same xs
+unfolding IsDistinct
+distinct_front same [] ys distinct = tt
+distinct_front same (x ∷ xs) ys distinct = (all_front (λ y. same x y ≡ false) xs ys distinct.0, distinct_front same xs ys distinct.1)
+
+pub apart_front : (sectors : ℕ) (nodes front back : List PlacedNode) → nodes ≡ front ++ back → AreApartPlaces sectors (places_of nodes) → AreApartPlaces sectors (places_of front)
+apart_front sectors nodes front back is apart =
+    let P : List Place → Type 0 = λ places. AreApartPlaces sectors places in
+    let both = subst P (ap (λ (ns : List PlacedNode). places_of ns) is ∙ map-append (λ (n : PlacedNode). n.place) front back) apart in
+    record {
+      from = all_front _ (places_of front) (places_of back) both.from;
+      to = all_front _ (places_of front) (places_of back) both.to;
+      apart = distinct_front _ (places_of front) (places_of back) both.apart;
+    }
 
 pub places_pushed : (nodes : List PlacedNode) (node : PlacedNode) → places_of (nodes ++ node ∷ []) ≡ places_of nodes ++ node.place ∷ []
 places_pushed nodes node = map-append (λ (n : PlacedNode). n.place) nodes (node ∷ [])
@@ -106,11 +130,11 @@ slots-apart sectors places two apart =
 pub read-sectors : {A : Type 0} (sectors : ℕ) (steps : ReadSteps A) → 2 ≤ sectors → AreStepsOn sectors steps → sectors_read steps ≤ sectors
 read-sectors sectors (Begun alloc global) two on = omega arith
 read-sectors sectors (FirstSlotRead alloc global first) two on = omega (arith, two)
-read-sectors sectors (RootFound global root loader) two on =
+read-sectors sectors (RootFound global root loader nodes) two on =
     let count = slots-apart sectors (places_of loader.found.reached) two on.0.used in
     let same : length (places_of loader.found.reached) ≡ length loader.found.reached = length-map loader.found.reached (λ (n : PlacedNode). n.place) in
     omega (arith, count, same)
-read-sectors sectors (AllRead state) two on = slots-apart sectors state.used.items two on.used_are
+read-sectors sectors (AllRead state) two on = on.1
 
 pub length_pushed : (nodes : List PlacedNode) (node : PlacedNode) → length (nodes ++ node ∷ []) ≡ length nodes + 1
 length_pushed nodes node = length-append nodes (node ∷ [])
@@ -123,32 +147,37 @@ room_left sectors nodes node apart =
     let more = length_pushed nodes node in
     omega (arith, count, same, more)
 
--- the tree that is read, with one node more
-pub tree_pushed : (sectors : ℕ) (root : Root) (l more : Loading) (node : PlacedNode) → IsTreeOn sectors root l → IsFresh l.root l.found.reached node.place → more.root ≡ l.root
-    → more.found.reached ≡ l.found.reached ++ node ∷ [] → IsTreeOn sectors root more
-tree_pushed sectors root l more node on fresh same reached =
-    let P : List PlacedNode → Type 0 = λ nodes. AreApartPlaces sectors (places_of nodes) in
+-- the places of the tree that is read, with one node more
+used_pushed : (sectors : ℕ) (root : Root) (l : ImageLoading) (node : PlacedNode) → IsImageOn sectors root l → IsFresh l.root l.found.reached node.place → AreApartPlaces sectors (places_of (l.found.reached ++ node ∷ []))
+used_pushed sectors root l node on fresh =
     let size : l.root.geometry.meta_sectors ≡ sectors = ap (λ (r : Root). r.geometry.meta_sectors) on.root_is ∙ on.size in
     let Q : ℕ → Type 0 = λ n. node.place.0 < n in
+    apart_pushed sectors l.found.reached node on.used fresh.behind (subst Q size fresh.inside) fresh.unread
+
+-- the tree that is read, with one node more
+pub tree_pushed : (sectors : ℕ) (root : Root) (l more : ImageLoading) (node : PlacedNode) (is : Option Node) → IsImageOn sectors root l → IsFresh l.root l.found.reached node.place → IfSome is (IsOfVersion root.version)
+    → more.root ≡ l.root → more.found.reached ≡ l.found.reached ++ node ∷ [] → ((nodes : Nodes) → nodes node.place.0 ≡ is → mapping_outcome more nodes ≡ mapping_outcome l nodes) → IsImageOn sectors root more
+tree_pushed sectors root l more node is on fresh has same reached goes =
+    let P : List PlacedNode → Type 0 = λ nodes. AreApartPlaces sectors (places_of nodes) in
     record {
       size = on.size;
       root_is = same ∙ on.root_is;
-      used = subst P (sym reached) (apart_pushed sectors l.found.reached node on.used fresh.behind (subst Q size fresh.inside) fresh.unread);
+      used = subst P (sym reached) (used_pushed sectors root l node on fresh);
+      told = told_more root l more node is on.told fresh.unread has reached goes;
     }
 
 -- and with less left
-pub fewer_left : (sectors : ℕ) (root : Root) (l more : Loading) (node : PlacedNode) → IsTreeOn sectors root l → IsFresh l.root l.found.reached node.place → more.root ≡ l.root
+pub fewer_left : (sectors : ℕ) (root : Root) (l more : ImageLoading) (node : PlacedNode) → IsImageOn sectors root l → IsFresh l.root l.found.reached node.place
     → more.found.reached ≡ l.found.reached ++ node ∷ [] → sectors - length more.found.reached < sectors - length l.found.reached
-fewer_left sectors root l more node on fresh same reached =
-    let made = tree_pushed sectors root l more node on fresh same reached in
-    let P : List PlacedNode → Type 0 = λ nodes. AreApartPlaces sectors (places_of nodes) in
-    let room = room_left sectors l.found.reached node (subst P reached made.used) in
+fewer_left sectors root l more node on fresh reached =
+    let room = room_left sectors l.found.reached node (used_pushed sectors root l node on fresh) in
     let count : length more.found.reached ≡ length l.found.reached + 1 = ap (λ (nodes : List PlacedNode). length nodes) reached ∙ length_pushed l.found.reached node in
     omega (arith, room, count)
 
 -- the tree of which nothing was read
-pub tree_begun : (sectors : ℕ) (root : Root) (l : Loading) → root.geometry.meta_sectors ≡ sectors → l.root ≡ root → l.found.reached ≡ [] → IsTreeOn sectors root l
+pub tree_begun : (sectors : ℕ) (root : Root) (l : ImageLoading) → root.geometry.meta_sectors ≡ sectors → l.root ≡ root → l.found.reached ≡ [] → ((nodes : Nodes) → mapping_outcome l nodes ≡ tree_read root nodes)
+    → IsImageOn sectors root l
 unfolding IsDistinct
-tree_begun sectors root l size same nothing =
+tree_begun sectors root l size same nothing begun =
     let P : List PlacedNode → Type 0 = λ nodes. AreApartPlaces sectors (places_of nodes) in
-    record { size = size; root_is = same; used = subst P (sym nothing) (record { from = tt; to = tt; apart = tt }) }
+    record { size = size; root_is = same; used = subst P (sym nothing) (record { from = tt; to = tt; apart = tt }); told = told_none root l begun }

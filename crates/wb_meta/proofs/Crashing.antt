@@ -93,6 +93,7 @@ old_left image sectors_of before old New sectors places may size each =
                 cc)
           ];
       reads = held.reads;
+      mapping = held.mapping;
     }
 
 -- with all nodes and the root, the image's mapping is there

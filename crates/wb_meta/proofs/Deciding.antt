@@ -1,5 +1,5 @@
 -- Which of two states a device is read as.
-use Rattle.std.proofs.Common.{◌≡◌, ◌∙◌, sym, ap, subst, refl, List, Option, Some, None, length, map, inl, inr}
+use Rattle.std.proofs.Common.{◌≡◌, ◌∙◌, sym, ap, subst, refl, Bool, List, Option, Some, None, length, map, inl, inr}
 use Rattle.std.proofs.lemmas.List.{length-map}
 use Rattle.wb_types.specs.declared.geometry.Geometry.{Geometry}
 use Rattle.wb_types.specs.declared.number.Place.{Place}
@@ -9,8 +9,8 @@ use Rattle.wb_disk.specs.Crashes.{MayLeave}
 use Rattle.wb_disk.proofs.Leaving.{read-left, crash-left, newest-synced, left-synced, left-crashed, left-partly}
 use Rattle.wb_format.specs.declared.root.Root.{Root}
 use Rattle.wb_tree.specs.Mapping.{Mapping}
-use Rattle.wb_tree.specs.Reading.{Found}
-use Rattle.wb_meta.specs.Representing.{Stored}
+use Rattle.wb_dirty.specs.ImageReading.{with_bits}
+use Rattle.wb_meta.specs.Representing.{Stored, Whole}
 use Rattle.wb_meta.specs.Imaging.{DeviceStores}
 use Rattle.wb_meta.specs.Reads.{FitsDevice}
 use Rattle.wb_meta.specs.States.{RepresentsState, SpeaksOfSectors, IsRefusedBy}
@@ -24,9 +24,9 @@ pub stored_is_read : (m : Mapping) (device : List History) (state : Stored) (use
 stored_is_read m device state used stores = record { size = stores.size; same_geometry = refl; later_geometry = tt; represents = stores.represents }
 
 -- one of which a crash leaves what reads give alone is read as that
-alone : (geometry : Geometry) (state : Stored) (device : List History) → length device ≡ geometry.meta_sectors → state.root.geometry ≡ geometry
+as_one : (geometry : Geometry) (state : Stored) (device : List History) → length device ≡ geometry.meta_sectors → state.root.geometry ≡ geometry
     → IsSettled device → Are state (map newest device) → MayBeReadAs geometry state None device
-alone geometry state device size same settled are = record {
+as_one geometry state device size same settled are = record {
   size = size;
   same_geometry = same;
   later_geometry = tt;
@@ -36,12 +36,12 @@ alone geometry state device size same settled are = record {
 decided : (geometry : Geometry) (committed : Stored) (later : Option Stored) (device new : List History) → MayBeReadAs geometry committed later device
     → length new ≡ length device → IsSettled new → MayLeave device (map newest new) → IsDecided geometry committed later new
 decided geometry committed None device new may size settled left =
-    (settled, inl (alone geometry committed new (size ∙ may.size) may.same_geometry settled (may.represents (map newest new) left)))
+    (settled, inl (as_one geometry committed new (size ∙ may.size) may.same_geometry settled (may.represents (map newest new) left)))
 decided geometry committed (Some later) device new may size settled left = (
   settled,
   elim (may.represents (map newest new) left) [
-    | inl old ↦ inl (alone geometry committed new (size ∙ may.size) may.same_geometry settled old)
-    | inr now ↦ inr (later, refl, alone geometry later new (size ∙ may.size) may.later_geometry settled now)
+    | inl old ↦ inl (as_one geometry committed new (size ∙ may.size) may.same_geometry settled old)
+    | inr now ↦ inr (later, refl, as_one geometry later new (size ∙ may.size) may.later_geometry settled now)
   ],
 )
 
@@ -66,16 +66,18 @@ failed_sync_leaves geometry committed later device new may partly = record {
   represents = λ sectors left. may.represents sectors (left-partly device new sectors partly left);
 }
 
-pub read_is_committed : (geometry : Geometry) (committed : Stored) (device : List History) (root : Root) (tree : Mapping) (used : List Place)
-    → MayBeReadAs geometry committed None device → IsSettled device → RepresentsState (map newest device) root tree used
-    → FitsDevice (length device) root tree used → (root ≡ committed.root) × (tree.entries ≡ committed.found.entries) × DeviceStores tree device committed used
-read_is_committed geometry committed device root tree used may settled state fits =
+pub read_is_committed : (geometry : Geometry) (committed : Stored) (device : List History) (root : Root) (tree : Mapping) (dirty : Option (List Bool)) (used : List Place)
+    → MayBeReadAs geometry committed None device → IsSettled device → RepresentsState (map newest device) root tree dirty used
+    → FitsDevice (length device) root tree used → (root ≡ committed.root) × (with_bits dirty tree.entries ≡ committed.found.entries)
+    × (tree.entries ≡ committed.found.mapping.entries) × DeviceStores tree device committed used
+read_is_committed geometry committed device root tree dirty used may settled state fits =
     let here = may.represents (map newest device) (read-left device) in
     let same = one_tree (map newest device) root committed.root state.found committed.found state.represents here in
-    let stores = stored_read device root tree used settled fits state in (
+    let stores = stored_read device root tree dirty used settled fits state in (
       same.0,
-      state.entries ∙ ap (λ (f : Found). f.entries) same.1,
-      subst (λ (f : Found). DeviceStores tree device (record { root = committed.root; found = f }) used) same.1
+      state.entries ∙ ap (λ (f : Whole). f.entries) same.1,
+      state.mapping_entries ∙ ap (λ (f : Whole). f.mapping.entries) same.1,
+      subst (λ (f : Whole). DeviceStores tree device (record { root = committed.root; found = f }) used) same.1
           (subst (λ (r : Root). DeviceStores tree device (record { root = r; found = state.found }) used) same.0 stores),
     )
 

@@ -4,7 +4,6 @@ use Rattle.std.specs.List.{slice_get}
 use Rattle.std.proofs.lemmas.List.{length-map}
 use Rattle.std.proofs.lemmas.Option.{slice_get_cases}
 use Rattle.wb_types.specs.declared.geometry.Geometry.{Geometry}
-use Rattle.wb_types.specs.declared.version.Version.TheVariants.{One}
 use Rattle.wb_disk.specs.Device.{Content, History, ReadGives, written, synced, only, newest}
 use Rattle.wb_format.specs.declared.root.Root.{Root}
 use Rattle.wb_format.specs.Bytes.{number_at}
@@ -12,7 +11,8 @@ use Rattle.wb_format.specs.Layout.{SpellsRoot}
 use Rattle.wb_tree.specs.Reading.{top_read, nothing_found}
 use Rattle.wb_disk.specs.Crashes.{AfterEveryCrash}
 use Rattle.wb_meta.specs.Commits.{Every, Newest}
-use Rattle.wb_meta.specs.Representing.{Represents}
+use Rattle.wb_meta.specs.Representing.{Represents, alone}
+use Rattle.wb_meta.proofs.ImageFraming.{alone_read}
 use Rattle.wb_meta.specs.Formats.{IsFirstRoot, IsFormatted, SlotsAlone}
 use Rattle.wb_meta.specs.Steps.{Puts, zero_sector}
 use Rattle.wb_meta.proofs.Histories.{Every-written, Newest-written, Newest-every, Every-synced, Every-left, length-written}
@@ -29,15 +29,15 @@ abbrev HasRoot : Root → ℕ → Content → Type 0
 HasRoot root at content = at ≡ 0 → SpellsRoot content root
 
 -- sectors with this root in the first slot and zeros in the second
-sectors_left : (geometry : Geometry) (root : Root) (sectors : List Content) → IsFirstRoot geometry root → root.version ≡ One → 2 ≤ length sectors
-    → ((at : ℕ) (c : Content) → slice_get sectors at ≡ Some c → HasRoot root at c) → ((at : ℕ) (c : Content) → slice_get sectors at ≡ Some c → HasZeros at c) → Represents sectors root (nothing_found root)
-sectors_left geometry root sectors new one size first second = elim (slice_get_cases sectors 0).1 [
+sectors_left : (geometry : Geometry) (root : Root) (sectors : List Content) → IsFirstRoot geometry root → 2 ≤ length sectors
+    → ((at : ℕ) (c : Content) → slice_get sectors at ≡ Some c → HasRoot root at c) → ((at : ℕ) (c : Content) → slice_get sectors at ≡ Some c → HasZeros at c) → Represents sectors root (alone (nothing_found root))
+sectors_left geometry root sectors new size first second = elim (slice_get_cases sectors 0).1 [
   | inl w ↦ record {
     newest = record {
       slot = 0;
       sector = w.0;
       there = w.2;
-      valid = record { spelled = first 0 w.0 w.2 refl; parity = omega (arith, new.generation); version = one };
+      valid = record { spelled = first 0 w.0 w.2 refl; parity = omega (arith, new.generation) };
       newest = λ other another older off e valid. absurd (
           let low : other ≡ 1 = omega (arith, valid.parity, off) in
           let P : Content → Type 0 = λ c. number_at c 8 8 ≡ older.generation in
@@ -46,14 +46,15 @@ sectors_left geometry root sectors new one size first second = elim (slice_get_c
     };
     nodes = λ place. None;
     reached = λ place r. absurd (cc);
-    reads = ap (λ t. top_read root (λ place. None) t) new.top;
+    reads = alone_read root (λ place. None) (nothing_found root) new.top_dirty (ap (λ t. top_read root (λ place. None) t) new.top);
+    mapping = ap (λ t. top_read root (λ place. None) t) new.top;
   }
   | inr w ↦ absurd (omega (arith, size, w.0))
 ]
 
-formatted_represents : (geometry : Geometry) (root : Root) (d0 d1 d2 d3 d4 d5 : List History) → IsFirstRoot geometry root → root.version ≡ One → 2 ≤ length d0
-    → d1 ≡ written d0 0 zero_sector → d2 ≡ written d1 1 zero_sector → d3 ≡ synced d2 → Puts (λ content. SpellsRoot content root) 0 d3 d4 → d5 ≡ synced d4 → AfterEveryCrash (λ sectors. Represents sectors root (nothing_found root)) d5
-formatted_represents geometry root d0 d1 d2 d3 d4 d5 new one size w1 w2 s3 puts s5 sectors left =
+formatted_represents : (geometry : Geometry) (root : Root) (d0 d1 d2 d3 d4 d5 : List History) → IsFirstRoot geometry root → 2 ≤ length d0
+    → d1 ≡ written d0 0 zero_sector → d2 ≡ written d1 1 zero_sector → d3 ≡ synced d2 → Puts (λ content. SpellsRoot content root) 0 d3 d4 → d5 ≡ synced d4 → AfterEveryCrash (λ sectors. Represents sectors root (alone (nothing_found root))) d5
+formatted_represents geometry root d0 d1 d2 d3 d4 d5 new size w1 w2 s3 puts s5 sectors left =
     let NewestZeros : List History → Type 0 = Newest HasZeros in
     let EveryZeros : List History → Type 0 = Every HasZeros in
     let EveryRoot : List History → Type 0 = Every (HasRoot root) in
@@ -68,14 +69,14 @@ formatted_represents geometry root d0 d1 d2 d3 d4 d5 new one size w1 w2 s3 puts 
     let same : length d5 ≡ length d0 =
     ap len s5 ∙ length-map d4 (λ h. only (newest h)) ∙ ap len puts.wrote ∙ length-written d3 0 puts.content ∙ ap len s3 ∙ length-map d2 (λ h. only (newest h))
     ∙ ap len w2 ∙ length-written d1 1 zero_sector ∙ ap len w1 ∙ length-written d0 0 zero_sector in
-    sectors_left geometry root sectors new one (omega (arith, left.size, same, size)) (Every-left (HasRoot root) d5 sectors root5 left) (Every-left HasZeros d5 sectors zeros5 left)
+    sectors_left geometry root sectors new (omega (arith, left.size, same, size)) (Every-left (HasRoot root) d5 sectors root5 left) (Every-left HasZeros d5 sectors zeros5 left)
 
-pub formatted_left : (geometry : Geometry) (root : Root) (d0 d1 d2 d3 d4 d5 : List History) → IsFirstRoot geometry root → root.version ≡ One → 2 ≤ length d0
+pub formatted_left : (geometry : Geometry) (root : Root) (d0 d1 d2 d3 d4 d5 : List History) → IsFirstRoot geometry root → 2 ≤ length d0
     → d1 ≡ written d0 0 zero_sector → d2 ≡ written d1 1 zero_sector → d3 ≡ synced d2 → Puts (λ content. SpellsRoot content root) 0 d3 d4 → d5 ≡ synced d4 → IsFormatted geometry d5
-formatted_left geometry root d0 d1 d2 d3 d4 d5 new one size w1 w2 s3 puts s5 = record {
+formatted_left geometry root d0 d1 d2 d3 d4 d5 new size w1 w2 s3 puts s5 = record {
   root = root;
   first = new;
-  represents = formatted_represents geometry root d0 d1 d2 d3 d4 d5 new one size w1 w2 s3 puts s5;
+  represents = formatted_represents geometry root d0 d1 d2 d3 d4 d5 new size w1 w2 s3 puts s5;
 }
 
 -- no sector behind the slots was written

@@ -7,7 +7,7 @@ use Rattle.wb_types.specs.Limits.{depth_of}
 use Rattle.wb_types.specs.declared.number.Place.{Place}
 use Rattle.wb_types.specs.declared.entry.Entry.{Entry}
 use Rattle.wb_types.specs.declared.geometry.Geometry.{Geometry}
-use Rattle.wb_types.specs.declared.version.Version.TheVariants.{One}
+use Rattle.wb_types.specs.declared.version.Version.{Version}
 use Rattle.wb_disk.specs.Device.{Content, History}
 use Rattle.wb_format.specs.declared.node.Node.{Node}
 use Rattle.wb_format.specs.declared.root.Root.{Root}
@@ -17,7 +17,8 @@ use Rattle.wb_format.proofs.Values.{one_root}
 use Rattle.wb_tree.specs.declared.image.Image.{Image}
 use Rattle.wb_tree.specs.Mapping.{Mapping, NodeName, IsMapping, IsSound, AreInside, place_of, exists, changed}
 use Rattle.wb_tree.specs.Reading.{IsNewestRoot}
-use Rattle.wb_tree.specs.Images.{AreFree, ImagePlan, IsImage, StoresNode, Stores, HasWordsOf, name_of, place_word, word_at}
+use Rattle.wb_tree.specs.Whole.{found_of}
+use Rattle.wb_tree.specs.Images.{AreFree, ImagePlan, IsImage, StoresNode, Stores, HasWordsOf, kept_tree, name_of, place_word, word_at}
 use Rattle.wb_tree.proofs.Nodes.Names.{has, same_name}
 use Rattle.wb_tree.proofs.Nodes.Listed.{unknown_changed}
 use Rattle.wb_meta.specs.declared.commit_steps.CommitSteps.{CommitSteps}
@@ -26,27 +27,27 @@ use Rattle.wb_disk.specs.Crashes.{MayLeave, AfterEveryCrash}
 use Rattle.wb_meta.specs.Representing.{RepresentsTree, RepresentsOldOrTree, Stored}
 use Rattle.wb_meta.specs.Placing.{HavePlaces, IsPlaced, MayCommit}
 use Rattle.wb_meta.specs.Imaging.{IsNextImage}
-use Rattle.wb_meta.proofs.Versions.{version_of, same_version, first_keeps}
+use Rattle.wb_meta.proofs.Versions.{version_of}
 use Rattle.wb_meta.proofs.Crashing.{come_crash, failed_crash, done_crash}
-use Rattle.wb_meta.proofs.Storing.{same_place, Represents-stored}
+use Rattle.wb_meta.proofs.Storing.{ReadsTree, same_place, Represents-tree, tree_stored}
 
 -- ---- lists
 
-taken : {X : Type 0} (xs : List X) (n i : ℕ) (x : X) → slice_get (take n xs) i ≡ Some x → slice_get xs i ≡ Some x
+pub taken : {X : Type 0} (xs : List X) (n i : ℕ) (x : X) → slice_get (take n xs) i ≡ Some x → slice_get xs i ≡ Some x
 taken [] zero i x h = h
 taken [] (suc n) i x h = h
 taken (y ∷ xs) zero i x h = absurd cc
 taken (y ∷ xs) (suc n) zero x h = h
 taken (y ∷ xs) (suc n) (suc i) x h = taken xs n i x h
 
-mapped_at : {X Y : Type 0} (f : X → Y) (xs : List X) (i : ℕ) (x : X) → slice_get xs i ≡ Some x → slice_get (map f xs) i ≡ Some (f x)
+pub mapped_at : {X Y : Type 0} (f : X → Y) (xs : List X) (i : ℕ) (x : X) → slice_get xs i ≡ Some x → slice_get (map f xs) i ≡ Some (f x)
 mapped_at {X} {Y} f xs i x h = slice_get-map f xs i ∙ ap (λ (o : Option X). option_map f o) h
 
 -- what holds of each element holds of this one
-each_at : {X : Type 0} (P : X → Type 0) (xs : List X) (i : ℕ) (x : X) → All P xs → slice_get xs i ≡ Some x → P x
+pub each_at : {X : Type 0} (P : X → Type 0) (xs : List X) (i : ℕ) (x : X) → All P xs → slice_get xs i ≡ Some x → P x
 each_at P xs i x all h = subst P (get_or_from_slice_get xs i x x h) (all i x (slice_get_within xs i x h))
 
-same_some : {X : Type 0} (o : Option X) (a b : X) → o ≡ Some a → o ≡ Some b → a ≡ b
+pub same_some : {X : Type 0} (o : Option X) (a b : X) → o ≡ Some a → o ≡ Some b → a ≡ b
 same_some o a b e f = cc
 
 -- a node of this name is listed
@@ -88,31 +89,46 @@ same_words m n old new same stored (suc (suc level)) index j here below known =
 -- ---- places
 
 -- the place of a node of an image is one of the free ones
-from_free : (free : List Place) (nodes : List (Place × Node)) → map (λ node. node.0) nodes ≡ take (length nodes) free → (i : ℕ) (node : Place × Node) → slice_get nodes i ≡ Some node → slice_get free i ≡ Some node.0
+pub from_free : (free : List Place) (nodes : List (Place × Node)) → map (λ node. node.0) nodes ≡ take (length nodes) free → (i : ℕ) (node : Place × Node) → slice_get nodes i ≡ Some node → slice_get free i ≡ Some node.0
 from_free free nodes are i node h =
     taken free (length nodes) i node.0 (ap (λ (places : List Place). slice_get places i) (sym are) ∙ mapped_at (λ (n : Place × Node). n.0) nodes i node h)
 
+-- An image writes at least what the image of a tree does, each node to the free place that comes at its position, and its root names
+-- the same tree.
+pub record Extends (plan : ImagePlan) (tree image : Image) : Type 0 where
+  pub front : (i : ℕ) (node : Place × Node) → slice_get tree.nodes.items i ≡ Some node → slice_get image.nodes.items i ≡ Some node
+  pub free_place : (i : ℕ) (node : Place × Node) → slice_get image.nodes.items i ≡ Some node → slice_get plan.free i ≡ Some node.0
+  pub root_generation : image.root.generation ≡ plan.generation
+  pub root_geometry : image.root.geometry ≡ plan.geometry
+  pub root_top : image.root.top ≡ tree.root.top
+
+-- that of the tree itself
+pub itself : (m n : Mapping) (plan : ImagePlan) (image : Image) → IsImage m n plan image → Extends plan image image
+itself m n plan image is = record {
+  front = λ i node h. h;
+  free_place = from_free plan.free image.nodes.items is.places_are;
+  root_generation = is.root_generation;
+  root_geometry = is.root_geometry;
+  root_top = refl;
+}
+
 -- the nodes of an image have places of the device
+pub extended_places : (m : Mapping) (plan : ImagePlan) (tree image : Image) → AreFree m plan.geometry plan.free → Extends plan tree image → HavePlaces image.nodes.items plan.geometry.meta_sectors
+extended_places m plan tree image frees more = record {
+  slots = let from = plan.geometry.within.meta_from in omega arith;
+  from = λ i node h. frees.behind i node.0 (more.free_place i node h);
+  to = λ i node h. frees.inside i node.0 (more.free_place i node h);
+  apart = λ i j node other h k e. frees.apart i j node.0 (more.free_place i node h) (more.free_place j other k ∙ ap Some (same_place other.0 node.0 (sym e)));
+}
+
 pub have_places : (m n : Mapping) (plan : ImagePlan) (image : Image) → AreFree m plan.geometry plan.free → IsImage m n plan image → HavePlaces image.nodes.items plan.geometry.meta_sectors
-have_places m n plan image frees is =
-    let free_at = from_free plan.free image.nodes.items is.places_are in
-    record {
-      slots = let from = plan.geometry.within.meta_from in omega arith;
-      from = λ i node h. frees.behind i node.0 (free_at i node h);
-      to = λ i node h. frees.inside i node.0 (free_at i node h);
-      apart = λ i j node other h k e. frees.apart i j node.0 (free_at i node h) (free_at j other k ∙ ap Some (same_place other.0 node.0 (sym e)));
-    }
+have_places m n plan image frees is = extended_places m plan image image frees (itself m n plan image is)
 
-module _ (m n : Mapping) (plan : ImagePlan) (image : Image) (device : List History) (old : Stored) (next : IsNextImage m n plan image device old) where
-  -- a node's place is one of the free ones
-  free_place : (i : ℕ) (node : Place × Node) → slice_get image.nodes.items i ≡ Some node → slice_get plan.free i ≡ Some node.0
-  free_place i node h = from_free plan.free image.nodes.items next.image_is.places_are i node h
+-- ---- an image in place that writes the tree's nodes, and perhaps more
 
-  pub places : HavePlaces image.nodes.items (length device)
-  places = subst (HavePlaces image.nodes.items) (sym next.size) (have_places m n plan image next.free_are next.image_is)
-
+module _ (m n : Mapping) (plan : ImagePlan) (tree image : Image) (device : List History) (old : Stored) (next : IsNextImage m n plan tree device old) (more : Extends plan tree image) where
   -- a node of the new tree that the old one does not know is one of the image's
-  written_node : (level index : ℕ) (place : Place) → place_of n level index ≡ Some place → place_of m level index ≡ None → Named image.nodes.items level index
+  written_node : (level index : ℕ) (place : Place) → place_of n level index ≡ Some place → place_of m level index ≡ None → Named tree.nodes.items level index
   written_node level index place known none =
       let range = next.new_sound.known_level level index place known in
       let same = next.image_is.same_entries in
@@ -122,11 +138,11 @@ module _ (m n : Mapping) (plan : ImagePlan) (image : Image) (device : List Histo
       let to : level ≤ depth_of plan.geometry.cache_blocks = subst (λ d. level ≤ d) depth range.1 in
       let limit = plan.geometry.within.cache_to in
       let listed = unknown_changed m plan.geometry.cache_blocks level index size (omega arith) range.0 to there none in
-      named image.nodes.items level index (subst (λ names. has names level index ≡ true) (sym next.image_is.nodes_are) listed)
+      named tree.nodes.items level index (subst (λ names. has names level index ≡ true) (sym next.image_is.nodes_are) listed)
 
   module _ (before after : List Content) (left : MayLeave device before) (placed : IsPlaced image before after) where
     -- a sector of the device is there
-    sector_at : (at : ℕ) → at < plan.geometry.meta_sectors → (content : Content) × (slice_get after at ≡ Some content)
+    pub sector_at : (at : ℕ) → at < plan.geometry.meta_sectors → (content : Content) × (slice_get after at ≡ Some content)
     sector_at at inside =
         let long : length after ≡ plan.geometry.meta_sectors = placed.size ∙ (left.size ∙ next.size) in
         elim (slice_get_cases after at).1 [
@@ -139,24 +155,18 @@ module _ (m n : Mapping) (plan : ImagePlan) (image : Image) (device : List Histo
     old_sector level index place content known behind there = elim (placed.others place.0 content there) [
       | inl was ↦ was
       | inr new ↦ elim new [
-        | inl node ↦ absurd (next.free_are.unused node.number node.node.0 (free_place node.number node.node node.listed)
+        | inl node ↦ absurd (next.free_are.unused node.number node.node.0 (more.free_place node.number node.node node.listed)
             (record { level = level; index = index; known = known ∙ ap Some (same_place place node.node.0 (sym node.here)) }))
         | inr slot ↦ absurd (let here = slot.here in omega arith)
       ]
     ]
 
-    -- all is of the first version
-    new_version : image.root.version ≡ One
-    new_version = same_version image.root old.root (next.image_is.root_geometry ∙ sym next.same_geometry) ∙ (next.represents before left).newest.valid.version
-
     -- the image writes the words of the tree
-    words_of : All (λ (node : Place × Node). HasWordsOf n node.1) image.nodes.items
-    words_of =
-        let one : plan.geometry.version ≡ One = sym (version_of image.root plan.geometry next.image_is.root_geometry) ∙ new_version in
-        subst (λ (k : Mapping). All (λ (node : Place × Node). HasWordsOf k node.1) image.nodes.items) (first_keeps plan.geometry.version n one) next.image_is.words
+    words_of : All (λ (node : Place × Node). HasWordsOf n node.1) tree.nodes.items
+    words_of = subst (λ (k : Mapping). All (λ (node : Place × Node). HasWordsOf k node.1) tree.nodes.items) next.keeps next.image_is.words
 
     new_generation : image.root.generation ≡ old.root.generation + 1
-    new_generation = next.image_is.root_generation ∙ next.next
+    new_generation = more.root_generation ∙ next.next
 
     -- a node that was known is stored
     old_stored : (level index : ℕ) (place : Place) → place_of m level index ≡ Some place → StoresNode after n image.root.generation level index place.0
@@ -186,22 +196,23 @@ module _ (m n : Mapping) (plan : ImagePlan) (image : Image) (device : List Histo
         }
 
     -- a node that was written is stored
-    new_stored : (level index : ℕ) (place : Place) → place_of n level index ≡ Some place → Named image.nodes.items level index → StoresNode after n image.root.generation level index place.0
+    new_stored : (level index : ℕ) (place : Place) → place_of n level index ≡ Some place → Named tree.nodes.items level index → StoresNode after n image.root.generation level index place.0
     new_stored level index place known one =
         let inside = next.inside place (record { level = level; index = index; known = known }) in
         let is = sector_at place.0 inside.1 in
-        let stands = each_at (λ node. place_of n node.1.level node.1.index ≡ Some node.0) image.nodes.items one.number one.node next.image_is.stands one.listed in
-        let generation_is = each_at (λ node. node.1.generation ≡ plan.generation) image.nodes.items one.number one.node next.image_is.generations one.listed in
-        let words = each_at (λ node. HasWordsOf n node.1) image.nodes.items one.number one.node words_of one.listed in
-        let mapping = each_at (λ node. node.1.dirty ≡ false) image.nodes.items one.number one.node next.image_is.mappings one.listed in
-        let root_is = next.image_is.root_generation in
+        let stands = each_at (λ node. place_of n node.1.level node.1.index ≡ Some node.0) tree.nodes.items one.number one.node next.image_is.stands one.listed in
+        let generation_is = each_at (λ node. node.1.generation ≡ plan.generation) tree.nodes.items one.number one.node next.image_is.generations one.listed in
+        let words = each_at (λ node. HasWordsOf n node.1) tree.nodes.items one.number one.node words_of one.listed in
+        let mapping = each_at (λ node. node.1.dirty ≡ false) tree.nodes.items one.number one.node next.image_is.mappings one.listed in
+        let root_is = more.root_generation in
+        let listed = more.front one.number one.node one.listed in
         let there : place_of n one.node.1.level one.node.1.index ≡ Some place = ap (λ (name : NodeName). place_of n name.level name.index) one.name ∙ known in
         let same : one.node.0 ≡ place = same_some (place_of n one.node.1.level one.node.1.index) one.node.0 place stands there in
         record {
           sector = is.0;
           there = is.1;
           node = one.node.1;
-          spelled = placed.nodes place.0 is.0 is.1 one.number one.node (slice_get_within image.nodes.items one.number one.node one.listed) one.listed (ap (λ (p : Place). p.0) same);
+          spelled = placed.nodes place.0 is.0 is.1 one.number one.node (slice_get_within image.nodes.items one.number one.node listed) listed (ap (λ (p : Place). p.0) same);
           right = record { mapping = mapping; name = one.name; not_newer = omega arith; words = words };
         }
 
@@ -212,7 +223,7 @@ module _ (m n : Mapping) (plan : ImagePlan) (image : Image) (device : List Histo
         old_stored level index place (e ∙ ap Some same)
 
     -- the sectors store the new tree
-    stores_new : Stores after n image.root.generation
+    pub stores_new : Stores after n image.root.generation
     stores_new level index place known = stores_by level index place known (place_of m level index) refl
 
     -- a valid root in the other slot is older
@@ -224,7 +235,7 @@ module _ (m n : Mapping) (plan : ImagePlan) (image : Image) (device : List Histo
         let was : slice_get before other ≡ Some another = elim (placed.others other another there) [
           | inl was ↦ was
           | inr new ↦ elim new [
-            | inl node ↦ absurd (let behind = next.free_are.behind node.number node.node.0 (free_place node.number node.node node.listed) in let here = node.here in omega arith)
+            | inl node ↦ absurd (let behind = next.free_are.behind node.number node.node.0 (more.free_place node.number node.node node.listed) in let here = node.here in omega arith)
             | inr slot ↦ absurd (off slot.here)
           ]
         ] in
@@ -238,7 +249,7 @@ module _ (m n : Mapping) (plan : ImagePlan) (image : Image) (device : List Histo
         ]
 
     -- the image's root is the newest
-    newest_root : IsNewestRoot after image.root
+    pub newest_root : IsNewestRoot after image.root
     newest_root =
         let from = plan.geometry.within.meta_from in
         let low : image.root.generation % 2 < plan.geometry.meta_sectors = omega arith in
@@ -247,33 +258,47 @@ module _ (m n : Mapping) (plan : ImagePlan) (image : Image) (device : List Histo
           slot = image.root.generation % 2;
           sector = is.0;
           there = is.1;
-          valid = record { spelled = placed.root (image.root.generation % 2) is.0 is.1 refl; parity = refl; version = new_version };
+          valid = record { spelled = placed.root (image.root.generation % 2) is.0 is.1 refl; parity = refl };
           newest = older_root;
         }
 
-    -- the sectors represent the new tree
-    tree_new : RepresentsTree after image.root n
+    -- the new tree is read of the sectors
+    pub tree_new : ReadsTree after image.root (found_of image.root n)
     tree_new =
-        let geometry_is = sym next.image_is.root_geometry in
+        let geometry_is = sym more.root_geometry in
         let mapping : IsMapping plan.geometry.cache_blocks plan.geometry.origin_blocks n.entries = subst (λ entries. IsMapping plan.geometry.cache_blocks plan.geometry.origin_blocks entries) (sym next.image_is.same_entries) next.mapping in
-        record {
-          represents = Represents-stored after image.root n
-              (subst (λ (g : Geometry). IsMapping g.cache_blocks g.origin_blocks n.entries) geometry_is mapping)
-              next.new_sound
-              (subst (λ (g : Geometry). AreInside g.meta_sectors n) geometry_is next.inside)
-              (subst (λ (g : Geometry). changed n (depth_of g.cache_blocks) ≡ []) geometry_is next.image_is.none_changed)
-              (subst (λ (g : Geometry). image.root.top ≡ place_of n (depth_of g.cache_blocks) 0) geometry_is next.image_is.root_top)
-              newest_root
-              stores_new;
-          stores = stores_new;
-        }
+        tree_stored after image.root n
+        (subst (λ (g : Geometry). IsMapping g.cache_blocks g.origin_blocks n.entries) geometry_is mapping)
+        next.new_sound
+        (subst (λ (g : Geometry). AreInside g.meta_sectors n) geometry_is next.inside)
+        (subst (λ (g : Geometry). changed n (depth_of g.cache_blocks) ≡ []) geometry_is next.image_is.none_changed)
+        (subst (λ (g : Geometry). image.root.top ≡ place_of n (depth_of g.cache_blocks) 0) geometry_is (more.root_top ∙ next.image_is.root_top))
+        (subst (λ (v : Version). kept_tree v n ≡ n) (sym (version_of image.root plan.geometry more.root_geometry)) next.keeps)
+        stores_new
+
+-- ---- the image of a tree
+
+module _ (m n : Mapping) (plan : ImagePlan) (image : Image) (device : List History) (old : Stored) (next : IsNextImage m n plan image device old) where
+  same : Extends plan image image
+  same = itself m n plan image next.image_is
+
+  places : HavePlaces image.nodes.items (length device)
+  places = subst (HavePlaces image.nodes.items) (sym next.size) (have_places m n plan image next.free_are next.image_is)
+
+  -- with it in place the sectors represent the new tree
+  placed_tree : (before after : List Content) → MayLeave device before → IsPlaced image before after → RepresentsTree after image.root n
+  placed_tree before after left placed = record {
+    represents = Represents-tree after image.root (found_of image.root n) next.image_is.root_no_bits
+        (newest_root m n plan image image device old next same before after left placed) (tree_new m n plan image image device old next same before after left placed);
+    stores = stores_new m n plan image image device old next same before after left placed;
+  }
 
   -- the image may be committed
   pub may_commit : MayCommit image device old (λ sectors. RepresentsTree sectors image.root n)
   may_commit = record {
     represents = next.represents;
-    outside = λ i node listed. next.outside i node.0 (free_place i node listed);
-    new = λ before after left placed. tree_new before after left placed;
+    outside = λ i node listed. next.outside i node.0 (same.free_place i node listed);
+    new = placed_tree;
   }
 
   -- however far its commit has come

@@ -1,46 +1,107 @@
 -- Commits that can be made: how they begin, go on, fail and end.
-use Rattle.std.proofs.Common.{◌≡◌, ◌∙◌, sym, ap, subst, refl, ℕ, List, Some, None, length, arith, inl, inr}
+use Rattle.std.proofs.Common.{◌≡◌, ◌≤◌, ◌<◌, ◌∙◌, ◌++◌, sym, ap, subst, refl, ℕ, Bool, true, false, List, Option, Some, None, length, map, arith, inl, inr}
+use Rattle.std.specs.Prelude.{Contains}
+use Rattle.std.proofs.lemmas.List.Elements.{Contains-append_cases, Contains-append_left, Contains-append_right}
 use Rattle.wb_types.specs.declared.geometry.Geometry.{Geometry}
 use Rattle.wb_types.specs.declared.number.Place.{Place}
 use Rattle.wb_disk.specs.Device.{Content, History}
 use Rattle.wb_disk.specs.Crashes.{AfterEveryCrash}
 use Rattle.wb_format.specs.declared.root.Root.{Root}
 use Rattle.wb_tree.specs.declared.image.Image.{Image}
-use Rattle.wb_tree.specs.Mapping.{Mapping}
+use Rattle.wb_tree.specs.Mapping.{Mapping, IsPlaceOf, used_places}
+use Rattle.wb_tree.specs.Reading.{Found, is_reached}
+use Rattle.wb_tree.specs.Whole.{found_of}
 use Rattle.wb_tree.specs.Images.{ImagePlan}
 use Rattle.wb_meta.specs.declared.commit_steps.CommitSteps.{CommitSteps}
 use Rattle.wb_meta.specs.declared.commit_steps.CommitSteps.TheVariants.{NodesWritten, NodesSynced, RootWritten, Done}
 use Rattle.wb_meta.specs.Representing.{Represents, RepresentsOr, Stored}
-use Rattle.wb_meta.specs.Placing.{IsNodeHere, FitsNodes}
+use Rattle.wb_meta.specs.Placing.{HavePlaces, IsNodeHere, FitsNodes}
 use Rattle.wb_meta.specs.Commits.{Newest, CommitHasCome, HasFailed, IsBeforeRoot}
-use Rattle.wb_meta.specs.Imaging.{DeviceStores, IsPlanned, Follows}
+use Rattle.wb_dirty.specs.ImageReading.{dirty_node}
+use Rattle.wb_meta.specs.Imaging.{DeviceStores, Follows, IsAllUsed, IsNextImage, IsPlanned}
 use Rattle.wb_meta.specs.Laws.{Wanted}
 use Rattle.wb_meta.specs.Openings.{IsOpening}
 use Rattle.wb_meta.proofs.Histories.{Grew-none}
 use Rattle.wb_meta.proofs.Crashing.{come_crash, early_crash, failed_crash, done_crash, nodes_crash}
-use Rattle.wb_meta.proofs.Imaging.{have_places, may_commit}
+use Rattle.wb_meta.proofs.Imaging.{may_commit}
 use Rattle.wb_meta.proofs.Reopening.{opening_places, opening_may, opening_stores, no_node}
-use Rattle.wb_meta.proofs.Round.{next_planned, stored_committed}
+use Rattle.wb_meta.proofs.BitsPlaces.{bits_stand}
+use Rattle.wb_meta.proofs.ImageFraming.{dirty_reached, reached_later}
+use Rattle.wb_meta.proofs.Round.{next_by, next_planned, place_of-reached, stored_by}
+use Rattle.wb_meta.proofs.CleanImaging.{bits_among, image_places, may_commit_bits}
+use Rattle.wb_meta.specs.CleanImages.{IsImageWithBits, bits_places, found_of_image, places_of_bits}
 use Rattle.wb_meta.specs.Roots.{AreOneOf, MayBeReadAs, Commit, CanBeMade, commit_of, opening_of}
 
 -- no node is wanted yet
 none_wanted : (image : Image) (device : List History) → Newest (FitsNodes image.nodes.items 0) device
 none_wanted image device at h e i node less listed here = absurd (omega (arith, less))
 
-pub commit_begins : (m n : Mapping) (plan : ImagePlan) (image : Image) (device : List History) (old : Stored) (used : List Place) → DeviceStores m device old used
-    → IsPlanned m n plan image used → Follows plan old → CanBeMade (commit_of image n old device) × CommitHasCome image device (NodesWritten 0) device
-commit_begins m n plan image device old used stores planned follows =
+-- nothing was done yet
+begun : (image : Image) (device : List History) → CommitHasCome image device (NodesWritten 0) device
+begun image device = record { grew = Grew-none (IsNodeHere image.nodes.items) device; nodes = none_wanted image device }
+
+-- what the image's places are of the tree and of its bits
+module _ (m n : Mapping) (plan : ImagePlan) (tree image : Image) (device : List History) (old : Stored) (next : IsNextImage m n plan tree device old) where
+  tree_used : (place : Place) → IsPlaceOf n place → Contains (used_places n ++ places_of_bits image) place
+  tree_used place known = Contains-append_left (used_places n) (places_of_bits image) place ((next.image_is.used.are place).1 known)
+
+  all_inside : HavePlaces image.nodes.items plan.geometry.meta_sectors → (place : Place) → Contains (used_places n ++ places_of_bits image) place → (2 ≤ place.0) × (place.0 < plan.geometry.meta_sectors)
+  all_inside places place has = elim (Contains-append_cases (used_places n) (places_of_bits image) place has) [
+    | inl known ↦ next.inside place ((next.image_is.used.are place).0 known)
+    | inr bits ↦
+        let at = bits_stand image.nodes.items place bits in
+        subst (λ (p : Place). (2 ≤ p.0) × (p.0 < plan.geometry.meta_sectors)) at.here (places.from at.number at.node at.there, places.to at.number at.node at.there)
+  ]
+
+  tree_reached : (place : Place) → is_reached place.0 (found_of image.root n).reached ≡ true → Contains (used_places n ++ places_of_bits image) place
+  tree_reached place r = tree_used place (place_of-reached image.root n place r)
+
+-- all that is read of an image with bits beside it stands on places of the tree or of the bits
+all_with_bits : (bits : List Bool) (m n : Mapping) (plan : ImagePlan) (image : Image) (device : List History) (old : Stored) (marked : IsImageWithBits bits m n plan image) → IsNextImage m n plan marked.tree device old
+    → IsAllUsed (record { root = image.root; found = found_of_image (Some bits) image n }) (used_places n ++ places_of_bits image)
+all_with_bits bits m n plan image device old marked next place r = by (is_reached place.0 (found_of image.root n).reached) refl
+  where
+    mapping : Found
+    mapping = found_of image.root n
+
+    by : (b : Bool) → is_reached place.0 mapping.reached ≡ b → Contains (used_places n ++ places_of_bits image) place
+    by true e = tree_reached m n plan marked.tree image device old next place e
+    by false e =
+        let behind = reached_later place.0 mapping.reached (map dirty_node (bits_places image mapping)) r e in
+        Contains-append_right (used_places n) (places_of_bits image) place (bits_among bits m n plan image device old marked next place (sym (dirty_reached place.0 (bits_places image mapping)) ∙ behind))
+
+pub commit_begins : (bits : Option (List Bool)) (m n : Mapping) (plan : ImagePlan) (image : Image) (device : List History) (old : Stored) (used : List Place) → DeviceStores m device old used
+    → IsPlanned bits m n plan image used → Follows plan old used → CanBeMade (commit_of bits image n old device) × CommitHasCome image device (NodesWritten 0) device
+commit_begins None m n plan image device old used stores planned follows =
     let next = next_planned m n plan image device old used stores planned follows in
-    let geometry : image.root.geometry ≡ old.root.geometry = planned.image_is.root_geometry ∙ sym follows.same_geometry in (
+    let places = image_places None m n plan image next.free_are planned.image_is in (
       record {
         root_is = refl;
-        same_geometry = geometry;
+        same_geometry = planned.image_is.root_geometry ∙ sym follows.same_geometry;
         size = stores.size;
-        places = subst (λ (g : Geometry). Rattle.wb_meta.specs.Placing.HavePlaces image.nodes.items g.meta_sectors) (sym follows.same_geometry) (have_places m n plan image next.free_are planned.image_is);
+        places = subst (λ (g : Geometry). HavePlaces image.nodes.items g.meta_sectors) (sym follows.same_geometry) places;
         may = may_commit m n plan image device old next;
-        stores = λ now size wanted. stored_committed m n plan image device now old next size wanted;
+        stores = λ now size wanted. stored_by m n plan image image (found_of_image None image n) (used_places n ++ places_of_bits image) device now old next planned.image_is.root_geometry refl
+            (tree_used m n plan image image device old next) (all_inside m n plan image image device old next places) size wanted;
+        all_used = tree_reached m n plan image image device old next;
       },
-      record { grew = Grew-none (IsNodeHere image.nodes.items) device; nodes = none_wanted image device },
+      begun image device,
+    )
+commit_begins (Some bits) m n plan image device old used stores planned follows =
+    let marked = planned.image_is in
+    let next = next_by (Some bits) m n plan image marked.tree device old used stores planned marked.tree_is follows in
+    let places = image_places (Some bits) m n plan image next.free_are marked in (
+      record {
+        root_is = refl;
+        same_geometry = marked.root_geometry ∙ sym follows.same_geometry;
+        size = stores.size;
+        places = subst (λ (g : Geometry). HavePlaces image.nodes.items g.meta_sectors) (sym follows.same_geometry) places;
+        may = may_commit_bits bits m n plan image device old marked next;
+        stores = λ now size wanted. stored_by m n plan marked.tree image (found_of_image (Some bits) image n) (used_places n ++ places_of_bits image) device now old next marked.root_geometry refl
+            (tree_used m n plan marked.tree image device old next) (all_inside m n plan marked.tree image device old next places) size wanted;
+        all_used = all_with_bits bits m n plan image device old marked next;
+      },
+      begun image device,
     )
 
 pub opening_begins : (tree : Mapping) (image : Image) (device : List History) (old : Stored) (used : List Place) → DeviceStores tree device old used
@@ -53,6 +114,7 @@ opening_begins tree image device old used stores opening = (
     places = opening_places image old.root opening;
     may = opening_may tree image device old used stores opening;
     stores = λ now size wanted. opening_stores tree image device now old used stores opening size wanted;
+    all_used = stores.reached_used;
   },
   record {
     grew = Grew-none (IsNodeHere image.nodes.items) device;

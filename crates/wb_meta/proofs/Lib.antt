@@ -5,11 +5,16 @@ pub mod Failing
 pub mod Crashing
 pub mod Formatted
 pub mod Framing
+pub mod ImageFraming
 pub mod Imaging
+pub mod BitsPlaces
+pub mod CleanImaging
 pub mod Storing
 pub mod Versions
 pub mod Sectors
 pub mod Counting
+pub mod Keeping
+pub mod Telling
 pub mod Loaded
 pub mod OneReading
 pub mod Round

@@ -11,7 +11,9 @@ use Rattle.wb_format.specs.declared.node.Node.{Node}
 use Rattle.wb_format.specs.declared.root.Root.{Root}
 use Rattle.wb_tree.specs.declared.placed.PlacedNode.{PlacedNode}
 use Rattle.wb_tree.specs.Reading.{ReadOutcome, Nodes, ReadsAs, IsNewestRoot, is_reached, tree_read}
-use Rattle.wb_tree.specs.Loading.{Loading, outcome, wanted_place, FailsBy}
+use Rattle.wb_tree.specs.Loading.{wanted_place, FailsBy}
+use Rattle.wb_dirty.specs.ImageReading.{image_read}
+use Rattle.wb_dirty.specs.ImageLoading.{ImageLoading, image_outcome, mapping_outcome}
 use Rattle.std.specs.Prelude.{Result, IfErr}
 use Rattle.std.specs.Result.{IsErrAnd}
 use Rattle.wb_tree.proofs.Reading.ReachedLemmas.{is_reached-push}
@@ -26,7 +28,7 @@ pub record NamesFault (refusal : Refusal) (reading : ReadOutcome) : Type 0 where
   pub damaged : refusal ≡ Damaged place
   pub fault : reading ≡ Err place
 
--- the refusals that a tree gives
+-- the refusals that an image gives
 pub fails_by : (refusal : Refusal) (reading : ReadOutcome) → FailsBy refusal reading → (refusal ≡ Memory) ⊎ NamesFault refusal reading
 fails_by Range reading fails = absurd fails
 fails_by Crosses reading fails = absurd fails
@@ -103,19 +105,21 @@ told_there : (version : Version) (sectors : List Content) (others : Nodes) (reac
     → others wanted.place.0 ≡ node
 told_there version sectors others reached wanted node there here = there_one version sectors others (λ _. node) wanted.place.0 (there wanted.place.0 (reached_last wanted reached)) here
 
--- nothing of the tree was read
-pub loaded_none : (sectors : List Content) (root : Root) (l : Loading) → IsNewestRoot sectors root → l.found.reached ≡ [] → ((nodes : Nodes) → outcome l nodes ≡ tree_read root nodes) → HasLoaded sectors root l
-loaded_none sectors root l newest nothing begun = record {
+-- nothing of the image was read
+pub loaded_none : (sectors : List Content) (root : Root) (l : ImageLoading) → IsNewestRoot sectors root → l.found.reached ≡ [] → ((nodes : Nodes) → image_outcome l nodes ≡ image_read root nodes) → ((nodes : Nodes) → mapping_outcome l nodes ≡ tree_read root nodes) → HasLoaded sectors root l
+loaded_none sectors root l newest nothing begun mapping = record {
   newest = newest;
   nodes = λ _. None;
   reached = λ place r. absurd (let e : is_reached place [] ≡ true = ap (λ (list : List PlacedNode). is_reached place list) (sym nothing) ∙ r in cc);
   rest = λ others there. begun others;
+  mapping = λ others there. mapping others;
 }
 
 -- the loader was told what its wanted sector spells
-pub loaded_more : (sectors : List Content) (root : Root) (l more : Loading) (wanted : PlacedNode) (node : Option Node) → HasLoaded sectors root l → ReadsThere root.version sectors (λ _. node) wanted.place.0
-    → more.found.reached ≡ l.found.reached ++ wanted ∷ [] → ((nodes : Nodes) → nodes wanted.place.0 ≡ node → outcome more nodes ≡ outcome l nodes) → HasLoaded sectors root more
-loaded_more sectors root l more wanted node loaded here reached goes_on =
+pub loaded_more : (sectors : List Content) (root : Root) (l more : ImageLoading) (wanted : PlacedNode) (node : Option Node) → HasLoaded sectors root l → ReadsThere root.version sectors (λ _. node) wanted.place.0
+    → more.found.reached ≡ l.found.reached ++ wanted ∷ [] → ((nodes : Nodes) → nodes wanted.place.0 ≡ node → image_outcome more nodes ≡ image_outcome l nodes)
+    → ((nodes : Nodes) → nodes wanted.place.0 ≡ node → mapping_outcome more nodes ≡ mapping_outcome l nodes) → HasLoaded sectors root more
+loaded_more sectors root l more wanted node loaded here reached goes_on mapping =
     let P : List PlacedNode → Type 0 = λ list. ReadThere root.version sectors (with_node loaded.nodes wanted.place.0 node) list in
     record {
       newest = loaded.newest;
@@ -125,6 +129,10 @@ loaded_more sectors root l more wanted node loaded here reached goes_on =
           let Q : List PlacedNode → Type 0 = λ list. ReadThere root.version sectors others list in
           let all = subst Q reached there in
           goes_on others (told_there root.version sectors others l.found.reached wanted node all here) ∙ loaded.rest others (before_there root.version sectors others l.found.reached wanted all);
+      mapping = λ others there.
+          let Q : List PlacedNode → Type 0 = λ list. ReadThere root.version sectors others list in
+          let all = subst Q reached there in
+          mapping others (told_there root.version sectors others l.found.reached wanted node all here) ∙ loaded.mapping others (before_there root.version sectors others l.found.reached wanted all);
     }
 
 -- memory was wanted for a tree
@@ -134,13 +142,13 @@ memory_refused sectors root refusal newest size memory =
     subst P (sym memory) (record { root = root; newest = newest; size = size })
 
 -- it was refused
-pub loaded_refused : (sectors : List Content) (root : Root) (l : Loading) (wanted : PlacedNode) (node : Option Node) (refusal : Refusal) → root.geometry.meta_sectors ≡ length sectors → HasLoaded sectors root l
-    → ReadsThere root.version sectors (λ _. node) wanted.place.0 → ((nodes : Nodes) → nodes wanted.place.0 ≡ node → FailsBy refusal (outcome l nodes)) → IsRefusedBy sectors refusal
-loaded_refused sectors root l wanted node refusal size loaded here fails = elim (fails_by refusal (outcome l (λ _. node)) (fails (λ _. node) refl)) [
+pub loaded_refused : (sectors : List Content) (root : Root) (l : ImageLoading) (wanted : PlacedNode) (node : Option Node) (refusal : Refusal) → root.geometry.meta_sectors ≡ length sectors → HasLoaded sectors root l
+    → ReadsThere root.version sectors (λ _. node) wanted.place.0 → ((nodes : Nodes) → nodes wanted.place.0 ≡ node → FailsBy refusal (image_outcome l nodes)) → IsRefusedBy sectors refusal
+loaded_refused sectors root l wanted node refusal size loaded here fails = elim (fails_by refusal (image_outcome l (λ _. node)) (fails (λ _. node) refl)) [
   | inl memory ↦ memory_refused sectors root refusal loaded.newest size memory
   | inr named ↦
       let P : Refusal → Type 0 = λ r. IsRefusedBy sectors r in
-      let Q : Refusal → Nodes → Type 0 = λ r others. FailsBy r (outcome l others) in
+      let Q : Refusal → Nodes → Type 0 = λ r others. FailsBy r (image_outcome l others) in
       let made : IsDamagedAt sectors named.place = record {
         root = root;
         newest = loaded.newest;

@@ -14,9 +14,12 @@ use Rattle.wb_tree.specs.declared.placed.PlacedNode.{PlacedNode}
 use Rattle.wb_tree.specs.Mapping.{Mapping}
 use Rattle.wb_tree.specs.Reading.{Found, ReadOutcome, Nodes, ReadsAs, AreNodes, IsNewestRoot, is_reached, tree_read}
 use Rattle.wb_tree.specs.Whole.{found_of}
-use Rattle.wb_meta.specs.Representing.{Represents, RepresentsOldOrTree, RepresentsReading, Stored, ReadsThere, ReadThere}
+use Rattle.wb_dirty.specs.ImageReading.{image_read, with_bits}
+use Rattle.wb_meta.specs.Representing.{Represents, RepresentsOldOrTree, RepresentsReading, Stored, ReadsThere, ReadThere, Whole, all_of, alone}
 use Rattle.wb_meta.specs.States.{places_of, RepresentsState, HasNoRoot, HasOtherSize, HasFittingRoot, IsDamagedAt, IsRefusedBy, SpeaksOfSectors}
 use Rattle.wb_meta.proofs.Framing.{top_following}
+use Rattle.wb_dirty.proofs.Following.{image_following}
+use Rattle.wb_meta.proofs.ImageFraming.{mapping_among}
 use Rattle.wb_meta.proofs.Loaded.{there_one}
 
 newest_by : (sectors : List Content) (a b : Root) (test : Bool) (x : IsNewestRoot sectors a) (y : IsNewestRoot sectors b) → nat_eq x.slot y.slot ≡ test → a ≡ b
@@ -37,19 +40,19 @@ pub one_newest : (sectors : List Content) (a b : Root) → IsNewestRoot sectors 
 one_newest sectors a b x y = newest_by sectors a b (nat_eq x.slot y.slot) x y refl
 
 -- what these nodes read as, and elsewhere what others do
-joined : Nodes → Nodes → List PlacedNode → Nodes
+pub joined : Nodes → Nodes → List PlacedNode → Nodes
 joined a b reached place = cond (is_reached place reached) (a place) (b place)
 
-there_as : (version : Version) (sectors : List Content) (a b : Nodes) (place : ℕ) → a place ≡ b place → ReadsThere version sectors a place → ReadsThere version sectors b place
+pub there_as : (version : Version) (sectors : List Content) (a b : Nodes) (place : ℕ) → a place ≡ b place → ReadsThere version sectors a place → ReadsThere version sectors b place
 there_as version sectors a b place same there =
     let P : Option _ → Type 0 = λ o. ReadsAs version there.sector o in
     record { sector = there.sector; there = there.there; reads = subst P same there.reads }
 
-joined_first : (a b : Nodes) (reached : List PlacedNode) (place : ℕ) → is_reached place reached ≡ true → a place ≡ joined a b reached place
+pub joined_first : (a b : Nodes) (reached : List PlacedNode) (place : ℕ) → is_reached place reached ≡ true → a place ≡ joined a b reached place
 unfolding joined
 joined_first a b reached place e = sym (ap (λ (test : Bool). cond test (a place) (b place)) e)
 
-joined_second : (a b : Nodes) (reached : List PlacedNode) (place : ℕ) → is_reached place reached ≡ false → b place ≡ joined a b reached place
+pub joined_second : (a b : Nodes) (reached : List PlacedNode) (place : ℕ) → is_reached place reached ≡ false → b place ≡ joined a b reached place
 unfolding joined
 joined_second a b reached place e = sym (ap (λ (test : Bool). cond test (a place) (b place)) e)
 
@@ -68,9 +71,15 @@ there_second sectors p q a b reached other same first second place r =
     joined_by q.version sectors a b reached place (is_reached place reached) refl moved (second place r)
 
 -- what is held is read of whatever reads alike at its nodes
-held_read : (sectors : List Content) (root : Root) (found : Found) (others : Nodes) → Represents sectors root found → ReadThere root.version sectors others found.reached → tree_read root others ≡ Ok found
+held_read : (sectors : List Content) (root : Root) (found : Whole) (others : Nodes) → Represents sectors root found → ReadThere root.version sectors others found.reached → image_read root others ≡ Ok (all_of found)
 held_read sectors root found others held there =
-    top_following held.nodes others root root.top found held.reads (λ place r. there_one root.version sectors held.nodes others place (held.reached place r) (there place r))
+    image_following held.nodes others root (all_of found) (λ mapping e agree. top_following held.nodes others root root.top mapping e agree) held.reads (λ place r. there_one root.version sectors held.nodes others place (held.reached place r) (there place r))
+
+held_mapping : (sectors : List Content) (root : Root) (found : Whole) (others : Nodes) → Represents sectors root found → ReadThere root.version sectors others found.reached → tree_read root others ≡ Ok found.mapping
+held_mapping sectors root found others held there =
+    top_following held.nodes others root root.top found.mapping held.mapping (λ place r.
+    let all = mapping_among root held.nodes found held.reads held.mapping place r in
+    there_one root.version sectors held.nodes others place (held.reached place all) (there place all))
 
 -- ---- one state, or one refusal
 
@@ -78,18 +87,18 @@ pub one_fault : (sectors : List Content) (a b : Place) → IsDamagedAt sectors a
 one_fault sectors a b x y =
     let nodes = joined x.nodes y.nodes x.reached in
     let root = one_newest sectors x.root y.root x.newest y.newest in
-    let first : tree_read x.root nodes ≡ Err a = x.reads nodes (there_first x.root.version sectors x.nodes y.nodes x.reached x.there) in
-    let second : tree_read y.root nodes ≡ Err b = y.reads nodes (there_second sectors x.root y.root x.nodes y.nodes x.reached y.reached root x.there y.there) in
-    let both : ◌≡◌ {A = ReadOutcome} (Err a) (Err b) = sym first ∙ (ap (λ (r : Root). tree_read r nodes) root ∙ second) in
+    let first : image_read x.root nodes ≡ Err a = x.reads nodes (there_first x.root.version sectors x.nodes y.nodes x.reached x.there) in
+    let second : image_read y.root nodes ≡ Err b = y.reads nodes (there_second sectors x.root y.root x.nodes y.nodes x.reached y.reached root x.there y.there) in
+    let both : ◌≡◌ {A = ReadOutcome} (Err a) (Err b) = sym first ∙ (ap (λ (r : Root). image_read r nodes) root ∙ second) in
     cc
 
-no_fault : (sectors : List Content) (root : Root) (found : Found) (place : Place) → Represents sectors root found → IsDamagedAt sectors place → ⊥
+no_fault : (sectors : List Content) (root : Root) (found : Whole) (place : Place) → Represents sectors root found → IsDamagedAt sectors place → ⊥
 no_fault sectors root found place held damage =
     let nodes = joined held.nodes damage.nodes found.reached in
     let same = one_newest sectors root damage.root held.newest damage.newest in
-    let first : tree_read root nodes ≡ Ok found = held_read sectors root found nodes held (there_first root.version sectors held.nodes damage.nodes found.reached held.reached) in
-    let second : tree_read damage.root nodes ≡ Err place = damage.reads nodes (there_second sectors root damage.root held.nodes damage.nodes found.reached damage.reached same held.reached damage.there) in
-    let both : ◌≡◌ {A = ReadOutcome} (Ok found) (Err place) = sym first ∙ (ap (λ (r : Root). tree_read r nodes) same ∙ second) in
+    let first : image_read root nodes ≡ Ok (all_of found) = held_read sectors root found nodes held (there_first root.version sectors held.nodes damage.nodes found.reached held.reached) in
+    let second : image_read damage.root nodes ≡ Err place = damage.reads nodes (there_second sectors root damage.root held.nodes damage.nodes found.reached damage.reached same held.reached damage.there) in
+    let both : ◌≡◌ {A = ReadOutcome} (Ok (all_of found)) (Err place) = sym first ∙ (ap (λ (r : Root). image_read r nodes) same ∙ second) in
     absurd cc
 
 pub no_root : (sectors : List Content) (root : Root) → IsNewestRoot sectors root → HasNoRoot sectors → ⊥
@@ -149,28 +158,40 @@ one_refusal sectors a b speaks_a speaks_b by_a by_b = elim (spoken sectors a spe
   ]
 ]
 
-pub state_only : (sectors : List Content) (root : Root) (tree : Mapping) (used : List Place) (refusal : Refusal) → RepresentsState sectors root tree used → SpeaksOfSectors refusal → IsRefusedBy sectors refusal → ⊥
-state_only sectors root tree used refusal state speaks by = elim (spoken sectors refusal speaks by) [
+pub state_only : (sectors : List Content) (root : Root) (tree : Mapping) (dirty : Option (List Bool)) (used : List Place) (refusal : Refusal) → RepresentsState sectors root tree dirty used → SpeaksOfSectors refusal → IsRefusedBy sectors refusal → ⊥
+state_only sectors root tree dirty used refusal state speaks by = elim (spoken sectors refusal speaks by) [
   | inl x ↦ no_root sectors root state.represents.newest x.1
   | inr (inl x) ↦ other_size sectors root state.represents.newest state.size x.1
   | inr (inr x) ↦ no_fault sectors root state.found x.place state.represents x.damage
 ]
 
-pub one_tree : (sectors : List Content) (a b : Root) (f g : Found) → Represents sectors a f → Represents sectors b g → (a ≡ b) × (f ≡ g)
+found_same : (f g : Found) (x y : ReadOutcome) → x ≡ Ok f → y ≡ Ok g → x ≡ y → f ≡ g
+found_same f g x y first second same =
+    let both : ◌≡◌ {A = ReadOutcome} (Ok f) (Ok g) = sym first ∙ (same ∙ second) in
+    cc
+
+pub one_tree : (sectors : List Content) (a b : Root) (f g : Whole) → Represents sectors a f → Represents sectors b g → (a ≡ b) × (f ≡ g)
 one_tree sectors a b f g x y =
     let nodes = joined x.nodes y.nodes f.reached in
     let same = one_newest sectors a b x.newest y.newest in
-    let first : tree_read a nodes ≡ Ok f = held_read sectors a f nodes x (there_first a.version sectors x.nodes y.nodes f.reached x.reached) in
-    let second : tree_read b nodes ≡ Ok g = held_read sectors b g nodes y (there_second sectors a b x.nodes y.nodes f.reached g.reached same x.reached y.reached) in
-    let both : ◌≡◌ {A = ReadOutcome} (Ok f) (Ok g) = sym first ∙ (ap (λ (t : Root). tree_read t nodes) same ∙ second) in
-    (same, cc)
+    let first = there_first a.version sectors x.nodes y.nodes f.reached x.reached in
+    let second = there_second sectors a b x.nodes y.nodes f.reached g.reached same x.reached y.reached in
+    let all : all_of f ≡ all_of g = found_same (all_of f) (all_of g) _ _ (held_read sectors a f nodes x first) (held_read sectors b g nodes y second) (ap (λ (t : Root). image_read t nodes) same) in
+    let mapping : f.mapping ≡ g.mapping = found_same f.mapping g.mapping _ _ (held_mapping sectors a f nodes x first) (held_mapping sectors b g nodes y second) (ap (λ (t : Root). tree_read t nodes) same) in
+    let made : Found → Found → Whole = λ m found. record { mapping = m; reached = found.reached; entries = found.entries } in
+    (same, ap (λ (m : Found). made m (all_of f)) mapping ∙ ap (made g.mapping) all)
 
-pub one_state : (sectors : List Content) (a b : Root) (t u : Mapping) (used also : List Place) → RepresentsState sectors a t used → RepresentsState sectors b u also → (a ≡ b) × (t.entries ≡ u.entries) × (used ≡ also)
-one_state sectors a b t u used also x y =
-    let one = one_tree sectors a b x.found y.found x.represents y.represents in
-    (one.0, x.entries ∙ (ap (λ (f : Found). f.entries) one.1 ∙ sym y.entries), x.used_are ∙ (ap (λ (f : Found). places_of f.reached) one.1 ∙ sym y.used_are))
+pub one_state : (sectors : List Content) (a b : Root) (t u : Mapping) (bits same : Option (List Bool)) (used also : List Place) → RepresentsState sectors a t bits used → RepresentsState sectors b u same also
+    → (a ≡ b) × (t.entries ≡ u.entries) × (with_bits bits t.entries ≡ with_bits same u.entries) × (used ≡ also)
+one_state sectors a b t u bits same used also x y =
+    let one = one_tree sectors a b x.found y.found x.represents y.represents in (
+      one.0,
+      x.mapping_entries ∙ (ap (λ (f : Whole). f.mapping.entries) one.1 ∙ sym y.mapping_entries),
+      x.entries ∙ (ap (λ (f : Whole). f.entries) one.1 ∙ sym y.entries),
+      x.used_are ∙ (ap (λ (f : Whole). places_of f.mapping.reached) one.1 ∙ sym y.used_are),
+    )
 
-pub not_refused : (sectors : List Content) (root : Root) (found : Found) (refusal : Refusal) → Represents sectors root found → root.geometry.meta_sectors ≡ length sectors → SpeaksOfSectors refusal → IsRefusedBy sectors refusal → ⊥
+pub not_refused : (sectors : List Content) (root : Root) (found : Whole) (refusal : Refusal) → Represents sectors root found → root.geometry.meta_sectors ≡ length sectors → SpeaksOfSectors refusal → IsRefusedBy sectors refusal → ⊥
 not_refused sectors root found refusal held size speaks by = elim (spoken sectors refusal speaks by) [
   | inl x ↦ no_root sectors root held.newest x.1
   | inr (inl x) ↦ other_size sectors root held.newest size x.1
@@ -179,23 +200,23 @@ not_refused sectors root found refusal held size speaks by = elim (spoken sector
 
 -- ---- after a commit that failed
 
-pub old_or_tree : (sectors : List Content) (old : Stored) (root : Root) (m : Mapping) (r : Root) (tree : Mapping) (used : List Place) → RepresentsOldOrTree old root m sectors → (state : RepresentsState sectors r tree used)
-    → ((r ≡ old.root) × (state.found ≡ old.found)) ⊎ ((r ≡ root) × (state.found ≡ found_of root m))
-old_or_tree sectors old root m r tree used either state = elim either [
+pub old_or_tree : (sectors : List Content) (old : Stored) (root : Root) (m : Mapping) (r : Root) (tree : Mapping) (dirty : Option (List Bool)) (used : List Place) → RepresentsOldOrTree old root m sectors → (state : RepresentsState sectors r tree dirty used)
+    → ((r ≡ old.root) × (state.found ≡ old.found)) ⊎ ((r ≡ root) × (state.found ≡ alone (found_of root m)))
+old_or_tree sectors old root m r tree dirty used either state = elim either [
   | inl was ↦ inl (one_tree sectors r old.root state.found old.found state.represents was)
-  | inr new ↦ inr (one_tree sectors r root state.found (found_of root m) state.represents new.represents)
+  | inr new ↦ inr (one_tree sectors r root state.found (alone (found_of root m)) state.represents new.represents)
 ]
 
 pub old_or_tree-read : (sectors : List Content) (old : Stored) (root : Root) (m : Mapping) (refusal : Refusal) → RepresentsOldOrTree old root m sectors → old.root.geometry.meta_sectors ≡ length sectors → root.geometry.meta_sectors ≡ length sectors
     → SpeaksOfSectors refusal → IsRefusedBy sectors refusal → ⊥
 old_or_tree-read sectors old root m refusal either size next speaks by = elim either [
   | inl was ↦ not_refused sectors old.root old.found refusal was size speaks by
-  | inr new ↦ not_refused sectors root (found_of root m) refusal new.represents next speaks by
+  | inr new ↦ not_refused sectors root (alone (found_of root m)) refusal new.represents next speaks by
 ]
 
 -- ---- what sectors represent
 
-pub tree_reading : (sectors : List Content) (root : Root) (found : Found) → Represents sectors root found → RepresentsReading sectors root (Ok found)
+pub tree_reading : (sectors : List Content) (root : Root) (found : Whole) → Represents sectors root found → RepresentsReading sectors root (Ok (all_of found))
 tree_reading sectors root found held = record {
   newest = held.newest;
   nodes = held.nodes;
@@ -204,8 +225,8 @@ tree_reading sectors root found held = record {
   reads = λ others there. held_read sectors root found others held there;
 }
 
-pub state_reading : (sectors : List Content) (root : Root) (tree : Mapping) (used : List Place) (state : RepresentsState sectors root tree used) → RepresentsReading sectors root (Ok state.found)
-state_reading sectors root tree used state = tree_reading sectors root state.found state.represents
+pub state_reading : (sectors : List Content) (root : Root) (tree : Mapping) (dirty : Option (List Bool)) (used : List Place) (state : RepresentsState sectors root tree dirty used) → RepresentsReading sectors root (Ok (all_of state.found))
+state_reading sectors root tree dirty used state = tree_reading sectors root state.found state.represents
 
 pub damage_reading : (sectors : List Content) (place : Place) (damage : IsDamagedAt sectors place) → RepresentsReading sectors damage.root (Err place)
 damage_reading sectors place damage = record { newest = damage.newest; nodes = damage.nodes; reached = damage.reached; there = damage.there; reads = damage.reads }
@@ -216,8 +237,8 @@ one_reading sectors a b r t x y =
     let same = one_newest sectors a b x.newest y.newest in (
       same,
       sym (x.reads nodes (there_first a.version sectors x.nodes y.nodes x.reached x.there))
-          ∙ (ap (λ (q : Root). tree_read q nodes) same ∙ y.reads nodes (there_second sectors a b x.nodes y.nodes x.reached y.reached same x.there y.there)),
+          ∙ (ap (λ (q : Root). image_read q nodes) same ∙ y.reads nodes (there_second sectors a b x.nodes y.nodes x.reached y.reached same x.there y.there)),
     )
 
-pub whole_read : (sectors : List Content) (nodes : Nodes) (root : Root) (reading : ReadOutcome) → RepresentsReading sectors root reading → AreNodes root.version sectors nodes → tree_read root nodes ≡ reading
+pub whole_read : (sectors : List Content) (nodes : Nodes) (root : Root) (reading : ReadOutcome) → RepresentsReading sectors root reading → AreNodes root.version sectors nodes → image_read root nodes ≡ reading
 whole_read sectors nodes root reading held are = held.reads nodes (λ here r. let w = held.there here r in record { sector = w.sector; there = w.there; reads = are here w.sector w.there })

@@ -3,10 +3,9 @@ use Rattle.std.proofs.Common.{◌≡◌, ◌≢◌, ◌≤◌, ◌<◌, ◌+◌,
 use Rattle.std.specs.Prelude.{slice_index, if◌then◌else◌}
 use Rattle.std.proofs.lemmas.Bool.{cases_eq, leb-true, le-leb}
 use Rattle.std.proofs.lemmas.Option.{slice_get_cases, slice_get_within}
-use Rattle.wb_types.specs.Limits.{depth_of, node_count}
+use Rattle.wb_types.specs.Limits.{depth_of}
 use Rattle.wb_types.specs.declared.number.Place.{Place}
 use Rattle.wb_types.specs.declared.version.Version.{Version}
-use Rattle.wb_types.specs.declared.version.Version.TheVariants.{One}
 use Rattle.wb_disk.specs.Device.{Content, History}
 use Rattle.wb_disk.specs.Crashes.{AfterEveryCrash}
 use Rattle.wb_format.specs.declared.node.Node.{Node}
@@ -20,7 +19,8 @@ use Rattle.wb_tree.specs.Mapping.{Mapping, AreInside}
 use Rattle.wb_meta.specs.Imaging.{DeviceStores}
 use Rattle.wb_meta.specs.Laws.{Wanted}
 use Rattle.wb_meta.specs.Openings.{IsOpening, reopened}
-use Rattle.wb_meta.specs.Representing.{Represents, Stored}
+use Rattle.wb_meta.specs.Representing.{Represents, Stored, Whole, alone}
+use Rattle.wb_meta.proofs.ImageFraming.{alone_read, mapping_among}
 use Rattle.wb_meta.specs.Placing.{HavePlaces, IsPlaced, MayCommit}
 use Rattle.wb_tree.proofs.Reading.Steps.{then_ok, test_ok}
 
@@ -97,22 +97,22 @@ module _ (old : Root) where
   top_later nodes None next e = e
   top_later nodes (Some top) next e = node_later nodes (depth_of old.geometry.cache_blocks) 0 top (nothing_found old) next e
 
-  -- with this root alone written, the sectors represent the same tree by it
-  pub represents_again : (image : Image) (before after : List Content) (found : Found) → IsOpening image old → 2 ≤ length before → ((place : ℕ) → is_reached place found.reached ≡ true → 2 ≤ place)
-      → Represents before old found → IsPlaced image before after → Represents after image.root found
+  -- with this root alone written, the sectors represent the same mapping by it
+  pub represents_again : (image : Image) (before after : List Content) (found : Whole) → IsOpening image old → 2 ≤ length before → ((place : ℕ) → is_reached place found.mapping.reached ≡ true → 2 ≤ place)
+      → Represents before old found → IsPlaced image before after → Represents after image.root (alone found.mapping)
   represents_again image before after found opening size behind held placed =
       let slot = image.root.generation % 2 in
       let next : image.root.generation ≡ old.generation + 1 = ap (λ (r : Root). r.generation) opening.root_is in
       let parity = held.newest.valid.parity in
       let kept : image.root.version ≡ old.version = ap (λ (r : Root). r.version) opening.root_is in
-      let version_is : image.root.version ≡ One = kept ∙ held.newest.valid.version in
+      let mapping : tree_read image.root held.nodes ≡ Ok found.mapping = ap (λ (r : Root). tree_read r held.nodes) opening.root_is ∙ top_later held.nodes old.top found.mapping held.mapping in
       let root_at = sector_there after slot (omega (arith, placed.size, size)) in
       record {
         newest = record {
           slot = slot;
           sector = root_at.0;
           there = root_at.1;
-          valid = record { spelled = placed.root slot root_at.0 root_at.1 refl; parity = refl; version = version_is };
+          valid = record { spelled = placed.root slot root_at.0 root_at.1 refl; parity = refl };
           newest = λ other another older off there valid.
               let was = other_sector image before after opening placed other another off there in
               elim (cases_eq other held.newest.slot) [
@@ -127,14 +127,15 @@ module _ (old : Root) where
         };
         nodes = held.nodes;
         reached = λ place r.
-            let there = held.reached place r in
+            let there = held.reached place (mapping_among old held.nodes found held.reads held.mapping place r) in
             let far = behind place r in
             let now = sector_there after place (let w = slice_get_within before place there.sector there.there in omega (arith, placed.size, w)) in
             let was = other_sector image before after opening placed place now.0 (λ e. absurd (let low : slot < 2 = omega arith in omega (arith, e, far, low))) now.1 in
             let both : Some now.0 ≡ Some there.sector = sym was ∙ there.there in
             let same : there.sector ≡ now.0 = cc in
             record { sector = now.0; there = now.1; reads = subst (λ (v : Version). ReadsAs v now.0 (held.nodes place)) (sym kept) (subst (λ (c : Content). ReadsAs old.version c (held.nodes place)) same there.reads) };
-        reads = ap (λ (r : Root). tree_read r held.nodes) opening.root_is ∙ top_later held.nodes old.top found held.reads;
+        reads = alone_read image.root held.nodes found.mapping (ap (λ (r : Root). r.top_dirty) opening.root_is) mapping;
+        mapping = mapping;
       }
 
 -- its nodes have places of the device, as there are none
@@ -147,7 +148,7 @@ opening_places image root opening = record {
 }
 
 -- the image of an opening may be committed over what a device stores
-pub opening_may : (m : Mapping) (image : Image) (device : List History) (old : Stored) (used : List Place) → DeviceStores m device old used → IsOpening image old.root → MayCommit image device old (Wanted image old.found m)
+pub opening_may : (m : Mapping) (image : Image) (device : List History) (old : Stored) (used : List Place) → DeviceStores m device old used → IsOpening image old.root → MayCommit image device old (Wanted image (alone old.found.mapping) m)
 opening_may m image device old used stores opening = record {
   represents = stores.represents;
   outside = λ i node listed. absurd (no_node image old.root opening i node listed);
@@ -176,7 +177,7 @@ opening_may m image device old used stores opening = record {
 
 -- once it is committed, the device stores what it stored
 pub opening_stores : (m : Mapping) (image : Image) (device now : List History) (old : Stored) (used : List Place) → DeviceStores m device old used → IsOpening image old.root → length now ≡ length device
-    → AfterEveryCrash (Wanted image old.found m) now → DeviceStores m now (record { root = image.root; found = old.found }) used
+    → AfterEveryCrash (Wanted image (alone old.found.mapping) m) now → DeviceStores m now (record { root = image.root; found = alone old.found.mapping }) used
 opening_stores m image device now old used stores opening same wanted =
     let geometry : image.root.geometry ≡ old.root.geometry = ap (λ (r : Root). r.geometry) opening.root_is in
     record {
@@ -188,5 +189,4 @@ opening_stores m image device now old used stores opening same wanted =
       reached_used = stores.reached_used;
       known_used = stores.known_used;
       used_inside = λ place has. subst (λ (g : Geometry). (2 ≤ place.0) × (place.0 < g.meta_sectors)) (sym geometry) (stores.used_inside place has);
-      used_few = subst (λ (g : Geometry). length used ≤ node_count g.cache_blocks) (sym geometry) stores.used_few;
     }

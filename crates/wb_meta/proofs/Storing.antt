@@ -1,21 +1,21 @@
--- Sectors that store a tree of which every node is known, by their newest root, represent it.
-use Rattle.std.proofs.Common.{◌≡◌, ◌≢◌, ◌&&◌, ◌==◌, ◌∙◌, sym, ap, subst, refl, ℕ, Bool, true, false, cond, List, [], ◌∷◌, Option, Some, None, is_some, slice_get, inl, inr, ◌⊎◌}
+-- Of sectors that store a tree of which every node is known it is read, and by their newest root they represent it.
+use Rattle.std.proofs.Common.{◌≡◌, ◌≢◌, ◌&&◌, ◌==◌, ◌∙◌, sym, ap, subst, refl, ℕ, Bool, true, false, cond, List, [], ◌∷◌, Option, Some, None, Ok, is_some, slice_get, inl, inr, ◌⊎◌}
 use Rattle.std.proofs.lemmas.Bool.{false≢true, cases_eq, and_parts, eqb-true}
 use Rattle.wb_types.specs.Limits.{depth_of}
 use Rattle.wb_types.specs.declared.number.Place.{Place}
 use Rattle.wb_types.specs.declared.version.Version.{Version}
-use Rattle.wb_types.specs.declared.version.Version.TheVariants.{One}
 use Rattle.wb_disk.specs.Device.{Content}
 use Rattle.wb_format.specs.declared.node.Node.{Node}
 use Rattle.wb_format.specs.declared.root.Root.{Root}
 use Rattle.wb_tree.specs.declared.placed.PlacedNode.{PlacedNode}
 use Rattle.wb_tree.specs.Mapping.{Mapping, IsMapping, IsSound, AreInside, place_of, place_in, changed}
-use Rattle.wb_tree.specs.Reading.{Nodes, ReadsAs, IsNewestRoot}
-use Rattle.wb_tree.specs.Images.{IsNodeOf, ReadsNode, AreRead, Stores}
+use Rattle.wb_tree.specs.Reading.{Found, Nodes, ReadsAs, IsNewestRoot, tree_read}
+use Rattle.wb_tree.specs.Images.{IsNodeOf, ReadsNode, AreRead, Stores, kept_tree}
 use Rattle.wb_tree.specs.Whole.{found_of}
 use Rattle.wb_tree.proofs.Stored.Whole.{StandsThere, reached_below-known, read_back}
-use Rattle.wb_meta.specs.Representing.{ReadsThere, Represents}
-use Rattle.wb_meta.proofs.Versions.{first_has}
+use Rattle.wb_meta.specs.Representing.{ReadsThere, ReadThere, Represents, alone}
+use Rattle.wb_meta.proofs.Versions.{has_kept}
+use Rattle.wb_meta.proofs.ImageFraming.{alone_read}
 
 -- the first of two that is there
 either_of : {X : Type 0} → Option X → Option X → Option X
@@ -36,7 +36,7 @@ either_right None b h = h
 pub same_place : (a b : Place) → a.0 ≡ b.0 → a ≡ b
 same_place a b e = let made : ℕ → Place = λ n. record { 0 = n } in ap made e
 
-module _ (version : Version) (one : version ≡ One) (sectors : List Content) (m : Mapping) (generation : ℕ) (sound : IsSound m) (stores : Stores sectors m generation) where
+module _ (version : Version) (sectors : List Content) (m : Mapping) (keeps : kept_tree version m ≡ m) (generation : ℕ) (sound : IsSound m) (stores : Stores sectors m generation) where
   if_here : (level index place : ℕ) (there : Place) → place_of m level index ≡ Some there → (there.0 ≡ place) ⊎ (there.0 ≢ place) → Option (StandsThere m place)
   if_here level index place there known (inl same) = Some (record { level = level; index = index; where_it_is = there; known = known; here = same })
   if_here level index place there known (inr other) = None
@@ -121,15 +121,29 @@ module _ (version : Version) (one : version ≡ One) (sectors : List Content) (m
           record {
             sector = stored.sector;
             there = ap (λ at. slice_get sectors at) (sym s.here) ∙ stored.there;
-            reads = subst (λ (o : Option Node). ReadsAs version stored.sector o) (sym (ap (node_here place) e)) (record { spelled = stored.spelled; version_has = first_has version stored.node one stored.right.mapping });
+            reads = subst (λ (o : Option Node). ReadsAs version stored.sector o) (sym (ap (node_here place) e)) (record { spelled = stored.spelled; version_has = has_kept version stored.sector m stored.node keeps stored.spelled stored.right.words stored.right.mapping });
           }
 
--- sectors that store a tree by their newest root represent it
-pub Represents-stored : (sectors : List Content) (root : Root) (m : Mapping) → IsMapping root.geometry.cache_blocks root.geometry.origin_blocks m.entries → IsSound m → AreInside root.geometry.meta_sectors m
-    → changed m (depth_of root.geometry.cache_blocks) ≡ [] → root.top ≡ place_of m (depth_of root.geometry.cache_blocks) 0 → IsNewestRoot sectors root → Stores sectors m root.generation → Represents sectors root (found_of root m)
-Represents-stored sectors root m mapping sound inside none_changed top newest stores = record {
+-- the tree of a root is read of the sectors, where its nodes stand
+pub record ReadsTree (sectors : List Content) (root : Root) (found : Found) : Type 0 where
+  pub nodes : Nodes
+  pub reached : ReadThere root.version sectors nodes found.reached
+  pub reads : tree_read root nodes ≡ Ok found
+
+pub tree_stored : (sectors : List Content) (root : Root) (m : Mapping) → IsMapping root.geometry.cache_blocks root.geometry.origin_blocks m.entries → IsSound m → AreInside root.geometry.meta_sectors m
+    → changed m (depth_of root.geometry.cache_blocks) ≡ [] → root.top ≡ place_of m (depth_of root.geometry.cache_blocks) 0 → kept_tree root.version m ≡ m → Stores sectors m root.generation → ReadsTree sectors root (found_of root m)
+tree_stored sectors root m mapping sound inside none_changed top keeps stores = record {
+  nodes = stored_nodes root.version sectors m keeps root.generation sound stores;
+  reached = λ place r. stored_there root.version sectors m keeps root.generation sound stores place (reached_below-known m (depth_of root.geometry.cache_blocks) 0 place r);
+  reads = read_back m root (stored_nodes root.version sectors m keeps root.generation sound stores) mapping sound inside none_changed top (stored_read root.version sectors m keeps root.generation sound stores);
+}
+
+-- sectors of which a tree is read by their newest root, which names no dirty bits, represent it
+pub Represents-tree : (sectors : List Content) (root : Root) (found : Found) → root.top_dirty ≡ None → IsNewestRoot sectors root → ReadsTree sectors root found → Represents sectors root (alone found)
+Represents-tree sectors root found none newest tree = record {
   newest = newest;
-  nodes = stored_nodes root.version newest.valid.version sectors m root.generation sound stores;
-  reached = λ place r. stored_there root.version newest.valid.version sectors m root.generation sound stores place (reached_below-known m (depth_of root.geometry.cache_blocks) 0 place r);
-  reads = read_back m root (stored_nodes root.version newest.valid.version sectors m root.generation sound stores) mapping sound inside none_changed top (stored_read root.version newest.valid.version sectors m root.generation sound stores);
+  nodes = tree.nodes;
+  reached = tree.reached;
+  reads = alone_read root tree.nodes found none tree.reads;
+  mapping = tree.reads;
 }

@@ -1,5 +1,5 @@
 -- A tree on a device that represents it, and the next image of the tree.
-use Rattle.std.specs.Prelude.{◌≡◌, ◌≤◌, ◌<◌, ◌+◌, ℕ, true, false, List, Some, length, slice_get, Contains}
+use Rattle.std.specs.Prelude.{◌≡◌, ◌≤◌, ◌<◌, ◌+◌, ℕ, Bool, true, false, List, Option, Some, length, slice_get, Contains}
 use Rattle.wb_types.specs.Limits.{depth_of, node_count}
 use Rattle.wb_types.specs.declared.geometry.Geometry.{Geometry}
 use Rattle.wb_types.specs.declared.number.Place.{Place}
@@ -8,10 +8,11 @@ use Rattle.wb_disk.specs.Crashes.{AfterEveryCrash}
 use Rattle.wb_tree.specs.declared.image.Image.{Image}
 use Rattle.wb_tree.specs.Mapping.{Mapping, IsMapping, IsSound, IsPlaceOf, AreInside, changed}
 use Rattle.wb_tree.specs.Reading.{is_reached}
-use Rattle.wb_tree.specs.Images.{AreFree, ImagePlan, IsImage, Stores}
+use Rattle.wb_tree.specs.Images.{AreFree, ImagePlan, IsImage, Stores, kept_tree}
+use Rattle.wb_meta.specs.CleanImages.{IsImageOf}
 use Rattle.wb_meta.specs.Representing.{Represents, Stored}
 
--- A device represents a root and what is read of its tree, and stores what a tree knows, whatever a crash leaves of it; and
+-- A device represents a root and what is read of its image, and stores what a tree knows, whatever a crash leaves of it; and
 -- these places are used.
 pub record DeviceStores (m : Mapping) (device : List History) (old : Stored) (used : List Place) : Type 0 where
   pub sound : IsSound m
@@ -19,12 +20,11 @@ pub record DeviceStores (m : Mapping) (device : List History) (old : Stored) (us
   pub size : length device ≡ old.root.geometry.meta_sectors
   pub represents : AfterEveryCrash (λ sectors. Represents sectors old.root old.found) device
   pub stores : AfterEveryCrash (λ sectors. Stores sectors m old.root.generation) device
-  -- every place that is read is used, and so is every place at which a node of the tree is known to stand
-  pub reached_used : (place : Place) → is_reached place.0 old.found.reached ≡ true → Contains used place
+  -- every place of the mapping that is read is used, and so is every place at which a node of the tree is known to stand
+  pub reached_used : (place : Place) → is_reached place.0 old.found.mapping.reached ≡ true → Contains used place
   pub known_used : (place : Place) → IsPlaceOf m place → Contains used place
-  -- the used places lie behind the slots, on the device, and are as many at most as a tree of this size can have nodes
+  -- the used places lie behind the slots, on the device
   pub used_inside : (place : Place) → Contains used place → (2 ≤ place.0) × (place.0 < old.root.geometry.meta_sectors)
-  pub used_few : length used ≤ node_count old.root.geometry.cache_blocks
 
 -- Places from which an image may take its own: at least so many, behind the slots, on the device, none twice, and none of
 -- those that are used.
@@ -57,6 +57,8 @@ pub record IsNextImage (m n : Mapping) (plan : ImagePlan) (image : Image) (devic
   pub free_are : AreFree m plan.geometry plan.free
   -- the image writes what changed
   pub image_is : IsImage m n plan image
+  -- the words of the geometry's version say all of the new tree's entries
+  pub keeps : kept_tree plan.geometry.version n ≡ n
   -- the device has the size of the geometry
   pub size : length device ≡ plan.geometry.meta_sectors
   -- its root is of this geometry
@@ -67,18 +69,25 @@ pub record IsNextImage (m n : Mapping) (plan : ImagePlan) (image : Image) (devic
   pub represents : AfterEveryCrash (λ sectors. Represents sectors old.root old.found) device
   -- whatever a crash leaves of the device, it stores what m knows
   pub stores : AfterEveryCrash (λ sectors. Stores sectors m old.root.generation) device
-  -- no free place is one that the root's tree reaches
+  -- no free place is one that the root's image reaches
   pub outside : (i : ℕ) (place : Place) → slice_get plan.free i ≡ Some place → is_reached place.0 old.found.reached ≡ false
 
--- The image leads from the tree m to the tree n, on places that are not used.
-pub record IsPlanned (m n : Mapping) (plan : ImagePlan) (image : Image) (used : List Place) : Type 0 where
+-- The image leads from the tree m to the tree n, on places that are not used, and has these dirty bits beside it; and the words of its
+-- version say all of the new tree's entries.
+pub record IsPlanned (bits : Option (List Bool)) (m n : Mapping) (plan : ImagePlan) (image : Image) (used : List Place) : Type 0 where
   pub mapping : IsMapping plan.geometry.cache_blocks plan.geometry.origin_blocks m.entries
   pub free_are : AreUnusedFor m plan.geometry used plan.free
-  pub image_is : IsImage m n plan image
+  pub image_is : IsImageOf bits m n plan image
   pub sound : IsSound n
   pub inside : AreInside plan.geometry.meta_sectors n
+  pub keeps : kept_tree plan.geometry.version n ≡ n
 
--- it is of the geometry of what was stored before, and of the next generation
-pub record Follows (plan : ImagePlan) (old : Stored) : Type 0 where
+-- every place that is read of what is stored is used, those of its dirty bits too
+abbrev pub IsAllUsed : Stored → List Place → Type 0
+IsAllUsed state used = (place : Place) → is_reached place.0 state.found.reached ≡ true → Contains used place
+
+-- It is of the geometry of what was stored before, all of which stands on used places, and of the next generation.
+pub record Follows (plan : ImagePlan) (old : Stored) (used : List Place) : Type 0 where
   pub same_geometry : old.root.geometry ≡ plan.geometry
   pub next : plan.generation ≡ old.root.generation + 1
+  pub all_used : IsAllUsed old used

@@ -3,6 +3,7 @@ pub mod Steps
 pub mod Placing
 pub mod Commits
 pub mod Formats
+pub mod CleanImages
 pub mod Imaging
 pub mod States
 pub mod Slots

@@ -55,7 +55,7 @@ pub record IsPlaced (image : Image) (before after : List Content) : Type 0 where
   pub others : (at : ℕ) (content : Content) → slice_get after at ≡ Some content → (slice_get before at ≡ Some content) ⊎ IsOfImage image at content
 
 -- An image may be committed over a device: whatever a crash leaves of it, it represents what was stored before, and none
--- of the image's places is a place of that tree; and with the image in place it is as is wanted.
+-- of the image's places is a place of its nodes; and with the image in place it is as is wanted.
 pub record MayCommit (image : Image) (device : List History) (old : Stored) (New : List Content → Type 0) : Type 0 where
   pub represents : AfterEveryCrash (λ sectors. Represents sectors old.root old.found) device
   pub outside : (i : ℕ) (node : Place × Node) → slice_get image.nodes.items i ≡ Some node → is_reached node.0.0 old.found.reached ≡ false

@@ -1,5 +1,5 @@
 -- The laws of what a metadata device may be read as, by name.
-use Rattle.std.specs.Prelude.{◌≡◌, ◌⊎◌, ℕ, List, Option, Some, None, length, map}
+use Rattle.std.specs.Prelude.{◌≡◌, ◌⊎◌, ℕ, Bool, List, Option, Some, None, length, map}
 use Rattle.wb_types.specs.declared.geometry.Geometry.{Geometry}
 use Rattle.wb_types.specs.declared.number.Place.{Place}
 use Rattle.wb_types.specs.declared.refusal.Refusal.{Refusal}
@@ -8,6 +8,7 @@ use Rattle.wb_format.specs.declared.root.Root.{Root}
 use Rattle.wb_tree.specs.declared.image.Image.{Image}
 use Rattle.wb_tree.specs.Mapping.{Mapping}
 use Rattle.wb_tree.specs.Images.{ImagePlan}
+use Rattle.wb_dirty.specs.ImageReading.{with_bits}
 use Rattle.wb_meta.specs.declared.commit_steps.CommitSteps.{CommitSteps}
 use Rattle.wb_meta.specs.declared.commit_steps.CommitSteps.TheVariants.{NodesWritten, NodesSynced, Done}
 use Rattle.wb_meta.specs.Representing.{Stored}
@@ -21,10 +22,10 @@ use Rattle.wb_meta.specs.Roots.{MayBeReadAs, IsSettled, Commit, CanBeMade, commi
 
 -- ---- commits
 
--- a commit of the next image begins
+-- a commit of the next image begins, of the tree alone or with dirty bits beside it
 abbrev pub CommitBegins : Type 0
-CommitBegins = (m n : Mapping) (plan : ImagePlan) (image : Image) (device : List History) (old : Stored) (used : List Place) → DeviceStores m device old used
-    → IsPlanned m n plan image used → Follows plan old → CanBeMade (commit_of image n old device) × CommitHasCome image device (NodesWritten 0) device
+CommitBegins = (bits : Option (List Bool)) (m n : Mapping) (plan : ImagePlan) (image : Image) (device : List History) (old : Stored) (used : List Place) → DeviceStores m device old used
+    → IsPlanned bits m n plan image used → Follows plan old used → CanBeMade (commit_of bits image n old device) × CommitHasCome image device (NodesWritten 0) device
 
 -- so does that of an opening's root
 abbrev pub OpeningBegins : Type 0
@@ -93,9 +94,10 @@ FailedSyncLeaves = (geometry : Geometry) (committed : Stored) (later : Option St
 
 -- What is read of a device that is settled is that state, and the device stores the tree that was read.
 abbrev pub ReadIsCommitted : Type 0
-ReadIsCommitted = (geometry : Geometry) (committed : Stored) (device : List History) (root : Root) (tree : Mapping) (used : List Place)
-    → MayBeReadAs geometry committed None device → IsSettled device → RepresentsState (map newest device) root tree used
-    → FitsDevice (length device) root tree used → (root ≡ committed.root) × (tree.entries ≡ committed.found.entries) × DeviceStores tree device committed used
+ReadIsCommitted = (geometry : Geometry) (committed : Stored) (device : List History) (root : Root) (tree : Mapping) (dirty : Option (List Bool)) (used : List Place)
+    → MayBeReadAs geometry committed None device → IsSettled device → RepresentsState (map newest device) root tree dirty used
+    → FitsDevice (length device) root tree used → (root ≡ committed.root) × (with_bits dirty tree.entries ≡ committed.found.entries)
+    × (tree.entries ≡ committed.found.mapping.entries) × DeviceStores tree device committed used
 
 -- the root that is found is that state's, which is of this geometry; and nothing that stands there is a reason to refuse it
 abbrev pub NothingIsRefused : Type 0

@@ -1,16 +1,16 @@
 -- Which root and tree a metadata device may be read as, through commits, faults, crashes and openings: one state or, once
 -- a root was put over it, one of two.
-use Rattle.std.specs.Prelude.{◌≡◌, ◌⊎◌, List, Option, Some, None, length, map}
+use Rattle.std.specs.Prelude.{◌≡◌, ◌⊎◌, ◌++◌, Bool, List, Option, Some, None, length, map}
 use Rattle.wb_types.specs.declared.geometry.Geometry.{Geometry}
 use Rattle.wb_types.specs.declared.number.Place.{Place}
 use Rattle.wb_disk.specs.Device.{Content, History, newest}
 use Rattle.wb_disk.specs.Crashes.{MayLeave, AfterEveryCrash}
 use Rattle.wb_tree.specs.declared.image.Image.{Image}
 use Rattle.wb_tree.specs.Mapping.{Mapping, used_places}
-use Rattle.wb_tree.specs.Whole.{found_of}
-use Rattle.wb_meta.specs.Representing.{Represents, Stored}
+use Rattle.wb_meta.specs.CleanImages.{found_of_image, places_of_bits}
+use Rattle.wb_meta.specs.Representing.{Represents, Stored, alone}
 use Rattle.wb_meta.specs.Placing.{HavePlaces, MayCommit}
-use Rattle.wb_meta.specs.Imaging.{DeviceStores}
+use Rattle.wb_meta.specs.Imaging.{DeviceStores, IsAllUsed}
 use Rattle.wb_meta.specs.Laws.{Wanted}
 
 -- the sectors represent this state
@@ -56,23 +56,25 @@ pub record CanBeMade (c : Commit) : Type 0 where
   pub places : HavePlaces c.image.nodes.items c.old.root.geometry.meta_sectors
   pub may : MayCommit c.image c.before c.old (Wanted c.image c.new.found c.tree)
   pub stores : (now : List History) → length now ≡ length c.before → AfterEveryCrash (Wanted c.image c.new.found c.tree) now → DeviceStores c.tree now c.new c.used
+  -- all that is read of the new state stands on places that are used then
+  pub all_used : IsAllUsed c.new c.used
 
--- that of the next image of a tree
-abbrev pub commit_of : Image → Mapping → Stored → List History → Commit
-commit_of image n old device = record {
+-- that of the next image of a tree, with these dirty bits beside it
+abbrev pub commit_of : Option (List Bool) → Image → Mapping → Stored → List History → Commit
+commit_of bits image n old device = record {
   old = old;
-  new = record { root = image.root; found = found_of image.root n };
+  new = record { root = image.root; found = found_of_image bits image n };
   tree = n;
-  used = used_places n;
+  used = used_places n ++ places_of_bits image;
   image = image;
   before = device;
 }
 
--- that of an opening's root, over the same tree
+-- That of an opening's root, over the same mapping. It names no dirty bits, whose nodes are free from then on.
 abbrev pub opening_of : Image → Mapping → List Place → Stored → List History → Commit
 opening_of image tree used old device = record {
   old = old;
-  new = record { root = image.root; found = old.found };
+  new = record { root = image.root; found = alone old.found.mapping };
   tree = tree;
   used = used;
   image = image;

@@ -1,5 +1,5 @@
 -- What is read of sectors, and why nothing is read of others.
-use Rattle.std.specs.Prelude.{◌≡◌, ◌≢◌, ℕ, Some, Err, List, length, map, slice_get}
+use Rattle.std.specs.Prelude.{◌≡◌, ◌≢◌, ℕ, Bool, Option, Some, Err, List, length, map, slice_get}
 use Rattle.wb_types.specs.declared.number.Place.{Place}
 use Rattle.wb_types.specs.declared.refusal.Refusal.{Refusal}
 use Rattle.wb_types.specs.declared.refusal.Refusal.TheVariants.{Io, Memory, NotFormatted, Mismatch, Damaged}
@@ -9,24 +9,27 @@ use Rattle.wb_format.specs.declared.root.Root.{Root}
 use Rattle.wb_format.specs.Layout.{IsValidIn}
 use Rattle.wb_tree.specs.declared.placed.PlacedNode.{PlacedNode}
 use Rattle.wb_tree.specs.Mapping.{Mapping}
-use Rattle.wb_tree.specs.Reading.{Found, Nodes, IsNewestRoot, tree_read}
+use Rattle.wb_tree.specs.Reading.{Nodes, IsNewestRoot}
 use Rattle.wb_tree.specs.Images.{Stores}
 use Rattle.wb_tree.specs.Loaded.{IsLoaded}
-use Rattle.wb_meta.specs.Representing.{Represents, ReadThere}
+use Rattle.wb_dirty.specs.ImageReading.{image_read, with_bits}
+use Rattle.wb_meta.specs.Representing.{Represents, ReadThere, Whole}
 
 -- the places of nodes, in the same order
 abbrev pub places_of : List PlacedNode → List Place
 places_of nodes = map (λ node. node.place) nodes
 
--- What is read of the sectors: a root of a device of their number, and a tree of these entries, whose nodes have
--- these places in the order in which they are read. The sectors store what the tree knows of them.
-pub record RepresentsState (sectors : List Content) (root : Root) (tree : Mapping) (used : List Place) : Type 0 where
-  pub found : Found
+-- What is read of the sectors: a root of a device of their number, and a tree of the entries with the dirty bits beside it, where
+-- they are kept apart. The tree's nodes have these places in the order in which they are read, and the sectors store what the
+-- tree knows of them.
+pub record RepresentsState (sectors : List Content) (root : Root) (tree : Mapping) (dirty : Option (List Bool)) (used : List Place) : Type 0 where
+  pub found : Whole
   pub represents : Represents sectors root found
   pub size : root.geometry.meta_sectors ≡ length sectors
-  pub entries : tree.entries ≡ found.entries
-  pub used_are : used ≡ places_of found.reached
-  pub loaded : IsLoaded root found tree
+  pub entries : with_bits dirty tree.entries ≡ found.entries
+  pub mapping_entries : tree.entries ≡ found.mapping.entries
+  pub used_are : used ≡ places_of found.mapping.reached
+  pub loaded : IsLoaded root found.mapping tree
   pub stores : Stores sectors tree root.generation
 
 -- no sector is a valid root of its slot
@@ -39,7 +42,7 @@ pub record HasOtherSize (sectors : List Content) : Type 0 where
   pub newest : IsNewestRoot sectors root
   pub other : root.geometry.meta_sectors ≢ length sectors
 
--- The tree of the newest root has its first fault at this place, whatever other sectors than those of these nodes
+-- The image of the newest root has its first fault at this place, whatever other sectors than those of these nodes
 -- read as.
 pub record IsDamagedAt (sectors : List Content) (place : Place) : Type 0 where
   pub root : Root
@@ -48,7 +51,7 @@ pub record IsDamagedAt (sectors : List Content) (place : Place) : Type 0 where
   pub nodes : Nodes
   pub reached : List PlacedNode
   pub there : ReadThere root.version sectors nodes reached
-  pub reads : (others : Nodes) → ReadThere root.version sectors others reached → tree_read root others ≡ Err place
+  pub reads : (others : Nodes) → ReadThere root.version sectors others reached → image_read root others ≡ Err place
 
 -- the newest root is one of this device
 pub record HasFittingRoot (sectors : List Content) : Type 0 where

@@ -3,7 +3,6 @@
 ghost use Rattle.std.specs.Prelude.{◌≡◌, ◌≢◌, ◌⊎◌, List, OnOk, IfErr, IfOk};
 ghost use Rattle.wb_types.specs.declared.refusal.Refusal.TheVariants.{Io, Geometry as WrongSize};
 ghost use Rattle.wb_types.specs.declared.mode.Dev.TheVariants.{Metadata};
-ghost use Rattle.wb_types.specs.declared.version.Version.TheVariants.{One};
 ghost use Rattle.wb_disk.specs.Device.{OneMore};
 ghost use Rattle.wb_meta.specs.Formats.{IsFormatted, SlotsAlone};
 
@@ -15,9 +14,8 @@ use wb_types::{Geometry, Refusal};
 /// Makes a metadata device represent the empty mapping, clean. It writes the two slots and no other sector.
 ///
 /// `Geometry` where the device has another size than the geometry says, and nothing was done; `Io` where it
-/// fails, and formatting has to be repeated. No device is formatted with the second version yet.
+/// fails, and formatting has to be repeated.
 pub fn format<D: Disk>(disk: &mut D, geometry: &Geometry) -> Result<(), Refusal>
-    requires version { geometry.now.version ≡ One }
     ensures size { D.size disk.new ≡ D.size disk.old }
     ensures fits { IfOk result (λ _. geometry.now.meta_sectors ≡ D.size disk.old) }
     ensures empty { D.tells → OnOk result (IsFormatted geometry.now (D.contents disk.new)) }

@@ -2,7 +2,7 @@
 
 ghost use Rattle.wb_disk.specs.Crashes.{CrashIsLeft, ReadIsLeft, SyncedIsLeft, CrashedIsLeft, SyncedIsRead, PartlySyncedIsRead, PartlySyncedLeavesNoMore};
 ghost use Rattle.wb_meta.specs.Laws.{CommitGoesOn, CommitFails, OldOrWantedDuring, OldOrWantedAfterFailure, OldBeforeRoot, OldAfterFailedNode, WantedWhenDone};
-ghost use Rattle.wb_meta.specs.Laws.{ImageHasPlaces, ImageMayCommit, OldOrTreeDuring, OldOrTreeAfterFailure, TreeWhenDone};
+ghost use Rattle.wb_meta.specs.Laws.{ImageHasPlaces, ImageMayCommit, ImageWithBitsMayCommit, OldOrTreeDuring, OldOrTreeAfterFailure, TreeWhenDone};
 ghost use Rattle.wb_meta.specs.Laws.{FormattedIsFirst, FormattedIsEmpty, FormattedStores, ReadStores, EditedStores, UnusedAreFree, PlannedIsNext, CommittedStores};
 ghost use Rattle.wb_meta.specs.Laws.{OpeningHasPlaces, OpeningMayCommit, OpeningStores};
 ghost use Rattle.wb_meta.specs.Laws.{OneRoot, OneTree, OneState, OneRefusal, StateAlone, FittingAlone, TreeIsNotRefused, OldOrTreeIsRead, OldOrTreeIsNotRefused};
@@ -20,12 +20,14 @@ pub fn commit_law()
     ensures done { WantedWhenDone }
 {}
 
-/// The next image of a tree has places on the device, and may be committed; with the image in place the sectors represent
-/// the new tree by the image's root, and store it. However far its commit has come, and after a failure too, a crash leaves
-/// the old mapping or the new tree so; when the commit is done, the new tree alone.
+/// The next image of a tree, alone or with dirty bits beside it, has places on the device, and may be committed; with the
+/// image in place the sectors represent the new tree by the image's root, and store it. However far the commit of the tree
+/// alone has come, and after a failure too, a crash leaves what was stored before or the new tree so; when the commit is done,
+/// the new tree alone.
 pub fn image_law()
     ensures places { ImageHasPlaces }
     ensures may { ImageMayCommit }
+    ensures with_bits { ImageWithBitsMayCommit }
     ensures during { OldOrTreeDuring }
     ensures failed { OldOrTreeAfterFailure }
     ensures done { TreeWhenDone }
@@ -50,7 +52,8 @@ pub fn cycle_law()
 {}
 
 /// The root that an opening writes over a tree that a device stores: it may be committed, and then the device stores the
-/// same tree by it. That holds of every tree that can be read, also of one with a node that has no entry below it.
+/// same tree by it, with no dirty bits beside it. That holds of every tree that can be read, also of one with a node that has
+/// no entry below it.
 pub fn opening_law()
     ensures places { OpeningHasPlaces }
     ensures may { OpeningMayCommit }

@@ -3,10 +3,11 @@
 //! A commit writes the image's nodes to places that the tree on the device does not use, syncs, writes the root
 //! into the slot of its generation, and syncs. So a crash at any moment leaves the old mapping or the image's.
 //!
-//! A reading takes the valid root of higher generation and reads its tree, or names the first fault of it. The older
+//! A reading takes the valid root of higher generation and reads its image, or names the first fault of it. The older
 //! root never counts.
 #![tactic(auto)]
 
+mod clean_image;
 mod commit_steps;
 mod formatting;
 mod law;
@@ -16,6 +17,7 @@ mod roots;
 mod sector;
 mod slot;
 
+pub use clean_image::image_with_bits;
 pub use commit_steps::{CommitStep, CommitSteps, commit};
 pub use formatting::format;
 pub use law::{

@@ -5,14 +5,16 @@ ghost use Rattle.wb_types.specs.declared.refusal.Refusal.TheVariants.{Memory as 
 ghost use Rattle.wb_disk.specs.Device.{Content as Bytes, newest};
 ghost use Rattle.wb_disk.specs.Extents.{Reading, MayLand};
 ghost use Rattle.wb_meta.specs.States.{RepresentsState, IsRefusedBy, IsOfReading, CountsFault, FailsIf};
-ghost use Rattle.wb_meta.specs.Reads.{IsTreeOn, FitsDevice, AreStepsOn, HasLoaded, HasRead, ReadingGoesOn, StopsBy, IsDone, StepsFewer, ReadOneMore, coming_sector, known_root, sectors_read, steps_left};
+ghost use Rattle.wb_meta.specs.Reads.{IsImageOn, FitsDevice, AreStepsOn, HasLoaded, HasRead, ReadingGoesOn, StopsBy, IsDone, StepsFewer, ReadOneMore, coming_sector, known_root, sectors_read, steps_left};
 
 use crate::sector::get_node;
 use crate::slot::{newest_root, read_slot};
 use std::alloc::{Allocator, Global};
+use wb_bits::BitSet;
+use wb_dirty::ImageLoader;
 use wb_disk::Disk;
 use wb_format::Root;
-use wb_tree::{Loader, Tree};
+use wb_tree::Tree;
 use wb_types::{Place, Refusal};
 
 /// What a metadata device stands for.
@@ -20,14 +22,18 @@ use wb_types::{Place, Refusal};
 pub struct State<A: Allocator> {
     /// The valid root of higher generation.
     pub root: Root,
-    /// The mapping of its tree.
+    /// The mapping of its tree. Its dirty bits count where none stand beside it.
     pub tree: Tree<A>,
-    /// The places of the tree's nodes, in the order in which they were read.
+    /// The dirty blocks, where the root names a tree of dirty bits.
+    pub dirty: Option<BitSet>,
+    /// The places of the mapping's nodes, in the order in which they were read.
     pub used: Vec<Place>,
+    /// How many nodes were read: those of the mapping, and then those of the dirty bits.
+    pub nodes: usize,
 }
 
 /// A reading by single steps of the metadata device: it reads the first slot, the second, and each node of the newest
-/// root's tree. It writes nothing, and what is done to other devices between the steps changes nothing of it.
+/// root's image. It writes nothing, and what is done to other devices between the steps changes nothing of it.
 #[derive(Drop)]
 pub enum ReadSteps<A: Allocator> {
     /// Nothing was read.
@@ -41,11 +47,12 @@ pub enum ReadSteps<A: Allocator> {
         global: Global,
         first: Option<Root>,
     },
-    /// The newest root is known, and a node of its tree is to be read.
+    /// The newest root is known, so many nodes of its image were read, and another is to be.
     RootFound {
         global: Global,
         root: Root,
-        loader: Loader<A>,
+        loader: ImageLoader<A>,
+        nodes: usize,
     },
     /// All was read.
     Done(State<A>),
@@ -98,8 +105,8 @@ impl<A: Allocator + Clone> ReadSteps<A> {
     /// other; a slot that the device is too small for has no root and is not read.
     ///
     /// `Io` where the device fails, `NotFormatted` where neither slot has a valid root, `Mismatch` where the newest
-    /// root is one of a device of another size, `Damaged` with the place of the first fault of its tree, `Memory`
-    /// where there is no room for the mapping.
+    /// root is one of a device of another size, `Damaged` with the place of the first fault of its image, `Memory`
+    /// where there is no room for what is read.
     pub fn next<D: Disk>(self, disk: &mut D) -> Result<ReadSteps<A>, Refusal>
         requires { AreStepsOn (D.size disk.old) self }
         ensures size { D.size disk.new ≡ D.size disk.old }
@@ -132,36 +139,39 @@ impl<A: Allocator + Clone> ReadSteps<A> {
             } => {
                 let second = read_slot(disk, 1)?;
                 let root = newest_root(first, second, disk.sectors())?;
-                let loader = Loader::new(alloc, global, &root)?;
-                go_on(global, root, loader)
+                let loader = ImageLoader::new(alloc, global, &root)?;
+                go_on(global, root, loader, 0)
             }
             ReadSteps::RootFound {
                 global,
                 root,
                 loader,
+                nodes,
             } => match loader.wanted() {
                 Some(Place(place)) => {
                     let node = get_node(disk, u64::from(place), root.version)?;
-                    go_on(global, root, loader.tell(node)?)
+                    go_on(global, root, loader.tell(node)?, nodes + 1)
                 }
-                None => go_on(global, root, loader),
+                None => go_on(global, root, loader, nodes),
             },
             ReadSteps::Done(state) => Ok(ReadSteps::Done(state)),
         }
     }
 }
 
-/// Goes on with the next node of a root's tree; where there is none, the reading is done.
+/// Goes on with the next node of a root's image, of which so many were read; where there is none, the reading is done.
 fn go_on<A: Allocator + Clone>(
     global: Global,
     root: Root,
-    loader: Loader<A>,
+    loader: ImageLoader<A>,
+    nodes: usize,
 ) -> Result<ReadSteps<A>, Refusal>
-    ensures on { (sectors : ℕ) → IsTreeOn sectors root loader → IfOk result (AreStepsOn sectors) }
+    requires { nodes ≡ length loader.found.reached }
+    ensures on { (sectors : ℕ) → IsImageOn sectors root loader → IfOk result (AreStepsOn sectors) }
     ensures left { (sectors : ℕ) → IfOk result (λ steps. steps_left sectors steps
         ≤ sectors - length loader.found.reached) }
     ensures count { IfOk result (λ steps. sectors_read steps ≡ 2 + length loader.found.reached) }
-    ensures read { (sectors : List Bytes) → IsTreeOn (length sectors) root loader
+    ensures read { (sectors : List Bytes) → IsImageOn (length sectors) root loader
         → HasLoaded sectors root loader → IfOk result (HasRead sectors) }
     ensures refused { IfErr result (λ refusal. refusal ≡ OutOfMemory) }
 {
@@ -170,14 +180,21 @@ fn go_on<A: Allocator + Clone>(
             global,
             root,
             loader,
+            nodes,
         });
     }
-    let (tree, used) = loader.finish(global)?;
-    Ok(ReadSteps::Done(State { root, tree, used }))
+    let (tree, dirty, used) = loader.finish(global)?;
+    Ok(ReadSteps::Done(State {
+        root,
+        tree,
+        dirty,
+        used,
+        nodes,
+    }))
 }
 
 /// Reads what a metadata device stands for: all steps of `ReadSteps`, with the refusals that they give. The older
-/// root counts for nothing, whatever the newer one's tree is.
+/// root counts for nothing, whatever the newer one's image is.
 pub fn read_state<A: Allocator + Clone, D: Disk>(
     alloc: A,
     global: Global,
@@ -187,7 +204,7 @@ pub fn read_state<A: Allocator + Clone, D: Disk>(
     ensures same { D.tells → D.contents disk.new ≡ D.contents disk.old }
     ensures fits { IfOk result (λ state. FitsDevice (D.size disk.old) state.root state.tree state.used.items) }
     ensures read { D.tells → IfOk result (λ state. RepresentsState (map newest (D.contents disk.old))
-        state.root state.tree state.used.items) }
+        state.root state.tree state.dirty state.used.items) }
     ensures refused { D.tells → IfErr result (IsRefusedBy (map newest (D.contents disk.old))) }
     ensures kinds { IfErr result IsOfReading }
     ensures no_fault { D.tells → OnOk result (D.faults disk.new ≡ D.faults disk.old) }

@@ -4,9 +4,9 @@
 ghost use Rattle.wb_meta.specs.RootLaws.{CommitBegins, OpeningBegins, CommitGoesOn, CommitFails, OneOfTwoDuring, OldBeforeRoot, OneOfTwoAfterFailure, OldAfterFailedNode, StoresWhenDone};
 ghost use Rattle.wb_meta.specs.RootLaws.{StoredIsRead, CrashDecides, SyncDecides, FailedSyncLeaves, ReadIsCommitted, NothingIsRefused};
 
-/// A commit of the next image of a stored tree, and one of an opening's root over it, begin, go on by their steps, or
-/// fail. Until the root is written the device is read as the old state, then as the old or the new one, also after a
-/// failure; once the commit is done the device stores the new one's tree.
+/// A commit of the next image of a stored tree, alone or with dirty bits beside it, and one of an opening's root, begin, go
+/// on by their steps, or fail. Until the root is written the device is read as the old state, then as the old or the new one,
+/// also after a failure; once the commit is done the device stores the new one's tree.
 pub fn commits_lead_on()
     ensures begins { CommitBegins }
     ensures opening { OpeningBegins }

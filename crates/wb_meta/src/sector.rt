@@ -1,9 +1,9 @@
 //! Single steps of the metadata device.
 
-ghost use Rattle.std.specs.Prelude.{◌≡◌, ◌<◌, OnOk, OnErr, IsErr, IfOk, IfErr, map};
+ghost use Rattle.std.specs.Prelude.{◌≡◌, ◌<◌, OnOk, OnErr, IsErr, IfOk, IfErr, IfSome, map};
 ghost use Rattle.wb_types.specs.declared.refusal.Refusal.TheVariants.{Io};
 ghost use Rattle.wb_types.specs.declared.mode.Dev.TheVariants.{Metadata};
-ghost use Rattle.wb_format.specs.Layout.{SpellsNode, SpellsRoot};
+ghost use Rattle.wb_format.specs.Layout.{IsOfVersion, SpellsNode, SpellsRoot};
 ghost use Rattle.wb_disk.specs.Device.{written, synced, OneMore, newest};
 ghost use Rattle.wb_disk.specs.Extents.{Reading, Syncing, MayLand};
 ghost use Rattle.wb_disk.specs.Failing.{SyncedSo};
@@ -90,6 +90,7 @@ pub(crate) fn get_node<D: Disk>(
     ensures size { D.size disk.new ≡ D.size disk.old }
     ensures same { D.tells → D.contents disk.new ≡ D.contents disk.old }
     ensures how { D.tells → OnErr result (MayLand (D.falters disk.old Reading)) }
+    ensures of_version { IfOk result (λ node. IfSome node (IsOfVersion version)) }
     ensures found { D.tells → IfOk result (λ node. ReadsThere version (map newest (D.contents disk.old))
         (λ _. node) at) }
     ensures fails { D.fails disk.old → IsErr result }

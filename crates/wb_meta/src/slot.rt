@@ -11,7 +11,7 @@ ghost use Rattle.wb_meta.specs.States.{IsRefusedBy};
 
 use wb_disk::Disk;
 use wb_format::Root;
-use wb_types::{Content, Dev, Refusal, SECTOR_BYTES, Version};
+use wb_types::{Content, Dev, Refusal, SECTOR_BYTES};
 
 /// The valid root of a slot, where there is one. `Io` where the device fails.
 pub(crate) fn read_slot<D: Disk>(disk: &mut D, slot: u32) -> Result<Option<Root>, Refusal>
@@ -39,7 +39,7 @@ fn root_in(content: &Content, slot: u32) -> Option<Root>
     ensures { (sectors : List Bytes) → slice_get sectors slot ≡ Some content.now → IsInSlot sectors slot result }
 {
     let root = Root::read(content)?;
-    if root.slot().0 == slot && root.version == Version::One {
+    if root.slot().0 == slot {
         Some(root)
     } else {
         None

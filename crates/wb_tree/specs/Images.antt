@@ -83,6 +83,7 @@ pub record IsImage (m n : Mapping) (plan : ImagePlan) (image : Image) : Type 0 w
   pub root_clean : image.root.clean ≡ plan.clean
   pub root_geometry : image.root.geometry ≡ plan.geometry
   pub root_top : image.root.top ≡ place_of n (levels_of plan) 0
+  pub root_no_bits : image.root.top_dirty ≡ None
 
 -- A node is the one that the tree has at this level and index: it is of the mapping, it has that name, the words of the tree,
 -- and a generation that is not above this one.

@@ -57,6 +57,7 @@ fn change_and_plan(
         root,
         mut tree,
         used,
+        ..
     } = read_state(alloc, alloc, disk)?;
     for (block, hint) in changes {
         change(&mut tree, &root.geometry, *block, *hint)?;

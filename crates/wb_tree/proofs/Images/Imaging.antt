@@ -1,5 +1,5 @@
 -- When a root and nodes are the image of a tree.
-use Rattle.std.proofs.Common.{◌≡◌, ◌≤◌, ◌+◌, ◌∙◌, ℕ, Bool, false, List, [], Some, map, take, length, arith}
+use Rattle.std.proofs.Common.{◌≡◌, ◌≤◌, ◌+◌, ◌∙◌, ℕ, Bool, false, List, [], Some, None, map, take, length, arith}
 use Rattle.std.specs.Prelude.{◌⊎◌, All, Contains}
 use Rattle.std.proofs.lemmas.List.{length-map}
 use Rattle.wb_types.specs.Limits.{depth_of, node_count}
@@ -36,9 +36,9 @@ used-places m cache_blocks sound once few = record {
 pub image-is : (m n : Mapping) (geometry : Geometry) (generation : ℕ) (clean : Bool) (free : List Place) (image : Image)
     → WritesChanged m n geometry generation free image.nodes.items → changed n (depth_of geometry.cache_blocks) ≡ [] → AreUsed geometry.cache_blocks n
     → ((place : Place) → IsPlaceOf n place → IsPlaceOf m place ⊎ Contains (map (λ node. node.0) image.nodes.items) place) → length (used_places n) ≡ length (used_places m) + length image.nodes.items → image.root.generation ≡ generation
-    → image.root.clean ≡ clean → image.root.geometry ≡ geometry → image.root.top ≡ place_of n (depth_of geometry.cache_blocks) 0
+    → image.root.clean ≡ clean → image.root.geometry ≡ geometry → image.root.top ≡ place_of n (depth_of geometry.cache_blocks) 0 → image.root.top_dirty ≡ None
     → IsImage m n (record { geometry = geometry; generation = generation; clean = clean; free = free }) image
-image-is m n geometry generation clean free image written none used comes more g c s t = record {
+image-is m n geometry generation clean free image written none used comes more g c s t b = record {
   same_entries = written.same_entries;
   stays = written.stays;
   none_changed = none;
@@ -55,4 +55,5 @@ image-is m n geometry generation clean free image written none used comes more g
   root_clean = c;
   root_geometry = s;
   root_top = t;
+  root_no_bits = b;
 }

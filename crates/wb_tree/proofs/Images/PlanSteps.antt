@@ -280,7 +280,7 @@ kept_none One = refl
 kept_none Two = refl
 
 -- what is kept of entries is kept of each
-kept_at : (version : Version) (entries : List (Option Entry)) (block : ℕ) → slice_index_or (map (kept version) entries) block None ≡ kept version (slice_index_or entries block None)
+pub kept_at : (version : Version) (entries : List (Option Entry)) (block : ℕ) → slice_index_or (map (kept version) entries) block None ≡ kept version (slice_index_or entries block None)
 kept_at version [] block = sym (kept_none version)
 kept_at version (entry ∷ entries) zero = refl
 kept_at version (entry ∷ entries) (suc block) = kept_at version entries block

@@ -73,6 +73,7 @@ image-alike m n k plan image alike used long is = record {
   root_clean = is.root_clean;
   root_geometry = is.root_geometry;
   root_top = is.root_top ∙ sym (alike.places (levels_of plan) 0);
+  root_no_bits = is.root_no_bits;
 }
 
 pub loaded-alike : (root : Root) (found : Found) (m n : Mapping) → AreAlike m n → IsLoaded root found m → IsLoaded root found n

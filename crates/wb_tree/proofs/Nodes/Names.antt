@@ -38,7 +38,7 @@ below_up level index node h =
     record { from = h1; to = omega arith; at_least = omega arith; before = omega arith }
 
 -- of each of some children
-each_from-below : (f : ℕ → List NodeName) (level : ℕ) → ((index : ℕ) → AllByRecursion (IsBelow level index (index + 1)) (f index)) → (count first : ℕ) → AllByRecursion (IsBelow level first (first + count)) (each_from f count first)
+pub each_from-below : (f : ℕ → List NodeName) (level : ℕ) → ((index : ℕ) → AllByRecursion (IsBelow level index (index + 1)) (f index)) → (count first : ℕ) → AllByRecursion (IsBelow level first (first + count)) (each_from f count first)
 unfolding each_from
 each_from-below f level each zero first = tt
 each_from-below f level each (suc count) first =
@@ -114,7 +114,7 @@ pub apart-append : (xs ys : List NodeName) → AreApart xs → AreApart ys → A
 apart-append [] ys p q each = q
 apart-append (x ∷ xs) ys p q each = (has-append_false xs ys x.level x.index p.0 each.0, apart-append xs ys p.1 q each.1)
 
-each_from-apart : (f : ℕ → List NodeName) (level : ℕ) → ((index : ℕ) → AllByRecursion (IsBelow level index (index + 1)) (f index)) → ((index : ℕ) → AreApart (f index)) → (count first : ℕ) → AreApart (each_from f count first)
+pub each_from-apart : (f : ℕ → List NodeName) (level : ℕ) → ((index : ℕ) → AllByRecursion (IsBelow level index (index + 1)) (f index)) → ((index : ℕ) → AreApart (f index)) → (count first : ℕ) → AreApart (each_from f count first)
 unfolding each_from
 each_from-apart f level below each zero first = tt
 each_from-apart f level below each (suc count) first =
@@ -154,7 +154,7 @@ nodes_below-exist entries (suc level) index =
     if_exists (AllByRecursion (λ node. exists entries node.level node.index ≡ true)) (exists entries (suc level) index) (each_from (nodes_below entries level) 32 (32 * index) ++ self ∷ []) tt (λ e.
     AllByRecursion-append P (each_from (nodes_below entries level) 32 (32 * index)) (self ∷ []) (each_from-each (nodes_below entries level) P (nodes_below-exist entries level) 32 (32 * index)) (e, tt))
 
-either_had : (xs ys : List NodeName) (level index : ℕ) → has (xs ++ ys) level index ≡ true → (has xs level index ≡ true) ⊎ (has ys level index ≡ true)
+pub either_had : (xs ys : List NodeName) (level index : ℕ) → has (xs ++ ys) level index ≡ true → (has xs level index ≡ true) ⊎ (has ys level index ≡ true)
 either_had [] ys level index h = inr h
 either_had (x ∷ xs) ys level index h = go ((x.level == level) && (x.index == index)) (has xs level index) (has (xs ++ ys) level index) h (either_had xs ys level index)
   where

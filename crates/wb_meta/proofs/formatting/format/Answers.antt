@@ -11,7 +11,7 @@ returns-clause-empty g c tells =
     let size : 2 ≤ length d0 = omega (arith, whole, slots, c.sectors.ensures, c.from.ensures, c.if-sectors-from.false) in
     on_ok_weaker c.sync-2.result
     (λ s5. formatted_left c.args.geometry.now _ d0 (g.D.Disk.contents c.put_zeros.new.disk) (g.D.Disk.contents c.put_zeros-2.new.disk) (g.D.Disk.contents c.sync.new.disk) (g.D.Disk.contents c.put_root.new.disk) (g.D.Disk.contents c.sync-2.new.disk)
-    (record { generation = refl; clean = refl; geometry_is = refl; top = refl }) c.requires.version size
+    (record { generation = refl; clean = refl; geometry_is = refl; top = refl; top_dirty = refl }) size
     (c.in_ok-put_zeros.ensures.ok tells) (c.in_ok-put_zeros-2.ensures.ok tells) (c.in_ok-sync.ensures.ok tells) (c.in_ok-put_root.ensures.ok tells) s5)
     (c.sync-2.ensures.ok tells)
 

@@ -1,6 +1,10 @@
 use Rattle.std.proofs.Common.{sym, ◌∙◌}
+use Rattle.wb_dirty.proofs.Images.{IfSome-weaker}
 use Rattle.wb_meta.proofs.Sectors.{on_ok, node_there}
 use Rattle.wb_meta.proofs.sector.get_node.Goals as goal
+
+pub returns-clause-of_version : goal.returns-clause-of_version
+returns-clause-of_version g c = IfSome-weaker c.read-2.result _ _ (λ node spelled. spelled.version_has) c.read-2.ensures.found
 
 pub returns-clause-found : goal.returns-clause-found
 returns-clause-found g c tells =

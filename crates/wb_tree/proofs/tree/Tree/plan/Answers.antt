@@ -115,7 +115,7 @@ returns-clause-image g c =
     let written = written_is m geometry c.args.generation free nodes can ns c.in_ok-top.ensures.planned in
     image-alike m (planned m free) new _ _ alike used more
     (image-is m (planned m free) geometry c.args.generation c.args.clean free _ written complete.all (used-places (planned m free) geometry.cache_blocks (planned-sound m geometry free can) complete.once complete.few)
-    (planned-comes m free nodes ns c.in_ok-top.ensures.planned.places) (planned-more geometry.version m c.args.generation free nodes ns c.in_ok-top.ensures.planned) refl refl refl top)
+    (planned-comes m free nodes ns c.in_ok-top.ensures.planned.places) (planned-more geometry.version m c.args.generation free nodes ns c.in_ok-top.ensures.planned) refl refl refl top refl)
 
 pub returns-clause-inside : goal.returns-clause-inside
 returns-clause-inside g c =
