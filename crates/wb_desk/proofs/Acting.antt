@@ -12,6 +12,7 @@ use Rattle.wb_types.specs.declared.number.CBlock.{CBlock}
 use Rattle.wb_types.specs.declared.number.OBlock.{OBlock}
 use Rattle.wb_types.specs.declared.number.Place.{Place}
 use Rattle.wb_tree.specs.Mapping.{Mapping, IsMapping}
+use Rattle.wb_tree.specs.declared.image.Image.{Image}
 use Rattle.wb_policy.specs.declared.order.Order.{Order}
 use Rattle.wb_policy.specs.declared.order.Order.TheVariants.{Promote, Replace, Demote, Clean}
 use Rattle.wb_policy.specs.Law.{Holdings, origins, IsMappedAt, IsUnmapped}
@@ -396,9 +397,9 @@ module _ {P : Type 0} where
     unmap_follows : Follows images a d (Unmap b c) (unmapped d c tree policy)
     unmap_follows = left ((d.demotions + 1) % 2 ^ 64) (order_at d.orders.slots c.0) refl
 
-  begin_follows : (d : DeskState P) (images : HeldImages) (a : Allocation) (tree : Mapping) → IsAllocation d images a → d.space.committing ≡ false → holdings (record d { tree = tree }) ≡ holdings d
-      → Follows images a d BeginCommit (commit_begun d tree)
-  begin_follows d images a tree s idle same = (
+  begin_follows : (d : DeskState P) (images : HeldImages) (a : Allocation) (tree : Mapping) (image : Image) → IsAllocation d images a → d.space.committing ≡ false → holdings (record d { tree = tree }) ≡ holdings d
+      → Follows images a d BeginCommit (commit_begun d tree image)
+  begin_follows d images a tree image s idle same = (
     (s.committing ∙ idle, tt),
     record {
       blocks = ap (λ (x : List Block). map block_begun x) s.blocks;
@@ -454,7 +455,7 @@ module _ {P : Type 0} where
   call_follows knows d new (Unmap b c) images a v r s i does =
       subst (λ (x : DeskState P). Follows images a d (Unmap b c) x) (sym does.3) (unmap_follows knows d images a b c new.tree new.policy v s i does.0 does.2)
   call_follows knows d new BeginCommit images a v r s i does =
-      subst (λ (x : DeskState P). Follows images a d BeginCommit x) (sym does.2) (begin_follows d images a new.tree s does.0.idle does.1)
+      subst (λ (x : DeskState P). Follows images a d BeginCommit x) (sym does.2.1) (begin_follows d images a new.tree does.2.0 s does.0.idle does.1)
   call_follows knows d new EndCommit images a v r s i does = subst (λ (x : DeskState P). Follows images a d EndCommit x) (sym does.1) (end_follows d images a s does.0)
   call_follows knows d new BreakCommit images a v r s i does = subst (λ (x : DeskState P). Follows images a d BreakCommit x) (sym does) (break_follows d images a s)
 
@@ -472,7 +473,7 @@ module _ {P : Type 0} where
       orders_of new (released d c) does.1 (ended_kept d.orders c t.0 r t.1 t.2)
   orders_kept d new (Map b c) does r = orders_of new (mapped d c new.tree new.policy) does.2 (ended_kept d.orders c does.0.live r does.0.there does.0.taken)
   orders_kept d new (Unmap b c) does r = orders_of new (unmapped d c new.tree new.policy) does.3 (past_kept d.orders c (order_at d.orders.slots c.0) refl does.1 r)
-  orders_kept d new BeginCommit does r = orders_of new (commit_begun d new.tree) does.2 r
+  orders_kept d new BeginCommit does r = orders_of new (commit_begun d new.tree does.2.0) does.2.1 r
   orders_kept d new EndCommit does r = orders_of new (commit_ended d) does.1 r
   orders_kept d new BreakCommit does r = orders_of new (commit_broken d) does r
 

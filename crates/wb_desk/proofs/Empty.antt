@@ -1,5 +1,5 @@
 -- An empty cache fits its device.
-use Rattle.std.proofs.Common.{◌≡◌, inl, inr, ℕ, zero, suc, List, [], ◌∷◌, Option, Some, None, get_or, replicate, refl, sym, subst, ◌∙◌, arith}
+use Rattle.std.proofs.Common.{◌≡◌, inl, inr, ℕ, zero, suc, List, [], ◌∷◌, Option, Some, None, get_or, map, replicate, refl, sym, ap, subst, ◌∙◌, arith}
 use Rattle.std.proofs.lemmas.Bool.{cases_lt}
 use Rattle.std.proofs.lemmas.List.{length-replicate, get_or-replicate, get_or_past}
 use Rattle.std.specs.Prelude.{slice_get}
@@ -7,10 +7,12 @@ use Rattle.std.specs.List.{IsDistinct}
 use Rattle.wb_types.specs.declared.entry.Entry.{Entry}
 use Rattle.wb_types.specs.declared.number.Place.{Place}
 use Rattle.wb_format.specs.declared.root.Root.{Root}
+use Rattle.wb_format.specs.NodeWords.{kept}
 use Rattle.wb_tree.specs.declared.placed.PlacedNode.{PlacedNode}
 use Rattle.wb_tree.specs.Mapping.{Mapping, IsMapping, IsSound, place_in}
 use Rattle.wb_policy.specs.Law.{Holdings, origins, IsMapping as IsPolicyMapping}
 use Rattle.wb_meta.specs.Reads.{FitsDevice}
+use Rattle.wb_desk.proofs.Keeping.{empty_keeps, keeps_tree}
 
 pub none_there : (known : List PlacedNode) → known ≡ [] → (level index : ℕ) (p : Place) → place_in known level index ≡ Some p → ⊥
 none_there [] e level index p k = absurd cc
@@ -45,6 +47,7 @@ no_entry root tree empty unknown sound = record {
   known_used = λ p at. absurd (none_there tree.known unknown at.level at.index p at.known);
   used_are = record { from = tt; to = tt; apart = tt };
   used_few = omega arith;
+  keeps = keeps_tree root.geometry.version tree (ap (λ (es : List (Option Entry)). map (kept root.geometry.version) es) empty ∙ empty_keeps root.geometry.version root.geometry.cache_blocks ∙ sym empty);
 }
 
 none_stands : (n at block : ℕ) → slice_get (origins (replicate n None)) at ≡ Some (Some block) → ⊥

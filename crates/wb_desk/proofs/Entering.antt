@@ -35,6 +35,7 @@ use Rattle.wb_desk.specs.Fields.{IsIndex, AreParts, newest_places}
 use Rattle.wb_desk.specs.Entries.{MayMap, Brings, entry_of, mapped}
 use Rattle.wb_tree.specs.Edits.{IsChangedAt}
 use Rattle.wb_desk.proofs.Index.{mapped_there}
+use Rattle.wb_desk.proofs.Keeping.{clean_kept, set_keeps}
 use Rattle.wb_desk.proofs.Kept.{Each, length_unmarked}
 use Rattle.wb_types.proofs.Lists.{slice_get-set}
 
@@ -259,6 +260,7 @@ module _ {P : Type 0} (knows : P → Holdings → Type 0) where
           hint = omega arith;
           alone = λ other same is one. absurd (way.unmapped other (mapped_there d.tree.entries other same is ∙ ap (λ (x : OBlock). Some (Some x.0)) one));
         }));
+    keeps = set_keeps d.geometry.version d.tree tree c.0 (Some (entry_of b)) (clean_kept d.geometry.version (entry_of b) refl) changed.entries i.keeps;
     blocks = length-set d.space.blocks c.0 Mapped ∙ i.blocks;
     slots = length-set d.orders.slots c.0 None ∙ i.slots;
     busy = length_unmarked (order_at d.orders.slots c.0) d.orders.busy ∙ i.busy;

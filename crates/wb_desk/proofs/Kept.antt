@@ -110,6 +110,7 @@ module _ {P : Type 0} where
     pub taken_kept : (d : DeskState P) → DeskInvariant knows d → DeskInvariant knows (next_order_taken d)
     taken_kept d i = record {
       mapping = i.mapping;
+      keeps = i.keeps;
       blocks = i.blocks;
       slots = length_taken d.orders.slots d.orders.waiting ∙ i.slots;
       busy = i.busy;
@@ -124,6 +125,7 @@ module _ {P : Type 0} where
     pub reserved_kept : (d : DeskState P) (c : CBlock) (order : Order) (waits : Bool) → DeskInvariant knows d → MayReserve d c order → DeskInvariant knows (reserved d c order waits)
     reserved_kept d c order waits i m = record {
       mapping = i.mapping;
+      keeps = i.keeps;
       blocks = ap (λ (x : List Block). length x) by ∙ length-set d.space.blocks c.0 (new_block order (state d.space.blocks c.0)) ∙ i.blocks;
       slots = length-set d.orders.slots c.0 (Some o) ∙ i.slots;
       busy = length-set (set d.orders.busy (first_of order).0 true) (second_of order).0 true
@@ -147,6 +149,7 @@ module _ {P : Type 0} where
     pub released_kept : (d : DeskState P) (c : CBlock) → DeskInvariant knows d → DeskInvariant knows (released d c)
     released_kept d c i = record {
       mapping = i.mapping;
+      keeps = i.keeps;
       blocks = length-set d.space.blocks c.0 (block_released (state d.space.blocks c.0)) ∙ i.blocks;
       slots = length-set d.orders.slots c.0 None ∙ i.slots;
       busy = length_unmarked (order_at d.orders.slots c.0) d.orders.busy ∙ i.busy;

@@ -8,19 +8,20 @@ use Rattle.std.proofs.lemmas.List.Sums.{sum_by-cons}
 use Rattle.wb_types.specs.Limits.{node_count}
 use Rattle.wb_types.specs.declared.entry.Entry.{Entry}
 use Rattle.wb_types.specs.declared.number.Place.{Place}
+use Rattle.wb_types.specs.declared.version.Version.{Version}
 use Rattle.wb_format.specs.declared.node.Node.{Node}
 use Rattle.wb_tree.specs.Mapping.{Mapping, IsMapping, NodeName, IsSound, IsOnPath, changed, changed_of, nodes_of, place_of}
 use Rattle.wb_tree.specs.Edits.{IsEdited}
-use Rattle.wb_tree.specs.Images.{AreUsed, IsImage, ImagePlan, name_of}
+use Rattle.wb_tree.specs.Images.{IsImage, ImagePlan, name_of}
 use Rattle.wb_tree.specs.declared.image.Image.{Image}
 use Rattle.wb_tree.proofs.Images.Changes.{few_changed}
 use Rattle.wb_tree.proofs.Stored.Edited.{edited-none, edited-more}
 use Rattle.wb_policy.specs.Law.{origins}
-use Rattle.wb_desk.specs.Marks.{marked_entry, marked_entries, AreMarked, OfImaged}
+use Rattle.wb_desk.specs.Marks.{marked_entry, marked_entries, bits_in_tree, AreMarked, OfImaged}
 
 -- ---- entries
 
-length-marked : (hint : ℕ → ℕ) (dirty : List Bool) (es : List (Option Entry)) → length (marked_entries hint dirty es) ≡ length es
+pub length-marked : (hint : ℕ → ℕ) (dirty : List Bool) (es : List (Option Entry)) → length (marked_entries hint dirty es) ≡ length es
 length-marked hint dirty [] = refl
 length-marked hint [] (e ∷ es) = ap suc (length-marked hint [] es)
 length-marked hint (b ∷ dirty) (e ∷ es) = ap suc (length-marked hint dirty es)
@@ -204,33 +205,17 @@ module _ (hint : ℕ → ℕ) (dirty : List Bool) (old : Mapping) (n : ℕ) (m :
 
 -- ---- images
 
--- what an image leads to, whether it is clean or not
-pub record ImageFacts (old tree : Mapping) (cache_blocks : ℕ) (image : Image) : Type 0 where
-  pub origins : origins tree.entries ≡ origins old.entries
-  pub used : AreUsed cache_blocks tree
-
-pub image_facts : (hint : ℕ → ℕ) (clean : Option (List Bool)) (old tree : Mapping) (n : ℕ) (plan : Mapping → ImagePlan) (image : Image) → ((m : Mapping) → (plan m).geometry.cache_blocks ≡ n)
-    → OfImaged hint clean old (λ imaged. IsImage imaged tree (plan imaged) image) → ImageFacts old tree n image
-image_facts hint None old tree n plan image sizes is = record {
-  origins = ap (λ (es : List (Option Entry)). origins es) is.same_entries;
-  used = subst (λ (k : ℕ). AreUsed k tree) (sizes old) is.used;
-}
-image_facts hint (Some dirty) old tree n plan image sizes is = record {
-  origins = ap (λ (es : List (Option Entry)). origins es) (is.2.same_entries ∙ is.1.entries) ∙ origins-marked hint dirty old.entries;
-  used = subst (λ (k : ℕ). AreUsed k tree) (sizes is.0) is.2.used;
-}
-
 -- what follows of each tree that an image may be made of is so of the one that it is made of
-pub of_imaged : (hint : ℕ → ℕ) (clean : Option (List Bool)) (old : Mapping) (P Q : Mapping → Type 0) → ((m : Mapping) → P m → Q m) → OfImaged hint clean old P → OfImaged hint clean old Q
-of_imaged hint None old P Q f so = f old so
-of_imaged hint (Some dirty) old P Q f so = (so.0, so.1, f so.0 so.2)
+pub of_imaged : (version : Version) (hint : ℕ → ℕ) (clean : Option (List Bool)) (old : Mapping) (P Q : Mapping → Type 0) → ((m : Mapping) → P m → Q m) → OfImaged version hint clean old P → OfImaged version hint clean old Q
+of_imaged version hint None old P Q f so = f old so
+of_imaged version hint (Some dirty) old P Q f so = (so.0, so.1, f so.0 so.2)
 
 -- and what follows of each edited tree of this size is so where it is so of that one
-pub by_imaged : (hint : ℕ → ℕ) (clean : Option (List Bool)) (old : Mapping) (n : ℕ) (P : Mapping → Type 0) (Q : Type 0)
-    → ((m : Mapping) → IsEdited old m → length m.entries ≡ n → P m → Q) → length old.entries ≡ n → OfImaged hint clean old P → Q
-by_imaged hint None old n P Q law size so = law old (edited-none old) size so
-by_imaged hint (Some dirty) old n P Q law size so =
-    law so.0 so.1.edited (ap (λ (es : List (Option Entry)). length es) so.1.entries ∙ length-marked hint dirty old.entries ∙ size) so.2
+pub by_imaged : (version : Version) (hint : ℕ → ℕ) (clean : Option (List Bool)) (old : Mapping) (n : ℕ) (P : Mapping → Type 0) (Q : Type 0)
+    → ((m : Mapping) → IsEdited old m → length m.entries ≡ n → P m → Q) → length old.entries ≡ n → OfImaged version hint clean old P → Q
+by_imaged version hint None old n P Q law size so = law old (edited-none old) size so
+by_imaged version hint (Some dirty) old n P Q law size so =
+    law so.0 so.1.edited (ap (λ (es : List (Option Entry)). length es) so.1.entries ∙ length-marked hint (bits_in_tree version dirty) old.entries ∙ size) so.2
 
 -- an image has no more nodes than a tree of its size
 pub few_nodes : (m n : Mapping) (plan : ImagePlan) (image : Image) → IsImage m n plan image → length m.entries ≡ plan.geometry.cache_blocks

@@ -1,8 +1,8 @@
 -- What holds of a desk that has just been opened.
-use Rattle.std.proofs.Common.{◌≡◌, ◌≤◌, ◌<◌, ◌+◌, ◌*◌, ◌%◌, ◌^◌, ℕ, Bool, false, is_some, List, [], Option, Some, None, map, get_or, refl, sym, ap, subst, ◌∙◌, arith}
+use Rattle.std.proofs.Common.{◌≡◌, ◌<◌, ◌+◌, ◌%◌, ◌^◌, ℕ, Bool, false, is_some, List, [], Option, Some, None, map, get_or, refl, sym, ap, subst, ◌∙◌, arith}
 use Rattle.std.specs.List.{count_by}
 use Rattle.std.proofs.lemmas.List.{length-map, length-replicate, get_or-replicate, get_or-map}
-use Rattle.wb_types.specs.Limits.{node_count}
+use Rattle.wb_types.specs.Limits.{HasRoom}
 use Rattle.wb_types.specs.declared.entry.Entry.{Entry}
 use Rattle.wb_types.specs.declared.geometry.Geometry.{Geometry}
 use Rattle.wb_types.specs.declared.mode.Mode.{Mode}
@@ -26,17 +26,18 @@ opened_right mapping c None = record { filled = refl; held = λ h. h; stands = t
 opened_right mapping c (Some e) = record { filled = refl; held = λ h. h; stands = tt }
 
 pub opened_kept : {P : Type 0} (knows : P → Holdings → Type 0) (root : Root) (tree : Mapping) (used : List Place) (mode : Mode) (policy : P) (threshold mapped : ℕ)
-    → 2 + 2 * node_count root.geometry.cache_blocks ≤ root.geometry.meta_sectors → FitsDevice root.geometry.meta_sectors root tree used → knows policy (origins tree.entries)
+    → HasRoom root.geometry.version root.geometry.cache_blocks root.geometry.meta_sectors → FitsDevice root.geometry.meta_sectors root tree used → knows policy (origins tree.entries)
     → mapped ≡ count_by is_some tree.entries → DeskInvariant knows (opened root.geometry root.generation tree used mode policy threshold mapped)
 opened_kept knows root tree used mode policy threshold mapped room fits known count = record {
   mapping = fits.mapping;
+  keeps = fits.keeps;
   blocks = length-map (map is_some tree.entries) opened_block ∙ length-map tree.entries is_some ∙ fits.mapping.size;
   slots = length-replicate {A = Option LiveOrder} geometry.cache_blocks None;
   busy = length-replicate {A = Bool} geometry.origin_blocks false;
   places = record {
     room = room;
     inside = fits.inside;
-    committed = record { used = used; are = refl; many = refl; few = fits.used_few };
+    committed = record { used = used; are = refl; many = refl; few = omega (arith, fits.used_few) };
     running = record { used = []; are = refl; many = refl; few = omega arith };
     known = fits.known_used;
     idle = λ e. refl;
@@ -60,9 +61,9 @@ opened_kept knows root tree used mode policy threshold mapped room fits known co
         ∙ ap opened_block (get_or-map is_some tree.entries c None false (omega (arith, fits.mapping.size)))
 
 pub opened_parts : {P : Type 0} (knows : P → Holdings → Type 0) (root : Root) (tree : Mapping) (used : List Place) (mode : Mode) (policy : P) (threshold mapped : ℕ) (cached : List (Option CBlock)) (left : List Bool)
-    → 2 + 2 * node_count root.geometry.cache_blocks ≤ root.geometry.meta_sectors → FitsDevice root.geometry.meta_sectors root tree used → knows policy (origins tree.entries)
+    → HasRoom root.geometry.version root.geometry.cache_blocks root.geometry.meta_sectors → FitsDevice root.geometry.meta_sectors root tree used → knows policy (origins tree.entries)
     → mapped ≡ count_by is_some tree.entries → IsIndex root.geometry.origin_blocks (origins tree.entries) cached
-    → HaveLeft (IsPlaceOf tree) (noted used (unused (place_count root.geometry.cache_blocks))) left
+    → HaveLeft (IsPlaceOf tree) (noted used (unused (place_count root.geometry))) left
     → AreParts knows (opened root.geometry root.generation tree used mode policy threshold mapped) cached left mapped
 opened_parts knows root tree used mode policy threshold mapped cached left room fits known count index have = record {
   desk = opened_kept knows root tree used mode policy threshold mapped room fits known count;

@@ -30,11 +30,11 @@ use Rattle.wb_desk.specs.Desks.{DeskState, DeskInvariant, IsGivenLawfully, IsFre
 use Rattle.wb_desk.specs.Calls.{blocks_reserved, reserved, released, next_order_taken}
 use Rattle.wb_desk.specs.Messages.{MessageIsTold}
 use Rattle.wb_desk.specs.Entries.{MayMap, MayUnmap, HasEntered, HasLeft, entry_of, mapped, unmapped, keeps}
-use Rattle.wb_desk.specs.Commits.{HasBegun, commit_begun, commit_broken, commit_ended}
+use Rattle.wb_desk.specs.Commits.{HasBegun, beside as beside_of, commit_begun, commit_broken, commit_ended}
 use Rattle.wb_desk.specs.Opening.{opened}
 use Rattle.wb_desk.specs.Safety.{HeldImages, AreSafe, DeskCall, TakeOrder, Tell, GiveOrder, Release, Map, Unmap, BeginCommit, EndCommit, BreakCommit, Does, AreCalls, IsBeginning, AreDecisions, ComesByCalls, images_after, images_since, desk_after}
 use Rattle.wb_desk.proofs.Index.{entry_for}
-use Rattle.wb_desk.proofs.Marking.{image_facts}
+use Rattle.wb_desk.proofs.Shown.{same_origins}
 use Rattle.wb_desk.proofs.Acts.{same_stays, stays_given_back, stays_begun, stays_ended, set_stays, from_block, block_sound, entry_sound, sound_given_back, sound_begun, sound_ended}
 
 -- the cache blocks beside the mapping and the images, with no order
@@ -142,9 +142,9 @@ module _ {P : Type 0} where
         idle = still new (unmapped d cache new.tree new.policy) images does.3 safe.idle;
       }
   call_safe knows d new BeginCommit images i does safe = record {
-    each = with_blocks new (map block_begun d.space.blocks) (holdings d) (record { committed = images.committed; running = holdings d }) (blocks_of new (commit_begun d new.tree) does.2)
+    each = with_blocks new (map block_begun d.space.blocks) (holdings d) (record { committed = images.committed; running = holdings d }) (blocks_of new (commit_begun d new.tree does.2.0) does.2.1)
         does.1 (begun_safe d.space.blocks (holdings d) images safe.each);
-    idle = λ f. absurd (differs (sym (ap (λ (x : DeskState P). x.space.committing) does.2) ∙ f));
+    idle = λ f. absurd (differs (sym (ap (λ (x : DeskState P). x.space.committing) does.2.1) ∙ f));
   }
   call_safe knows d new EndCommit images i does safe = record {
     each = with_blocks new (map block_ended d.space.blocks) (holdings d) (record { committed = images.running; running = images.running }) (blocks_of new (commit_ended d) does.1)
@@ -223,7 +223,7 @@ module _ {P : Type 0} where
       stays_by _ _ d new (set d.space.blocks cache.0 (Quarantined keep false)) c (ap (λ (x : DeskState P). x.space.blocks) does.3)
       (set_stays _ _ d.space.blocks cache.0 (Quarantined keep false) c
       (mapped_leaves _ _ (state d.space.blocks cache.0) keep ((i.each cache.0 within).filled ∙ ap is_some entry.there)))
-  quarantine_stays knows d new BeginCommit i does c = stays_by _ _ d new (map block_begun d.space.blocks) c (ap (λ (x : DeskState P). x.space.blocks) does.2)
+  quarantine_stays knows d new BeginCommit i does c = stays_by _ _ d new (map block_begun d.space.blocks) c (ap (λ (x : DeskState P). x.space.blocks) does.2.1)
       (subst (λ (x : Block). StaysQuarantined (Unit {0}) (ends BeginCommit) (state d.space.blocks c) x) (sym (get_or-map block_begun d.space.blocks c Free)) (stays_begun (Unit {0}) (ends BeginCommit) (state d.space.blocks c) tt))
   quarantine_stays knows d new EndCommit i does c = stays_by _ _ d new (map block_ended d.space.blocks) c (ap (λ (x : DeskState P). x.space.blocks) does.1)
       (subst (λ (x : Block). StaysQuarantined ⊥ (EndCommit ≡ EndCommit) (state d.space.blocks c) x) (sym (get_or-map block_ended d.space.blocks c Free)) (stays_ended ⊥ (EndCommit ≡ EndCommit) (state d.space.blocks c) refl))
@@ -238,7 +238,7 @@ module _ {P : Type 0} where
   told_does with_setting d new (InvalidateCblocks ranges) told = told.2 ∙ ap (λ (x : DeskState P). record d { threshold = x.threshold; policy = x.policy }) (sym told.2)
 
   pub begun_does : (hint_of : P → ℕ → ℕ) (clean : Option (List Bool)) (d : DeskState P) (image : Image) (new : DeskState P) → HasBegun hint_of clean d image new → Does d BeginCommit new
-  begun_does hint_of clean d image new begun = (begun.may, (image_facts (hint_of d.policy) clean d.tree new.tree _ _ image (λ m. refl) begun.image_is).origins, begun.state)
+  begun_does hint_of clean d image new begun = (begun.may, same_origins (beside_of d clean) (hint_of d.policy) clean new.tree.entries d.tree.entries begun.shown, (image, begun.state))
 
   pub mapped_does : (with_entry : P → ℕ → ℕ → P) (d new : DeskState P) (b : OBlock) (c : CBlock) → MayMap d b c → HasEntered with_entry d b c new → Does d (Map b c) new
   mapped_does with_entry d new b c may entered = (may, entered.0.entries, entered.1 ∙ ap (λ (p : P). mapped d c new.tree p) (sym (ap (λ (x : DeskState P). x.policy) entered.1)))

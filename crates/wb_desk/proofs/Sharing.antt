@@ -41,7 +41,7 @@ module _ {P : Type 0} where
   turn d new (Release cache) does = inr (inr (left d (released d cache) new refl does.1))
   turn d new (Map b cache) does = inr (inr (left d (mapped d cache new.tree new.policy) new refl does.2))
   turn d new (Unmap b cache) does = inr (inr (left d (unmapped d cache new.tree new.policy) new refl does.3))
-  turn d new BeginCommit does = inl (refl, ap (λ (b : Bool). (b, d.ended)) does.0.idle, ap (λ (x : DeskState P). line x) does.2)
+  turn d new BeginCommit does = inl (refl, ap (λ (b : Bool). (b, d.ended)) does.0.idle, ap (λ (x : DeskState P). line x) does.2.1)
   turn d new EndCommit does = inr (inl (refl, ap (λ (b : Bool). (b, d.ended)) does.0, ap (λ (x : DeskState P). line x) does.1))
   turn d new BreakCommit does = inr (inr (left d (commit_broken d) new refl does))
 
@@ -108,7 +108,7 @@ module _ {P : Type 0} where
         by (Release cache) does = ap (λ (x : DeskState P). x.broken) does.1 ∙ broken
         by (Map b cache) does = ap (λ (x : DeskState P). x.broken) does.2 ∙ broken
         by (Unmap b cache) does = ap (λ (x : DeskState P). x.broken) does.3 ∙ broken
-        by BeginCommit does = ap (λ (x : DeskState P). x.broken) does.2 ∙ broken
+        by BeginCommit does = ap (λ (x : DeskState P). x.broken) does.2.1 ∙ broken
         by EndCommit does = ap (λ (x : DeskState P). x.broken) does.1 ∙ broken
         by BreakCommit does = ap (λ (x : DeskState P). x.broken) does
 

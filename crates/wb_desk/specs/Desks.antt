@@ -6,6 +6,7 @@ use Rattle.wb_types.specs.declared.geometry.Geometry.{Geometry}
 use Rattle.wb_types.specs.declared.mode.Mode.{Mode}
 use Rattle.wb_types.specs.declared.mode.Mode.TheVariants.{Passthrough}
 use Rattle.wb_types.specs.declared.number.CBlock.{CBlock}
+use Rattle.wb_tree.specs.Images.{kept_tree}
 use Rattle.wb_tree.specs.Mapping.{Mapping, IsMapping}
 use Rattle.wb_policy.specs.declared.order.Order.{Order}
 use Rattle.wb_policy.specs.declared.order.Order.TheVariants.{Promote, Replace, Demote, Clean}
@@ -127,6 +128,8 @@ pub record IsRight (mapping : Holdings) (c : ℕ) (entry : Option Entry) (block 
 -- What holds of every desk
 pub record DeskInvariant {P : Type 0} (knows : P → Holdings → Type 0) (d : DeskState P) : Type 0 where
   pub mapping : IsMapping d.geometry.cache_blocks d.geometry.origin_blocks d.tree.entries
+  -- the words of the metadata's version say all of the entries
+  pub keeps : kept_tree d.geometry.version d.tree ≡ d.tree
   pub blocks : length d.space.blocks ≡ d.geometry.cache_blocks
   pub slots : length d.orders.slots ≡ d.geometry.cache_blocks
   pub busy : length d.orders.busy ≡ d.geometry.origin_blocks

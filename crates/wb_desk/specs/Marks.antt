@@ -1,6 +1,8 @@
 -- Dirty bits and hints that are stored with the entries, and the images that store them.
-use Rattle.std.specs.Prelude.{◌≡◌, ℕ, Bool, false, List, [], ◌∷◌, Option, Some, None}
+use Rattle.std.specs.Prelude.{◌≡◌, ◌&&◌, ℕ, Bool, false, List, [], ◌∷◌, Option, Some, None, is_some}
 use Rattle.wb_types.specs.declared.entry.Entry.{Entry}
+use Rattle.wb_types.specs.declared.version.Version.{Version}
+use Rattle.wb_types.specs.declared.version.Version.TheVariants.{One, Two}
 use Rattle.wb_tree.specs.Mapping.{Mapping, IsOnPath, IsSound, changed, entry_at, place_of}
 use Rattle.wb_tree.specs.Edits.{IsEdited}
 
@@ -15,6 +17,28 @@ marked_entries hint dirty [] = []
 marked_entries hint [] (e ∷ es) = marked_entry hint false e ∷ marked_entries hint [] es
 marked_entries hint (bit ∷ dirty) (e ∷ es) = marked_entry hint bit e ∷ marked_entries hint dirty es
 
+-- the dirty bits that the words of the tree have: in metadata of the second version none is set
+abbrev pub bits_in_tree : Version → List Bool → List Bool
+bits_in_tree One dirty = dirty
+bits_in_tree Two dirty = []
+
+-- those of cache blocks with an entry
+abbrev pub bits_of_mapped : List Bool → List (Option Entry) → List Bool
+bits_of_mapped dirty [] = []
+bits_of_mapped [] (e ∷ es) = false ∷ bits_of_mapped [] es
+bits_of_mapped (bit ∷ dirty) (e ∷ es) = (bit && is_some e) ∷ bits_of_mapped dirty es
+
+-- the dirty bits that an image has beside the tree: in the second version, where it is clean, those of the mapped blocks
+abbrev pub bits_beside : Version → Option (List Bool) → List (Option Entry) → Option (List Bool)
+bits_beside One clean entries = None
+bits_beside Two None entries = None
+bits_beside Two (Some dirty) entries = Some (bits_of_mapped dirty entries)
+
+-- what an image says of the entries, wherever it has their bits: as they are, or marked
+abbrev pub entries_shown : (ℕ → ℕ) → Option (List Bool) → List (Option Entry) → List (Option Entry)
+entries_shown hint None entries = entries
+entries_shown hint (Some dirty) entries = marked_entries hint dirty entries
+
 -- Below a node no entry differs between the trees.
 abbrev pub AreSameBelow : (old new : Mapping) (level index : ℕ) → Type 0
 AreSameBelow old new level index = (c : ℕ) → IsOnPath c level index → entry_at new c ≡ entry_at old c
@@ -28,10 +52,10 @@ pub record AreMarked (hint : ℕ → ℕ) (dirty : List Bool) (old new : Mapping
   pub sound : IsSound new
 
 -- Something is so of the tree that an image is made of: the tree as it is, or for a clean image, where the dirty bits that were
--- seen are given, the tree marked with them and with hints.
-abbrev pub OfImaged : (ℕ → ℕ) → Option (List Bool) → Mapping → (Mapping → Type 0) → Type 0
-OfImaged hint None old so = so old
-OfImaged hint (Some dirty) old so = (imaged : Mapping) × AreMarked hint dirty old imaged × so imaged
+-- seen are given, the tree marked with hints, and with those bits where its words have them.
+abbrev pub OfImaged : Version → (ℕ → ℕ) → Option (List Bool) → Mapping → (Mapping → Type 0) → Type 0
+OfImaged version hint None old so = so old
+OfImaged version hint (Some dirty) old so = (imaged : Mapping) × AreMarked hint (bits_in_tree version dirty) old imaged × so imaged
 
 -- Marks that no entry differs by leave the nodes that count as changed.
 abbrev pub SameMarksChangeNoNode : Type 0

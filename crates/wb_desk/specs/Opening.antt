@@ -38,7 +38,7 @@ opened geometry generation tree used mode policy threshold mapped = record {
   tree = tree;
   space = record {
     blocks = map opened_block (map is_some tree.entries);
-    places = record { committed = noted used (unused (place_count geometry.cache_blocks)); running = unused (place_count geometry.cache_blocks) };
+    places = record { committed = noted used (unused (place_count geometry)); running = unused (place_count geometry) };
     committing = false;
   };
   orders = no_orders geometry.cache_blocks geometry.origin_blocks;

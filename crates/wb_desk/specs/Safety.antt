@@ -52,7 +52,7 @@ Does d (GiveOrder cache order waits) new = MayReserve d cache order × (new ≡ 
 Does d (Release cache) new = IsTaken (order_at d.orders.slots cache.0) × (new ≡ released d cache)
 Does d (Map b cache) new = MayMap d b cache × (new.tree.entries ≡ slice_set d.tree.entries cache.0 (Some (entry_of b))) × (new ≡ mapped d cache new.tree new.policy)
 Does d (Unmap b cache) new = IsMappedAt (holdings d) b.0 cache.0 × IsRemoved (order_at d.orders.slots cache.0) × (new.tree.entries ≡ slice_set d.tree.entries cache.0 None) × (new ≡ unmapped d cache new.tree new.policy)
-Does d BeginCommit new = MayBegin d × (holdings new ≡ holdings d) × (new ≡ commit_begun d new.tree)
+Does d BeginCommit new = MayBegin d × (holdings new ≡ holdings d) × ((image : Image) × (new ≡ commit_begun d new.tree image))
 Does d EndCommit new = (d.space.committing ≡ true) × (new ≡ commit_ended d)
 Does d BreakCommit new = new ≡ commit_broken d
 

@@ -14,6 +14,7 @@ ghost use Rattle.wb_desk.specs.Opening.{opened, threshold_of, last_value as valu
 ghost use Rattle.wb_desk.specs.Messages.{MessageIsTold, IsRefused};
 ghost use Rattle.wb_desk.specs.Calls.{blocks_reserved, reserved, released, next_order_taken};
 
+mod beside;
 mod commit;
 mod imaging;
 mod mapping;
@@ -163,7 +164,12 @@ impl<P: Policy> Desk<P> {
             ((2 ^ 32 ≤ threshold_of (value_of Key.MigrationThreshold keys.now))
             ⊎ IsBad P.with_setting policy (value_of Key.PromoteMin keys.now)))) }
     {
-        let State { root, tree, used } = state;
+        let State {
+            root,
+            tree,
+            used,
+            ..
+        } = state;
         let geometry = root.geometry;
         let threshold = last_value(keys, Key::MigrationThreshold).unwrap_or(2048);
         if threshold > 4_294_967_295 {

@@ -65,7 +65,7 @@ pub(crate) fn left_places(
     geometry: &Geometry,
     used: &[Place],
 ) -> Result<BitSet, Refusal>
-    ensures left { IfOk result (λ left. HaveLeft (IsPlaceOf tree.now) (noted used.now (unused (place_count geometry.now.cache_blocks))) left) }
+    ensures left { IfOk result (λ left. HaveLeft (IsPlaceOf tree.now) (noted used.now (unused (place_count geometry.now))) left) }
     ensures refused { IfErr result (λ e. e ≡ Refusal.Memory) }
 {
     let known = tree.places(alloc)?;

@@ -55,14 +55,15 @@ after_running [] a b n = omega arith
 after_running (p ∷ ps) a b n = let one = one_fewer (is_free_place (uses a b)) (is_free_place (uses a (set b p.0 true))) p.0 2 n (λ k d. ap (λ (x : Bool). not (get_or a k false) && not x) (sym (get_or-set_other b p.0 k true false d))) in
     omega (arith, one, after_running ps a (set b p.0 true) n)
 
-pub places_suffice : (n : ℕ) (committed running : List Place) → 2 * n ≤ length (free_places (uses (noted committed (unused (2 + 2 * n))) (noted running (unused (2 + 2 * n))))) + length committed + length running
-places_suffice n committed running =
-    let none : List Bool = unused (2 + 2 * n) in
+pub places_suffice : (n m : ℕ) (committed running : List Place) → 2 * n + m ≤
+    length (free_places (uses (noted committed (unused (2 + 2 * n + m))) (noted running (unused (2 + 2 * n + m))))) + length committed + length running
+places_suffice n m committed running =
+    let none : List Bool = unused (2 + 2 * n + m) in
     let a : List Bool = noted committed none in
     let b : List Bool = noted running none in
-    let all : chosen (is_free_place (uses none none)) (range_with_len 2 (2 * n)) ≡ 2 * n = all_count (is_free_place (uses none none)) 2 (2 * n)
-    (λ k. ap (λ (x : Bool). not x && not (get_or none k false)) (get_or-unused (2 + 2 * n) k) ∙ ap (λ (x : Bool). not false && not x) (get_or-unused (2 + 2 * n) k)) in
-    let size : length a - 2 ≡ 2 * n = omega (arith, length-noted_alone committed (2 + 2 * n)) in
-    let counted : length (free_places (uses a b)) ≡ chosen (is_free_place (uses a b)) (range_with_len 2 (2 * n)) =
-    length-chosen (is_free_place (uses a b)) (range_with_len 2 (length a - 2)) ∙ ap (λ (m : ℕ). chosen (is_free_place (uses a b)) (range_with_len 2 m)) size in
-    omega (arith, all, counted, after_committed committed none none (2 * n), after_running running a none (2 * n))
+    let all : chosen (is_free_place (uses none none)) (range_with_len 2 (2 * n + m)) ≡ 2 * n + m = all_count (is_free_place (uses none none)) 2 (2 * n + m)
+    (λ k. ap (λ (x : Bool). not x && not (get_or none k false)) (get_or-unused (2 + 2 * n + m) k) ∙ ap (λ (x : Bool). not false && not x) (get_or-unused (2 + 2 * n + m) k)) in
+    let size : length a - 2 ≡ 2 * n + m = omega (arith, length-noted_alone committed (2 + 2 * n + m)) in
+    let counted : length (free_places (uses a b)) ≡ chosen (is_free_place (uses a b)) (range_with_len 2 (2 * n + m)) =
+    length-chosen (is_free_place (uses a b)) (range_with_len 2 (length a - 2)) ∙ ap (λ (k : ℕ). chosen (is_free_place (uses a b)) (range_with_len 2 k)) size in
+    omega (arith, all, counted, after_committed committed none none (2 * n + m), after_running running a none (2 * n + m))

@@ -1,7 +1,8 @@
 -- Which metadata places the images use.
 use Rattle.std.specs.Prelude.{◌≡◌, ◌+◌, ◌*◌, ◌-◌, ℕ, Option, Some, None, List, [], ◌∷◌, Bool, true, false, not, ◌&&◌, filter, length, get_or, slice_set, replicate}
 use Rattle.std.specs.List.{range_with_len}
-use Rattle.wb_types.specs.Limits.{node_count}
+use Rattle.wb_types.specs.Limits.{node_count, dirty_nodes}
+use Rattle.wb_types.specs.declared.geometry.Geometry.{Geometry}
 use Rattle.wb_types.specs.declared.number.Place.{Place}
 
 -- the places that the committed and the running image use, each list by place
@@ -62,6 +63,6 @@ pub record HaveLeft (Stands : Place → Type 0) (image left : List Bool) : Type 
   pub stands : (place : Place) → Stands place → get_or left place.0 false ≡ false
   pub rest : (at : ℕ) → get_or image at false ≡ true → get_or left at false ≡ false → Stands (place at)
 
--- the places that can ever be handed out: behind the root slots, room for two images of all nodes
-abbrev pub place_count : ℕ → ℕ
-place_count cache_blocks = 2 + 2 * node_count cache_blocks
+-- the places that can ever be handed out: behind the root slots, room for two mappings of all nodes, and for the dirty bits of one image
+abbrev pub place_count : Geometry → ℕ
+place_count g = 2 + 2 * node_count g.cache_blocks + dirty_nodes g.version g.cache_blocks

@@ -223,13 +223,13 @@ impl Places {
     }
 }
 
-/// Of the places for twice `n` nodes behind the root slots two images leave all free but those that they use:
-/// outside a commit, `n` for an image of at most `n` nodes.
+/// Of the places for twice `n` nodes and `m` more behind the root slots two images leave all free but those that they use:
+/// outside a commit, `n` and `m` beside an image of at most `n` nodes.
 pub fn free_places_suffice()
-    ensures { (n : ℕ) (committed running : List Place) → 2 * n ≤
+    ensures { (n m : ℕ) (committed running : List Place) → 2 * n + m ≤
         length (free_places (record {
-          committed = noted committed (unused (2 + 2 * n));
-          running = noted running (unused (2 + 2 * n));
+          committed = noted committed (unused (2 + 2 * n + m));
+          running = noted running (unused (2 + 2 * n + m));
         }))
         + length committed + length running }
 {}

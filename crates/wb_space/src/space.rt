@@ -18,7 +18,7 @@ use wb_types::{CBlock, Geometry, Place, Refusal};
 /// A block whose entry was removed is quarantined until a commit that began after the removal has commit_ended:
 /// till then an image that a crash may bring back can name it. Then it is free, or reserved where a live
 /// replacement keeps it. Of the metadata places only those are kept track of that can ever be handed out: the
-/// two root slots and, behind them, twice the nodes of a full mapping.
+/// two root slots and, behind them, twice the nodes of a full mapping and once those of its dirty bits, where they have some.
 pub struct Space {
     blocks: Blocks,
     places: Places,
@@ -53,8 +53,8 @@ impl Space {
         ensures ok { IfOk result (λ space. space ≡ record {
           blocks = map opened_block mapped.now;
           places = record {
-            committed = noted used.now (unused (place_count geometry.now.cache_blocks));
-            running = unused (place_count geometry.now.cache_blocks);
+            committed = noted used.now (unused (place_count geometry.now));
+            running = unused (place_count geometry.now);
           };
           committing = false;
         }) }
@@ -210,11 +210,12 @@ impl Space {
     }
 }
 
-/// How many metadata places can ever be handed out: the two slots, and twice the nodes of a full mapping.
+/// How many metadata places can ever be handed out: the two slots, twice the nodes of a full mapping and, in the second version, once those
+/// of its dirty bits.
 pub fn place_count(geometry: &Geometry) -> usize
-    ensures count { result ≡ place_count geometry.now.cache_blocks }
+    ensures count { result ≡ place_count geometry.now }
     ensures small { result < 2 ^ 32 }
 {
     let sizes = *geometry;
-    2 + 2 * sizes.node_count() as usize
+    2 + sizes.node_count() as usize + sizes.most_nodes(true) as usize
 }

@@ -1,6 +1,6 @@
 -- What a step on the desk does to it.
 use Rattle.std.specs.Prelude.{◌≡◌, ◌≤◌, ◌==◌, ◌||◌, ℕ, Bool, List, [], ◌∷◌, Option, Some, None, if◌then◌else◌}
-use Rattle.wb_types.specs.Limits.{node_count}
+use Rattle.wb_types.specs.Limits.{most_nodes}
 use Rattle.wb_types.specs.declared.number.OBlock.{OBlock}
 use Rattle.wb_types.specs.declared.number.CBlock.{CBlock}
 use Rattle.wb_types.specs.declared.refusal.Refusal.{Refusal}
@@ -44,9 +44,13 @@ IsGivenUp (Some order) d d' = ((live : IsLive d order) → d' ≡ released d liv
 abbrev pub DidRelease : {P : Type 0} → List Order → OBlock → DeskState P → DeskState P → Type 0
 DidRelease held b d d' = IsGivenUp (order_of b held) d d'
 
--- None began: the desk refused it, where so many nodes are enough for every image, and nothing changed.
-abbrev pub IsUnbegun : {P : Type 0} → DeskState P → ℕ → Refusal → DeskState P → Type 0
-IsUnbegun d most refusal d' = (d' ≡ d) × (node_count d.geometry.cache_blocks ≤ most → IsBeginRefused d refusal)
+-- so many nodes are enough for every image of the desk's metadata, or every clean one
+abbrev pub AreEnough : {P : Type 0} → DeskState P → Bool → ℕ → Type 0
+AreEnough d clean most = most_nodes d.geometry.version clean d.geometry.cache_blocks ≤ most
+
+-- None began: the desk refused it, where so many nodes are enough for every image of a flush, or of a suspend, and nothing changed.
+abbrev pub IsUnbegun : {P : Type 0} → DeskState P → Bool → ℕ → Refusal → DeskState P → Type 0
+IsUnbegun d clean most refusal d' = (d' ≡ d) × (AreEnough d clean most → IsBeginRefused d refusal)
 
 -- the running commit ends, if one runs
 abbrev pub ended : {P : Type 0} → DeskState P → DeskState P

@@ -1,6 +1,5 @@
 -- What one step on the desk does to it and to the commit that runs; which steps are served.
-use Rattle.std.specs.Prelude.{◌≡◌, ◌≤◌, ℕ, Bool, true, false, List, Option, Some, None, length}
-use Rattle.wb_types.specs.Limits.{node_count}
+use Rattle.std.specs.Prelude.{◌≡◌, ℕ, Bool, true, false, List, Option, Some, None, length}
 use Rattle.wb_meta.specs.declared.commit_steps.CommitSteps.TheVariants.{NodesWritten}
 use Rattle.wb_tree.specs.declared.image.Image.{Image}
 use Rattle.wb_policy.specs.declared.order.Order.{Order}
@@ -16,29 +15,29 @@ use Rattle.wb_tasks.specs.declared.step.Got.{Got}
 use Rattle.wb_tasks.specs.declared.step.Got.TheVariants.{Began, Refused, Ticket, Served}
 use Rattle.wb_devices.specs.declared.running.RunningCommit.{RunningCommit}
 use Rattle.wb_devices.specs.Committing.{is_committed}
-use Rattle.wb_stage.specs.Asking.{DidMap, DidUnmap, DidRelease, IsUnbegun, ended}
+use Rattle.wb_stage.specs.Asking.{DidMap, DidUnmap, DidRelease, AreEnough, IsUnbegun, ended}
 use Rattle.wb_stage.specs.Sharing.{ShareIsCovered}
 use Rattle.wb_stage.specs.declared.share.Share.{Share}
 
--- a commit that was begun has done nothing yet, and so much is so of its image
-abbrev pub DidBeginSo : {P : Type 0} → (DeskState P → Image → DeskState P → Type 0) → ℕ → Got → DeskState P → Option RunningCommit → DeskState P → Option RunningCommit → Type 0
-DidBeginSo so most (Began nodes) d commit d' commit' = (begun : RunningCommit) × (commit' ≡ Some begun) × (begun.steps ≡ NodesWritten 0)
+-- a commit, clean or not, that was begun has done nothing yet, and so much is so of its image
+abbrev pub DidBeginSo : {P : Type 0} → Bool → (DeskState P → Image → DeskState P → Type 0) → ℕ → Got → DeskState P → Option RunningCommit → DeskState P → Option RunningCommit → Type 0
+DidBeginSo clean so most (Began nodes) d commit d' commit' = (begun : RunningCommit) × (commit' ≡ Some begun) × (begun.steps ≡ NodesWritten 0)
     × (nodes ≡ length begun.image.nodes.items) × so d begun.image d'
-DidBeginSo so most (Refused refusal) d commit d' commit' = (commit' ≡ commit) × IsUnbegun d most refusal d'
-DidBeginSo so most got d commit d' commit' = ⊥
+DidBeginSo clean so most (Refused refusal) d commit d' commit' = (commit' ≡ commit) × IsUnbegun d clean most refusal d'
+DidBeginSo clean so most got d commit d' commit' = ⊥
 
 -- that of a flush is of the mapping as it is, whatever hints there are
 abbrev pub DidBegin : {P : Type 0} → ℕ → Got → DeskState P → Option RunningCommit → DeskState P → Option RunningCommit → Type 0
-DidBegin {P} most got d commit d' commit' = DidBeginSo (λ old image new. (hint_of : P → ℕ → ℕ) × HasBegun hint_of None old image new) most got d commit d' commit'
+DidBegin {P} most got d commit d' commit' = DidBeginSo false (λ old image new. (hint_of : P → ℕ → ℕ) × HasBegun hint_of None old image new) most got d commit d' commit'
 
 -- that of a suspend is clean, with the dirty bits that were seen, by cache block, and the policy's hints
 abbrev pub DidBeginWith : {P : Type 0} → (P → ℕ → ℕ) → List Bool → ℕ → Got → DeskState P → Option RunningCommit → DeskState P → Option RunningCommit → Type 0
-DidBeginWith hint_of seen most got d commit d' commit' = DidBeginSo (λ old image new. HasBegun hint_of (Some seen) old image new) most got d commit d' commit'
+DidBeginWith hint_of seen most got d commit d' commit' = DidBeginSo true (λ old image new. HasBegun hint_of (Some seen) old image new) most got d commit d' commit'
 
 -- A flush leads a commit, unless one is broken or the desk refuses it, where so many nodes are enough for every image.
 abbrev pub DidLead : {P : Type 0} → ℕ → Got → DeskState P → Option RunningCommit → DeskState P → Option RunningCommit → Type 0
 DidLead most (Began nodes) d commit d' commit' = (d.broken ≡ false) × DidBegin most (Began nodes) d commit d' commit'
-DidLead most (Refused refusal) d commit d' commit' = (commit' ≡ commit) × (d' ≡ d) × (node_count d.geometry.cache_blocks ≤ most → IsLeadRefused d refusal)
+DidLead most (Refused refusal) d commit d' commit' = (commit' ≡ commit) × (d' ≡ d) × (AreEnough d false most → IsLeadRefused d refusal)
 DidLead most got d commit d' commit' = ⊥
 
 -- who arrives while a commit runs gets a ticket
@@ -50,7 +49,7 @@ DidArrive most got d commit d' commit' = DidLead most got d commit d' commit'
 abbrev pub DidAskWith : {P : Type 0} → Share → ℕ → Got → DeskState P → Option RunningCommit → DeskState P → Option RunningCommit → Type 0
 DidAskWith share most Served d commit d' commit' = ShareIsCovered d share × (d' ≡ d) × (commit' ≡ commit)
 DidAskWith share most (Began nodes) d commit d' commit' = (¬ ShareIsCovered d share) × DidLead most (Began nodes) d commit d' commit'
-DidAskWith share most (Refused refusal) d commit d' commit' = (commit' ≡ commit) × (d' ≡ d) × (node_count d.geometry.cache_blocks ≤ most → (¬ ShareIsCovered d share) × IsLeadRefused d refusal)
+DidAskWith share most (Refused refusal) d commit d' commit' = (commit' ≡ commit) × (d' ≡ d) × (AreEnough d false most → (¬ ShareIsCovered d share) × IsLeadRefused d refusal)
 DidAskWith share most got d commit d' commit' = ⊥
 
 -- the commit ends where all of it was done

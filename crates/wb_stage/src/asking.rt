@@ -97,7 +97,7 @@ fn arrive<P: Policy>(
     ensures share { share.new ≡ share_then desk.old share.old (Arrive most) result }
 {
     *share = Share::Nothing;
-    if desk.most_nodes() > most {
+    if desk.most_nodes(false) > most {
         return Got::Refused(Refusal::Memory);
     }
     match desk.arrive(alloc) {
@@ -127,7 +127,7 @@ fn ask_again<P: Policy>(
     let Share::Waiting(ticket) = mem::replace(share, Share::Nothing) else {
         return arrive(alloc, desk, commit, share, most);
     };
-    if desk.most_nodes() > most {
+    if desk.most_nodes(false) > most {
         return Got::Refused(Refusal::Memory);
     }
     match desk.ask(alloc, &ticket) {
@@ -154,9 +154,9 @@ fn lead(commit: &mut Option<RunningCommit>, image: Image) -> Got
     Got::Began(nodes)
 }
 
-/// Begins the commit of a suspend, of at most so many nodes: its root is marked clean, and its entries have the dirty bits that the seals
-/// told, by cache block, and the policy's hints. `Busy`, `GenerationEnd` and `Memory` as the desk says; `Memory` also where an image
-/// may have more nodes. Then nothing changed.
+/// Begins the commit of a suspend, of at most so many nodes: its root is marked clean, and what is read of its image has the dirty bits
+/// that the seals told, by cache block, and the policy's hints. `Busy`, `GenerationEnd` and `Memory` as the desk says; `Memory` also
+/// where a clean image may have more nodes. Then nothing changed.
 pub fn begin_commit<P: Policy>(
     alloc: Global,
     desk: &mut Desk<P>,
@@ -168,7 +168,7 @@ pub fn begin_commit<P: Policy>(
     ensures kind { Fits (AskDesk (BeginCommit most)) result }
     ensures did { DidBeginWith P.hint_of seen.now most result desk.old commit.old desk.new commit.new }
 {
-    if desk.most_nodes() > most {
+    if desk.most_nodes(true) > most {
         return Got::Refused(Refusal::Memory);
     }
     match desk.begin_commit(alloc, Some(seen)) {

@@ -39,7 +39,9 @@ fn state(alloc: Global, generation: u64) -> Result<State<Global>, Refusal>
     Ok(State {
         root: root(geometry, generation),
         tree,
+        dirty: None,
         used: Vec::new(alloc),
+        nodes: 0,
     })
 }
 
@@ -51,7 +53,9 @@ fn empty_state(alloc: Global, geometry: Geometry) -> Result<State<Global>, Refus
     Ok(State {
         root: root(geometry, 0),
         tree: Tree::new(alloc, geometry.cache_blocks),
+        dirty: None,
         used: Vec::new(alloc),
+        nodes: 0,
     })
 }
 
@@ -81,14 +85,15 @@ fn are_answered(
     are_done_by(desk, alloc, calls, Tries::One)
 }
 
-/// A desk over an empty cache of so many blocks of 64 sectors, with a policy of its own.
+/// A desk over an empty cache of so many blocks of 64 sectors, with metadata of this version and a policy of its own.
 fn empty<P: Policy>(
     alloc: Global,
+    version: u32,
     cache_blocks: u64,
     origin_blocks: u64,
     mode: Mode,
 ) -> Result<Desk<P>, Refusal> {
-    let geometry = Geometry::new(64, cache_blocks, origin_blocks, 8)?;
+    let geometry = Geometry::with_version(64, cache_blocks, origin_blocks, 8, version)?;
     let none = vec![in alloc; None; geometry.cache_blocks as usize]?;
     let policy = P::new(alloc, &geometry, none.as_slice())?;
     Desk::new(alloc, empty_state(alloc, geometry)?, mode, policy, &[])
@@ -100,7 +105,8 @@ fn are_answered_by<P: Policy>(
     mode: Mode,
     calls: &[(Call, bool)],
 ) -> Result<bool, Refusal> {
-    are_done_by(empty::<P>(alloc, 4, 10, mode)?, alloc, calls, Tries::One)
+    let desk = empty::<P>(alloc, 1, 4, 10, mode)?;
+    are_done_by(desk, alloc, calls, Tries::One)
 }
 
 /// How often a call is made that is refused for want of memory.
@@ -135,8 +141,8 @@ enum Call {
     /// A commit begins, with these dirty bits where they are given: the image's generation, how many nodes it writes, where
     /// the top of its tree stands, and how many places it uses.
     Image(Option<[bool; 4]>, (u64, usize, Option<Place>)),
-    /// No commit begins, for this reason.
-    Refused(Refusal),
+    /// No commit begins, for this reason, with these dirty bits where they are given.
+    Refused(Option<[bool; 4]>, Refusal),
     /// The running commit ends.
     End,
     /// The generation, and the places in use.
@@ -211,7 +217,7 @@ fn is_done<P: Policy>(desk: &mut Desk<P>, alloc: Global, call: Call) -> Result<b
         Call::Invalidate(begin, end, answer) => invalidates(desk, alloc, begin, end, answer),
         Call::Begin => begins(desk, alloc),
         Call::Image(dirty, image) => commits::has_image(desk, alloc, dirty, image),
-        Call::Refused(refusal) => Ok(commits::is_refused(desk, alloc, refusal)),
+        Call::Refused(dirty, refusal) => Ok(commits::is_refused(desk, alloc, dirty, refusal)),
         Call::End => ends(desk, alloc),
         Call::Commits(generation, used) => {
             let counts = desk.counts();

@@ -111,19 +111,50 @@ pub(super) fn writes_of_one_mark<P: Policy>(
     Ok(image.nodes.len() == nodes)
 }
 
-/// The calls of an empty cache of so many blocks for an origin of two.
+/// The calls of an empty cache of so many blocks for an origin of two, with metadata of this version.
 fn are_answered_of(
     alloc: Global,
+    version: u32,
     cache_blocks: u64,
     calls: &[(Call, bool)],
 ) -> Result<bool, Refusal> {
-    let desk = empty::<Quiet>(alloc, cache_blocks, 2, Mode::Writeback)?;
+    let desk = empty::<Quiet>(alloc, version, cache_blocks, 2, Mode::Writeback)?;
     are_done_by(desk, alloc, calls, Tries::One)
 }
 
 #[test]
 fn one_dirty_bit_writes_the_nodes_above_it(rt: HostRuntime) -> Result<(), Fail> {
-    assert!(rt; are_answered_of(rt.alloc(), 64, &INTO_64)?);
-    assert!(rt; are_answered_of(rt.alloc(), 32, &INTO_32)?);
+    assert!(rt; are_answered_of(rt.alloc(), 1, 64, &INTO_64)?);
+    assert!(rt; are_answered_of(rt.alloc(), 1, 32, &INTO_32)?);
+    Ok(())
+}
+
+/// In the second version the bits of mapped blocks have a node beside the leaf, and the entry stays clean. No clean image follows
+/// before another commit, which the node leaves.
+const BESIDE: [(Call, bool); 13] = [
+    (Call::Reserve(Order::Promote(OBlock(1), CBlock(0))), true),
+    (Call::Map(1, 0), true),
+    (
+        Call::Image(Some([true, true, false, false]), (1, 2, Some(Place(2)))),
+        true,
+    ),
+    (Call::Entry(0, Some((1, false, 0))), true),
+    (Call::End, true),
+    (Call::Commits(1, 4), true),
+    (Call::Refused(Some([false; 4]), Refusal::Memory), true),
+    (Call::Image(None, (2, 0, Some(Place(2)))), true),
+    (Call::End, true),
+    (Call::Commits(2, 3), true),
+    (
+        Call::Image(Some([true, false, false, false]), (3, 1, Some(Place(2)))),
+        true,
+    ),
+    (Call::End, true),
+    (Call::Commits(3, 4), true),
+];
+
+#[test]
+fn a_clean_image_of_the_second_version_has_its_bits_beside(rt: HostRuntime) -> Result<(), Fail> {
+    assert!(rt; are_answered_of(rt.alloc(), 2, 4, &BESIDE)?);
     Ok(())
 }

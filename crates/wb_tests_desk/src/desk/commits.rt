@@ -4,6 +4,7 @@ use super::{Call, are_answered};
 use std::alloc::Global;
 use std::test::Fail;
 use wb_desk::Desk;
+use wb_meta::Image;
 use wb_policy::{Order, Policy};
 use wb_space::Holding;
 use wb_types::{CBlock, Mode, OBlock, Place, Refusal};
@@ -16,21 +17,35 @@ pub(super) fn has_image<P: Policy>(
     dirty: Option<[bool; 4]>,
     wanted: (u64, usize, Option<Place>),
 ) -> Result<bool, Refusal> {
-    if desk.geometry().cache_blocks != 4 {
-        return Ok(false);
-    }
-    let image = match &dirty {
-        Some(bits) => desk.begin_commit(alloc, Some(bits))?,
-        None => desk.begin_commit(alloc, None)?,
-    };
+    let image = begun(desk, alloc, dirty)?;
     let root = image.root;
     let nodes = image.nodes.len();
     Ok(root.clean == dirty.is_some() && (root.generation, nodes, root.top) == wanted)
 }
 
-/// Whether no commit begins, for this reason.
-pub(super) fn is_refused<P: Policy>(desk: &mut Desk<P>, alloc: Global, wanted: Refusal) -> bool {
-    match desk.begin_commit(alloc, None) {
+/// The image of a commit that begins, with these dirty bits where they are given.
+fn begun<P: Policy>(
+    desk: &mut Desk<P>,
+    alloc: Global,
+    dirty: Option<[bool; 4]>,
+) -> Result<Image, Refusal> {
+    if desk.geometry().cache_blocks != 4 {
+        return Err(Refusal::Range);
+    }
+    match &dirty {
+        Some(bits) => desk.begin_commit(alloc, Some(bits)),
+        None => desk.begin_commit(alloc, None),
+    }
+}
+
+/// Whether no commit begins, for this reason, with these dirty bits where they are given.
+pub(super) fn is_refused<P: Policy>(
+    desk: &mut Desk<P>,
+    alloc: Global,
+    dirty: Option<[bool; 4]>,
+    wanted: Refusal,
+) -> bool {
+    match begun(desk, alloc, dirty) {
         Ok(_) => false,
         Err(refusal) => refusal == wanted,
     }
@@ -40,7 +55,7 @@ pub(super) fn is_refused<P: Policy>(desk: &mut Desk<P>, alloc: Global, wanted: R
 /// place, and after both went there is no node.
 const FOLLOWING: [(Call, bool); 19] = [
     (Call::Image(None, (8, 1, Some(Place(2)))), true),
-    (Call::Refused(Refusal::Busy), true),
+    (Call::Refused(None, Refusal::Busy), true),
     (Call::Commits(7, 2), true),
     (Call::End, true),
     (Call::Commits(8, 3), true),
@@ -67,7 +82,7 @@ fn commits_follow_on_each_other(rt: HostRuntime) -> Result<(), Fail> {
 }
 
 const WORN: [(Call, bool); 2] = [
-    (Call::Refused(Refusal::GenerationEnd), true),
+    (Call::Refused(None, Refusal::GenerationEnd), true),
     (Call::Commits(u64::MAX, 2), true),
 ];
 

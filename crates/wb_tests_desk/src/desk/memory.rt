@@ -28,7 +28,7 @@ const CALLS: [(Call, bool); 12] = [
 /// Makes calls of an empty cache, and one that is refused for want of memory once more, of what it left. Whether each comes out as
 /// where none is refused; `Memory` where there is none for the desk.
 fn are_done_at_last(alloc: Global, calls: &[(Call, bool)]) -> Result<bool, Refusal> {
-    let desk = empty::<TinyLfu>(alloc, 4, 10, Mode::Writeback)?;
+    let desk = empty::<TinyLfu>(alloc, 1, 4, 10, Mode::Writeback)?;
     are_done_by(desk, alloc, calls, Tries::Two)
 }
 

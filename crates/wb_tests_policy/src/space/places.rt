@@ -129,6 +129,29 @@ fn places_of_the_largest_cache(rt: HostRuntime) -> Result<(), Fail> {
     Ok(())
 }
 
+/// A cache of so many blocks, with metadata of this version, and how many places can ever be handed out.
+type Sizes = (u64, u32, usize);
+
+// By the nodes of a full mapping, twice, and of its dirty bits: 3 and 1 of 33 blocks, 69 and 3 of 2,049.
+const SIZES: [Sizes; 4] = [(33, 1, 8), (33, 2, 9), (2_049, 1, 140), (2_049, 2, 143)];
+
+/// Whether each cache has so many places.
+fn have_places(sizes: &[Sizes]) -> Result<bool, Refusal> {
+    for (blocks, version, places) in sizes {
+        let geometry = Geometry::with_version(64, *blocks, 1_048_576, 4_294_967_295, *version)?;
+        if place_count(&geometry) != *places {
+            return Ok(false);
+        }
+    }
+    Ok(true)
+}
+
+#[test]
+fn the_second_version_has_places_for_dirty_bits(rt: HostRuntime) -> Result<(), Fail> {
+    assert!(rt; have_places(&SIZES)?);
+    Ok(())
+}
+
 /// Whether so many free places are listed, or want of memory is told, which leaves the places as they were.
 pub(super) fn lists_or_tells(alloc: Global, space: &Space, places: usize) -> bool {
     match count(alloc, space) {
