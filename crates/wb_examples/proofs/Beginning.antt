@@ -11,18 +11,19 @@ use Rattle.wb_format.specs.declared.root.Root.{Root}
 use Rattle.wb_types.specs.declared.version.Version.{Version}
 use Rattle.wb_format.specs.Sizes.{IsTop, MayNameDirty}
 use Rattle.wb_meta.specs.Placing.{HavePlaces}
-use Rattle.wb_meta.proofs.Imaging.{have_places}
+use Rattle.wb_meta.proofs.CleanImaging.{image_places}
 use Rattle.wb_tree.specs.declared.image.Image.{Image}
 use Rattle.wb_tree.specs.declared.placed.PlacedNode.{PlacedNode}
 use Rattle.wb_tree.specs.Mapping.{Mapping, IsSound, place_in, place_of, used_places}
 use Rattle.wb_tree.specs.Images.{AreUsed, ImagePlan, IsImage, levels_of}
 use Rattle.wb_meta.specs.declared.commit_steps.CommitSteps.TheVariants.{NodesWritten}
 use Rattle.wb_desk.specs.Desks.{DeskState}
-use Rattle.wb_desk.specs.Commits.{MayBegin, next_plan}
+use Rattle.wb_desk.specs.Commits.{MayBegin, commit_begun, next_plan}
 use Rattle.wb_devices.specs.declared.running.RunningCommit.{RunningCommit}
 use Rattle.wb_tasks.specs.declared.step.Got.TheVariants.{Began}
 use denote.RawPtr.{null_ptr}
 use Rattle.wb_promise.specs.Happenings.{Commits, DoesBegin}
+use Rattle.wb_runs.proofs.Making.{as_alone}
 use Rattle.wb_desk.proofs.Committing.{has_begun}
 use Rattle.wb_examples.proofs.Bare.{BareDesk, no_entries, nothing_exists, nothing_changed}
 use Rattle.wb_runs.proofs.Metadata.{unknowing}
@@ -76,6 +77,10 @@ module _ (heap : Global) where
     placed = no_node g.meta_sectors (omega (arith, g.within.meta_from));
   }
 
+  -- a desk of which a commit of one root runs
+  abbrev pub bare_begun : {P : Type 0} → DeskState P → DeskState P
+  bare_begun desk = commit_begun desk desk.tree (bare_image (bare_root desk.geometry (desk.generation + 1)))
+
   is_image : (g : Geometry) (m : Mapping) (plan : ImagePlan) → m.entries ≡ no_entries g → IsSound m → plan.geometry ≡ g → plan.clean ≡ false → IsImage m m plan (bare_image (bare_root g plan.generation))
   is_image g m plan e sound same unclean = record {
     same_entries = refl;
@@ -94,6 +99,7 @@ module _ (heap : Global) where
     root_clean = sym unclean;
     root_geometry = sym same;
     root_top = by_top (place_of m (levels_of plan) 0) refl;
+    root_no_bits = refl;
   }
     where
       by_top : (o : Option Place) → place_of m (levels_of plan) 0 ≡ o → None ≡ place_of m (levels_of plan) 0
@@ -112,7 +118,8 @@ module _ (heap : Global) where
       refl,
       (
         (λ policy block. 0),
-        has_begun unknowing (λ (bits : List Bool). bits) desk (λ policy block. 0) None desk.tree (desk.generation + 1) (bare_image (bare_root g (desk.generation + 1))) bare.known.is.kept may refl have_places planned
+        has_begun unknowing (λ (bits : List Bool). bits) desk (λ policy block. 0) None desk.tree (desk.generation + 1) (bare_image (bare_root g (desk.generation + 1))) bare.known.is.kept may refl (λ e. absurd (cc)) image_places
+            (as_alone desk.geometry.version desk.tree.entries desk.tree desk.tree (next_plan desk desk.tree false) (bare_image (bare_root g (desk.generation + 1))) planned)
             bare.known.is.kept.mapping bare.known.is.sound bare.known.is.kept.places.inside,
       ),
       All-nil _,

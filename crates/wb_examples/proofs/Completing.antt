@@ -4,6 +4,7 @@ use Rattle.wb_types.specs.declared.mode.Mode.TheVariants.{Passthrough}
 use Rattle.wb_types.specs.declared.mode.Mode.{Mode}
 use Rattle.std.specs.List.{IsDistinct}
 use Rattle.std.proofs.lemmas.List.{length-replicate}
+use Rattle.wb_types.specs.declared.entry.Entry.{Entry}
 use Rattle.wb_types.specs.declared.geometry.Geometry.{Geometry}
 use Rattle.wb_types.specs.declared.number.Place.{Place}
 use Rattle.wb_disk.specs.Device.{Content as Bytes, History, newest}
@@ -14,11 +15,14 @@ use Rattle.wb_tree.specs.Reading.{Nodes, IsNewestRoot, nothing_found, tree_read,
 use Rattle.wb_tree.specs.Loaded.{IsLoaded}
 use Rattle.wb_meta.specs.Openings.{reopened}
 use Rattle.wb_meta.specs.Slots.{IsInSlot}
+use Rattle.wb_meta.specs.Representing.{alone}
 use Rattle.wb_meta.specs.States.{RepresentsState}
+use Rattle.wb_meta.proofs.ImageFraming.{alone_read}
 use Rattle.wb_meta.specs.Reads.{FitsDevice, ReadingGoesOn}
 use Rattle.wb_meta.specs.declared.read_steps.ReadSteps.TheVariants.{FirstSlotRead, Done as AllRead}
 use Rattle.wb_meta.specs.declared.read_steps.State.{State as Stored}
 use Rattle.wb_meta.specs.declared.commit_steps.CommitSteps.TheVariants.{NodesSynced}
+use Rattle.wb_desk.proofs.Keeping.{empty_keeps}
 use Rattle.wb_devices.specs.declared.running.RunningCommit.{RunningCommit}
 use Rattle.wb_tasks.specs.declared.step.Got.TheVariants.{Done}
 use Rattle.wb_promise.specs.Happenings.{Reaches, DoesRead}
@@ -42,7 +46,13 @@ module _ (A : Type 0) (heap : Global) (g : Geometry) (device : List History) (ba
   root = bare.root
 
   abbrev pub stored : Stored A
-  stored = record { root = root; tree = empty_mapping root.geometry.cache_blocks; used = record { ptr = null_ptr; len = 0; cap = 0; alloc = heap; items = []; ok = (refl, omega arith); small = omega arith } }
+  stored = record {
+    root = root;
+    tree = empty_mapping root.geometry.cache_blocks;
+    dirty = None;
+    used = record { ptr = null_ptr; len = 0; cap = 0; alloc = heap; items = []; ok = (refl, omega arith); small = omega arith };
+    nodes = 0;
+  }
 
   root_size : root.geometry.meta_sectors ≡ length device
   root_size = ap (λ (x : Geometry). x.meta_sectors) bare.geometry_is ∙ sym size
@@ -63,12 +73,19 @@ module _ (A : Type 0) (heap : Global) (g : Geometry) (device : List History) (ba
   newest_root : IsNewestRoot (map newest device) root
   newest_root = (bare.represents (map newest device) (read-left device)).newest
 
-  state_read : (sectors : List Bytes) → IsNewestRoot sectors root → length sectors ≡ length device → RepresentsState sectors root (empty_mapping root.geometry.cache_blocks) []
+  state_read : (sectors : List Bytes) → IsNewestRoot sectors root → length sectors ≡ length device → RepresentsState sectors root (empty_mapping root.geometry.cache_blocks) None []
   state_read sectors n same = record {
-    found = nothing_found root;
-    represents = record { newest = n; nodes = λ place. None; reached = λ place e. absurd (cc); reads = nothing_read (λ place. None) };
+    found = alone (nothing_found root);
+    represents = record {
+      newest = n;
+      nodes = λ place. None;
+      reached = λ place e. absurd (cc);
+      reads = alone_read root (λ place. None) (nothing_found root) bare.no_bits (nothing_read (λ place. None));
+      mapping = nothing_read (λ place. None);
+    };
     size = root_size ∙ sym same;
     entries = refl;
+    mapping_entries = refl;
     used_are = refl;
     loaded = loaded;
     stores = λ level index place h. absurd (cc);
@@ -91,6 +108,7 @@ module _ (A : Type 0) (heap : Global) (g : Geometry) (device : List History) (ba
     known_used = λ place at. absurd (let h = at.known in cc);
     used_are = record { from = tt; to = tt; apart = tt };
     used_few = omega arith;
+    keeps = ap (λ (es : List (Option Entry)). record (empty_mapping root.geometry.cache_blocks) { entries = es }) (empty_keeps root.geometry.version root.geometry.cache_blocks);
   }
 
   abbrev pub next_commit : RunningCommit
@@ -110,7 +128,7 @@ module _ (A : Type 0) (heap : Global) (g : Geometry) (device : List History) (ba
     inl (
       AllRead stored,
       completes alloc global first slot,
-      fits,
+      (fits, omega (arith, root_size, root.geometry.within.meta_from)),
       inl ((refl, (λ r e. let same : root ≡ r = cc in subst (λ (x : Root). x.geometry ≡ g) same bare.geometry_is), record { is_done = tt; root = root; newest = refl; next = next_commit; commit_is = refl; opens = record { root_is = refl; no_nodes = refl }; steps = refl }), λ passes. absurd (caches passes)),
       refl,
       omega (arith, bare.more),

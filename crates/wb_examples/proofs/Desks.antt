@@ -21,12 +21,12 @@ use Rattle.wb_orders.specs.Orders.{cost_of, order_at}
 use Rattle.wb_desk.specs.Desks.{DeskState, MayReserve, IsLive}
 use Rattle.wb_desk.specs.Calls.{reserved, released}
 use Rattle.wb_desk.specs.Entries.{MayMap, MayUnmap, entry_of, mapped, unmapped}
-use Rattle.wb_desk.specs.Commits.{commit_begun}
 use Rattle.wb_desk.specs.Opening.{opened}
 use Rattle.wb_stage.specs.Asking.{DidUnmap, DidRelease, ended}
 use Rattle.wb_promise.specs.States.{Shape, Actor}
 use Rattle.wb_examples.specs.Possible.{first_block, second_block, first_cache_block, replacement}
 use Rattle.wb_tree.proofs.Branching.Edits.{changed-edit as changed}
+use Rattle.wb_examples.proofs.Beginning.{bare_begun}
 use Rattle.wb_examples.proofs.Completing.{empty_sound}
 use Rattle.wb_examples.proofs.Playing.{AreIdle}
 
@@ -164,7 +164,7 @@ module _ (P : Type 0) (more : ℕ) (mode : Mode) (s : Setting P more mode) where
   gives_up = (λ is. ap (λ (c : CBlock). released claimed c) (sym (lives_first k is.cache.0 (live replacement 128 1) is.live is.there)), λ not. absurd (not lives))
 
   abbrev pub settled : DeskState P
-  settled = ended (commit_begun claimed claimed.tree)
+  settled = ended (bare_begun s.global claimed)
 
   abbrev pub followed : DeskState P
   followed = mapped settled first_cache_block (changed_at settled.tree 0 (Some (entry_of second_block))) policy

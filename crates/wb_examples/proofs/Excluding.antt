@@ -27,6 +27,7 @@ use Rattle.wb_promise.specs.declared.event.What.TheVariants.{Started}
 use Rattle.wb_promise.specs.States.{Shape, State, Actor, Target, Phase, Stands, Gone, Opens, OfTarget}
 use Rattle.wb_tasks.specs.declared.step.DeskStep.TheVariants.{Arrive, Ask, BeginCommit}
 use Rattle.wb_promise.specs.Happenings.{Chosen, Plain, Looks, Commits, HasTask, OfSome, WaitsForCommit, Awaits, SuspendStarts, DoesArrive, DoesAsk, DoesBegin, DoesLead}
+use Rattle.wb_runs.proofs.Imaged.{begun_root}
 use Rattle.wb_examples.specs.Possible.{first_block, TargetHas}
 use Rattle.wb_examples.specs.Excluded.{ExcludesWrongAnswers, ExcludesWrongSuspends, ExcludesWrongSharing, IsServedThere, StoresSeen, BeginsCommit, older, newer, foreign, given_reading, with_floor, opening}
 use Rattle.wb_promise.specs.Headline.{IsAllowedAt, IsLatest, ShowsAllowed}
@@ -103,8 +104,7 @@ module _ (P A : Type 0) where
   unmarked : (desk : DeskState P) (entry : Entry) → entry.dirty ≡ false → StoresSeen P A desk entry → ⊥
   unmarked desk entry clean s =
       let with_hints = s.begins.3 in
-      let is = with_hints.1.image_is in
-      let marked = is.2.same_entries ∙ is.1.entries ∙ ap (λ (es : List (Option Entry)). marked_entries (with_hints.0 desk.policy) (true ∷ []) es) s.mapped in
+      let marked = with_hints.1.shown ∙ ap (λ (es : List (Option Entry)). marked_entries (with_hints.0 desk.policy) (true ∷ []) es) s.mapped in
       let same : Some entry ∷ [] ≡ marked_entries (with_hints.0 desk.policy) (true ∷ []) (Some (entry_of first_block) ∷ []) = sym s.stored ∙ marked in
       let dirty : entry.dirty ≡ true = ap (λ (es : List (Option Entry)). first_dirty es) same in
       absurd (let both : true ≡ false = sym dirty ∙ clean in cc)
@@ -115,14 +115,15 @@ module _ (P A : Type 0) where
 
   unclean : (shape : Shape) (w : State P A) (x : Actor) (most : ℕ) (commit : RunningCommit) → commit.image.root.clean ≡ false → BeginsCommit shape w x Suspend (BeginCommit most) commit → ⊥
   unclean shape w x most commit not b =
-      let d = (over_target w.phase (λ desk. DoesBegin {P = P} {A = A} (Some x.seen) most desk (Began b.nodes) (Commits commit b.tree)) b.gives.1).1 in
-      let clean : commit.image.root.clean ≡ true = d.3.1.image_is.2.root_clean in
+      let over = over_target w.phase (λ desk. DoesBegin {P = P} {A = A} (Some x.seen) most desk (Began b.nodes) (Commits commit b.tree)) b.gives.1 in
+      let d = over.1 in
+      let clean : commit.image.root.clean ≡ true = (begun_root d.3.0 (Some x.seen) over.0 b.tree commit.image d.3.1).1 in
       absurd (let both : true ≡ false = sym clean ∙ not in cc)
 
   -- a flush begins none that is clean
   unmarked_root : (most nodes : ℕ) (desk : DeskState P) (commit : RunningCommit) (tree : Mapping) → commit.image.root.clean ≡ true → DoesLead {P = P} {A = A} most desk (Began nodes) (Commits commit tree) → ⊥
   unmarked_root most nodes desk commit tree is d =
-      let unclean : commit.image.root.clean ≡ false = d.1.3.1.image_is.root_clean in
+      let unclean : commit.image.root.clean ≡ false = (begun_root d.1.3.0 None desk tree commit.image d.1.3.1).1 in
       absurd (let both : true ≡ false = sym is ∙ unclean in cc)
 
   clean : (shape : Shape) (w : State P A) (x : Actor) (most : ℕ) (commit : RunningCommit) → commit.image.root.clean ≡ true → BeginsCommit shape w x Flush (Arrive most) commit → ⊥

@@ -1,5 +1,5 @@
 -- The commit of a suspend over a cache of one block, whose copy is dirty or clean: its image has one node, in which the block's entry has that dirty bit.
-use Rattle.std.proofs.Common.{◌≡◌, ◌∙◌, ◌≤◌, ◌<◌, ◌+◌, ◌*◌, ℕ, zero, suc, true, List, [], ◌∷◌, Some, None, refl, sym, ap, subst, arith, length, replicate, take, slice_index, slice_index_or, Bool, false}
+use Rattle.std.proofs.Common.{◌≡◌, ◌∙◌, ◌≤◌, ◌<◌, ◌+◌, ◌*◌, ◌^◌, ℕ, zero, suc, true, List, [], ◌∷◌, Some, None, refl, sym, ap, subst, arith, replicate, take, slice_index, slice_index_or, Bool, false}
 use Rattle.std.proofs.lemmas.List.Elements.{All-cons, All-nil}
 use Rattle.wb_types.specs.Limits.{depth_of, node_count, nodes_up_to}
 use Rattle.wb_types.specs.declared.entry.Entry.{Entry}
@@ -25,6 +25,7 @@ use Rattle.wb_tree.proofs.Images.Planned.{CanPlace, planned-comes, planned-compl
 use Rattle.wb_tree.proofs.Images.PlanWords.{IsLeafWord-zero}
 use Rattle.wb_meta.specs.declared.commit_steps.CommitSteps.TheVariants.{NodesWritten}
 use Rattle.wb_meta.proofs.Imaging.{have_places}
+use Rattle.wb_meta.proofs.CleanImaging.{image_places}
 use Rattle.wb_desk.specs.Desks.{DeskState, DeskInvariant}
 use Rattle.wb_desk.specs.Commits.{MayBegin, next_plan}
 use Rattle.wb_desk.specs.Marks.{AreMarked}
@@ -32,7 +33,7 @@ use Rattle.wb_desk.proofs.Committing.{free_for, has_begun}
 use Rattle.wb_devices.specs.declared.running.RunningCommit.{RunningCommit}
 use Rattle.wb_tasks.specs.declared.step.Got.TheVariants.{Began}
 use denote.RawPtr.{null_ptr}
-use Rattle.wb_promise.specs.Happenings.{Commits, DoesBegin}
+use Rattle.wb_promise.specs.Happenings.{Commits, DoesBegin, IsWholeNode, most_for}
 use Rattle.wb_runs.proofs.Metadata.{unknowing}
 use Rattle.wb_examples.specs.Possible.{first_block}
 use Rattle.wb_examples.proofs.Desks.{Setting, geometry_of, stood, stood_sound}
@@ -95,6 +96,17 @@ leaf_node dirty generation = record {
   dirty_to = λ e. absurd (cc);
   spelled = λ j. (IsWord-everywhere One false 1 (leaf_words dirty) (λ k below. record { any = record { leaf = λ mapping e. leaf_word dirty k; inner = λ o. absurd (o refl) }; leaf = λ mapping e. record { leaf = leaf_word dirty k; no_dirty_bit = λ two. absurd (cc) } }) j).any;
 }
+
+pub leaf_whole : (dirty : Bool) (generation : ℕ) → generation < 2 ^ 64 → IsWholeNode (leaf_node dirty generation)
+leaf_whole dirty generation fits = record { words = refl; each_word = small; index = omega arith; generation = fits }
+  where
+    first_small : (b : Bool) → entry_word (Some (seen_entry b)) < 2 ^ 64
+    first_small true = omega arith
+    first_small false = omega arith
+
+    small : (j : ℕ) → slice_index (leaf_words dirty) j < 2 ^ 64
+    small zero = first_small dirty
+    small (suc j) = let none = zeros_all 31 j in omega (arith, none)
 
 pub one_node : node_count 1 ≡ 1
 unfolding node_count depth_of nodes_up_to
@@ -177,7 +189,7 @@ module _ (P A : Type 0) (t : Tiny P A) where
 
     module _ (kept : DeskInvariant unknowing stood0) where
       pub can : CanPlace (marked_tree dirty) geometry plan.free
-      can = record { size = refl; sound = marks.sound; once = tt; inside = λ place at. absurd (let h = at.known in cc); are = free_for unknowing stood0 kept refl (marked_tree dirty) marks.edited refl }
+      can = record { size = refl; sound = marks.sound; once = tt; inside = λ place at. absurd (let h = at.known in cc); are = free_for unknowing stood0 true kept refl (λ e. omega arith) (marked_tree dirty) marks.edited refl }
 
       written : AreWritten One (stored_tree dirty) plan.generation plan.free nodes
       written = record {
@@ -194,7 +206,7 @@ module _ (P A : Type 0) (t : Tiny P A) where
           subst (λ (m : Mapping). IsImage (marked_tree dirty) m plan image) planned_is (
           image-is (marked_tree dirty) n geometry plan.generation true plan.free image (written_is (marked_tree dirty) geometry plan.generation plan.free nodes can named there) complete.all
           (used-places n 1 (planned-sound (marked_tree dirty) geometry plan.free can) complete.once complete.few) (planned-comes (marked_tree dirty) plan.free nodes named there.places)
-          (planned-more One (marked_tree dirty) plan.generation plan.free nodes named there) refl refl refl (top_is ∙ ap (λ (m : Mapping). place_of m (depth_of 1) 0) (sym planned_is)))
+          (planned-more One (marked_tree dirty) plan.generation plan.free nodes named there) refl refl refl (top_is ∙ ap (λ (m : Mapping). place_of m (depth_of 1) 0) (sym planned_is)) refl)
 
       stored_sound : IsSound (stored_tree dirty)
       stored_sound = subst IsSound planned_is (planned-sound (marked_tree dirty) geometry plan.free can)
@@ -206,15 +218,15 @@ module _ (P A : Type 0) (t : Tiny P A) where
       commit = record { image = image; steps = NodesWritten 0; placed = have_places (marked_tree dirty) (stored_tree dirty) plan image can.are image_is }
 
       -- it begins, once the block was seen dirty
-      pub begins : MayBegin stood0 → DoesBegin {P = P} {A = A} (Some (dirty ∷ [])) (node_count 1) stood0 (Began 1) (Commits commit (stored_tree dirty))
+      pub begins : MayBegin stood0 → DoesBegin {P = P} {A = A} (Some (dirty ∷ [])) (most_for geometry true) stood0 (Began 1) (Commits commit (stored_tree dirty))
       begins may = (
         omega (arith, one_node),
         refl,
         refl,
         (
           (λ policy block. 0),
-          has_begun unknowing (λ (bits : List Bool). bits) stood0 (λ policy block. 0) (Some (dirty ∷ [])) (stored_tree dirty) plan.generation image kept may refl have_places ((marked_tree dirty), marks, image_is)
+          has_begun unknowing (λ (bits : List Bool). bits) stood0 (λ policy block. 0) (Some (dirty ∷ [])) (stored_tree dirty) plan.generation image kept may refl (λ e. omega arith) image_places ((marked_tree dirty), marks, image_is)
               (stored_mapping dirty) stored_sound stored_inside,
         ),
-        All-cons (λ (n : Place × Node). length n.1.words ≡ 32) (leaf_place, leaf_node dirty (s.generation + 1)) [] refl (All-nil _),
+        All-cons (λ (n : Place × Node). IsWholeNode n.1) (leaf_place, leaf_node dirty (s.generation + 1)) [] (leaf_whole dirty (s.generation + 1) may.next) (All-nil _),
       )

@@ -6,7 +6,6 @@ use Rattle.wb_types.specs.declared.geometry.Geometry.{Geometry}
 use Rattle.wb_types.specs.declared.mode.Mode.{Mode}
 use Rattle.wb_types.specs.declared.mode.Mode.TheVariants.{Writeback, Passthrough}
 use Rattle.wb_types.specs.declared.mode.Dev.TheVariants.{Metadata}
-use Rattle.wb_types.specs.Limits.{node_count}
 use Rattle.wb_disk.specs.Device.{History, newest, only, synced}
 use Rattle.wb_words.specs.SharedWords.{Words, fresh_words}
 use Rattle.wb_words.specs.Cards.{blank_card}
@@ -25,7 +24,7 @@ use Rattle.wb_devices.specs.declared.running.RunningCommit.{RunningCommit}
 use Rattle.wb_stage.specs.declared.share.Share.TheVariants.{Nothing as Unshared}
 use Rattle.wb_promise.specs.declared.job.Job.TheVariants.{Open, Flush}
 use Rattle.wb_promise.specs.States.{Shape, State, Actor, Target, Stands, Gone, resting}
-use Rattle.wb_promise.specs.Happenings.{Plain, Begins, Reaches, Puts, Commits, Opened}
+use Rattle.wb_promise.specs.Happenings.{Plain, Begins, Reaches, Puts, Commits, Opened, most_for}
 use Rattle.wb_promise.specs.Effects.{target_over, words_by, card_by, all_resting}
 use Rattle.wb_disk.proofs.Lengths.{length_grown}
 use Rattle.wb_runs.proofs.Readings.{first_read, some_slot}
@@ -199,7 +198,7 @@ module _ (P A : Type 0) (i : Idle P) where
     fits_rooted = length_grown (slice_get (synced m) (slot_of root_commit.image.root).0) (synced m) (slot_of root_commit.image.root).0 _ ∙ fits_synced
 
     pub leading_may : Needs shape at_desk leading
-    leading_may = (refl, (whole, begins_bare global P A shape.geometry desk m bare (node_count shape.geometry.cache_blocks) may))
+    leading_may = (refl, (whole, begins_bare global P A shape.geometry desk m bare (most_for shape.geometry false) may))
 
     pub committing_may : MayGo global shape led (committing [])
     committing_may =

@@ -19,7 +19,6 @@ use Rattle.wb_words.specs.declared.word.Kind.TheVariants.{WriteHit}
 use Rattle.wb_words.specs.declared.step.CellStep.TheVariants.{Finish, Count, Release}
 use Rattle.wb_tree.proofs.Branching.Edits.{changed_at}
 use Rattle.wb_desk.specs.Desks.{DeskState}
-use Rattle.wb_desk.specs.Commits.{commit_begun}
 use Rattle.wb_desk.specs.Entries.{unmapped}
 use Rattle.wb_stage.specs.Asking.{ended}
 use Rattle.wb_desk.specs.Opening.{opened}
@@ -42,7 +41,7 @@ use Rattle.wb_runs.proofs.MetadataRuns.{IsKnown, known_always}
 use Rattle.wb_runs.proofs.Rooted.{rooted}
 use Rattle.wb_examples.specs.Possible.{PassesThrough, StandsIn, StandsCached, IsSealedClean, first_sector, first_block, first_cache_block, to_pass_through, CanPassThrough}
 use Rattle.wb_examples.proofs.Opening.{Down, down, opening, opening_may, Idle, flushing, flushing_may}
-use Rattle.wb_examples.proofs.Beginning.{bare_commit, bare_root}
+use Rattle.wb_examples.proofs.Beginning.{bare_begun, bare_commit, bare_root}
 use Rattle.wb_examples.proofs.Playing.{Move, Gets, Moves, Does, Stops, goes, goes_on, played, resting_idle, ◌⨟◌}
 use Rattle.wb_examples.proofs.Runs.{along, stretched}
 use Rattle.wb_examples.proofs.Desks.{Setting, shape, leaves_from}
@@ -154,7 +153,7 @@ module _ (P A : Type 0) (t : Tiny P A) (metadata cache sectors : List History) (
   flush = goes 1 (flushing P A (idle_there nothing_known))
 
   abbrev desk_then : DeskState P
-  desk_then = ended (commit_begun desk_left desk_left.tree)
+  desk_then = ended (bare_begun t.global desk_left)
 
   abbrev durable : Scene P
   durable = here (synced (rooted (bare_commit t.global shape0.geometry desk_then.generation) (synced metadata))) (synced cache) (only content ∷ synced sectors) (words 0 0 1) desk_then (over Flush (task_job shape0 Passthrough [] Flush [] []))
@@ -182,7 +181,7 @@ module _ (P A : Type 0) (t : Tiny P A) (metadata cache sectors : List History) (
     all_there = ap (λ (n : ℕ). suc n) ((Crashed-crashed_from Origin nothing_lands 1 (synced sectors)).size ∙ length-map sectors (λ (h : History). only (newest h)) ∙ many)
 
     abbrev down_then : Down P A
-    down_then = again P A t.policy t.alloc Writeback s_then desk_then last_root metadata known.images known.known refl refl refl later size nothing_lands cache_left origin_left
+    down_then = again P A t.policy t.alloc Writeback s_then desk_then last_root metadata known.images known.known refl refl refl refl later size nothing_lands cache_left origin_left
 
     behind_flush : PassesThrough shape0 (state durable own) n3 (drop 3 conditions)
     behind_flush = (
@@ -194,8 +193,8 @@ module _ (P A : Type 0) (t : Tiny P A) (metadata cache sectors : List History) (
         goes_on t.global shape0 (down P A down_then) (opening P A down_then) (opening_may P A down_then),
         (
           refl,
-          again_nowhere P A t.policy t.alloc Writeback s_then desk_then last_root metadata known.images known.known refl refl refl later size nothing_lands cache_left origin_left first_block,
-          again_shown P A t.policy t.alloc Writeback s_then desk_then last_root metadata known.images known.known refl refl refl later size nothing_lands cache_left origin_left content all_there refl,
+          again_nowhere P A t.policy t.alloc Writeback s_then desk_then last_root metadata known.images known.known refl refl refl refl later size nothing_lands cache_left origin_left first_block,
+          again_shown P A t.policy t.alloc Writeback s_then desk_then last_root metadata known.images known.known refl refl refl refl later size nothing_lands cache_left origin_left content all_there refl,
         ),
         tt,
       ),

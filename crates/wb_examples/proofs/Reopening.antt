@@ -1,5 +1,5 @@
 -- Power is lost once a root without a tree was made durable, and an opening in write-back shows the origin, since nothing is cached.
-use Rattle.std.proofs.Common.{◌≡◌, ◌∙◌, ◌<◌, ◌≤◌, ◌+◌, ◌%◌, ◌^◌, inl, inr, ℕ, false, List, [], Option, Some, None, sym, ap, subst, arith, length, map, slice_get}
+use Rattle.std.proofs.Common.{◌≡◌, ◌∙◌, ◌<◌, ◌≤◌, ◌+◌, ◌%◌, ◌^◌, inl, inr, ℕ, false, List, [], Option, Some, None, Ok, sym, ap, subst, arith, length, map, slice_get}
 use Rattle.std.specs.Prelude.{option_map}
 use Rattle.std.proofs.lemmas.Option.{slice_get-get_or, slice_get-map}
 use Rattle.std.proofs.lemmas.List.{length-map}
@@ -23,9 +23,10 @@ use Rattle.wb_disk.proofs.Crashes.{Crashed-crashed_from}
 use Rattle.wb_format.specs.declared.root.Root.{Root}
 use Rattle.wb_format.specs.Layout.{SpellsRoot}
 use Rattle.wb_format.proofs.Values.{one_root}
-use Rattle.wb_meta.specs.Representing.{Represents}
+use Rattle.wb_meta.specs.Representing.{Represents, alone}
+use Rattle.wb_meta.proofs.ImageFraming.{alone_read}
 use Rattle.wb_meta.proofs.Histories.{newest-added}
-use Rattle.wb_tree.specs.Reading.{IsNewestRoot, nothing_found, top_read}
+use Rattle.wb_tree.specs.Reading.{IsNewestRoot, nothing_found, top_read, tree_read}
 use Rattle.wb_desk.specs.Desks.{DeskState}
 use Rattle.wb_devices.specs.declared.devices.Devices.{Devices}
 use Rattle.wb_promise.specs.States.{Shape, State}
@@ -57,17 +58,26 @@ root_there m r q some fits same n =
     one_root (spelling r) q r (subst (λ (s : Bytes). SpellsRoot s q) is n.valid.spelled) (spelled_root r fits)
 
 -- metadata that stand quietly by a root without a tree, once a crash has left of them what it will
-pub none_after : (P : Type 0) (g : Geometry) (i : Images) (desk : DeskState P) (m m' : List History) (q : Quiet g i desk m) → q.stored.root.top ≡ None → q.stored.root.generation + 2 < 2 ^ 64 → Crashed m m' → HasNoTree g m'
-none_after P g i desk m m' q top more crash = record {
+pub none_after : (P : Type 0) (g : Geometry) (i : Images) (desk : DeskState P) (m m' : List History) (q : Quiet g i desk m) → q.stored.root.top ≡ None → q.stored.root.top_dirty ≡ None → q.stored.root.generation + 2 < 2 ^ 64 → Crashed m m' → HasNoTree g m'
+none_after P g i desk m m' q top no_bits more crash = record {
   root = q.stored.root;
   geometry_is = q.same;
   top = top;
+  no_bits = no_bits;
   more = more;
-  represents = λ sectors left. subst (λ (ss : List Bytes). Represents ss q.stored.root (nothing_found q.stored.root)) (sym (left-crashed m m' sectors crash left)) (nothing (map newest m') (q.stores.represents (map newest m') (crash-left m m' crash)).newest);
+  represents = λ sectors left. subst (λ (ss : List Bytes). Represents ss q.stored.root (alone (nothing_found q.stored.root))) (sym (left-crashed m m' sectors crash left)) (nothing (map newest m') (q.stores.represents (map newest m') (crash-left m m' crash)).newest);
 }
   where
-    nothing : (sectors : List Bytes) → IsNewestRoot sectors q.stored.root → Represents sectors q.stored.root (nothing_found q.stored.root)
-    nothing sectors n = record { newest = n; nodes = λ place. None; reached = λ place e. absurd (cc); reads = ap (λ t. top_read q.stored.root (λ place. None) t) top }
+    nothing : (sectors : List Bytes) → IsNewestRoot sectors q.stored.root → Represents sectors q.stored.root (alone (nothing_found q.stored.root))
+    nothing sectors n =
+        let read : tree_read q.stored.root (λ place. None) ≡ Ok (nothing_found q.stored.root) = ap (λ t. top_read q.stored.root (λ place. None) t) top in
+        record {
+          newest = n;
+          nodes = λ place. None;
+          reached = λ place e. absurd (cc);
+          reads = alone_read q.stored.root (λ place. None) (nothing_found q.stored.root) no_bits read;
+          mapping = read;
+        }
 
 -- power may be lost so that each sector keeps what is durable, or what is newest
 kept : (base : Base) (device : Dev) (sectors : List History) → Applies device (record { base = base; named = [] }) sectors
@@ -85,7 +95,7 @@ module _ (P A : Type 0) (policy : P) (alloc : A) (mode : Mode) (s : Setting P 0 
   abbrev with_root : List History
   with_root = synced (written (synced metadata) (r.generation % 2) (spelling r))
 
-  module _ (images : Images) (known : AtDesk there.geometry images desk None with_root) (idle : desk.space.committing ≡ false) (top : r.top ≡ None) (same : desk.generation ≡ r.generation) (later : r.generation + 2 < 2 ^ 64) (size : length metadata ≡ s.sizes.meta_sectors)
+  module _ (images : Images) (known : AtDesk there.geometry images desk None with_root) (idle : desk.space.committing ≡ false) (top : r.top ≡ None) (no_bits : r.top_dirty ≡ None) (same : desk.generation ≡ r.generation) (later : r.generation + 2 < 2 ^ 64) (size : length metadata ≡ s.sizes.meta_sectors)
       (choice : Choice) (cache origin : List History) where
     quiet : Quiet there.geometry images desk with_root
     quiet = elim known.stands [ inl q ↦ q | inr broken ↦ absurd (let busy = broken.busy in cc) ]
@@ -97,7 +107,7 @@ module _ (P A : Type 0) (policy : P) (alloc : A) (mode : Mode) (s : Setting P 0 
     crash_of = Crashed-crashed_from Metadata choice 0 with_root
 
     pub none_there : HasNoTree there.geometry (crashed Metadata choice with_root)
-    none_there = none_after P there.geometry images desk with_root (crashed Metadata choice with_root) quiet (ap (λ (x : Root). x.top) root_is ∙ top) (omega (arith, ap (λ (x : Root). x.generation) root_is, later)) crash_of
+    none_there = none_after P there.geometry images desk with_root (crashed Metadata choice with_root) quiet (ap (λ (x : Root). x.top) root_is ∙ top) (ap (λ (x : Root). x.top_dirty) root_is ∙ no_bits) (omega (arith, ap (λ (x : Root). x.generation) root_is, later)) crash_of
 
     pub size_there : length (crashed Metadata choice with_root) ≡ there.geometry.meta_sectors
     size_there = crash_of.size ∙ quiet.stores.size ∙ ap (λ (g : Geometry). g.meta_sectors) quiet.same

@@ -21,12 +21,17 @@ use Rattle.wb_tree.specs.Whole.{found_of, reached_below}
 use Rattle.wb_tree.proofs.Reading.Loaded.{loaded_all}
 use Rattle.wb_meta.specs.Openings.{reopened}
 use Rattle.wb_meta.specs.Reads.{FitsDevice, ReadingGoesOn}
-use Rattle.wb_meta.specs.Representing.{Represents}
+use Rattle.wb_dirty.specs.ImageReading.{bits_behind}
+use Rattle.wb_dirty.specs.ImageLoading.{ImageLoading, image_loading}
+use Rattle.wb_dirty.specs.ImageLoading.PartRead.{OfMapping}
+use Rattle.wb_meta.specs.Representing.{Represents, alone}
 use Rattle.wb_meta.specs.Slots.{IsInSlot}
 use Rattle.wb_meta.specs.declared.commit_steps.CommitSteps.TheVariants.{NodesSynced}
 use Rattle.wb_meta.specs.declared.read_steps.ReadSteps.TheVariants.{FirstSlotRead, RootFound, Done as AllRead}
 use Rattle.wb_meta.specs.declared.read_steps.State.{State as Stored}
-use Rattle.wb_meta.proofs.Storing.{Represents-stored}
+use Rattle.wb_meta.proofs.Storing.{Represents-tree, tree_stored}
+use Rattle.wb_meta.proofs.Telling.{told_none}
+use Rattle.wb_meta.proofs.Versions.{first_keeps}
 use Rattle.wb_devices.specs.declared.running.RunningCommit.{RunningCommit}
 use Rattle.wb_devices.specs.Clean.{AreAllClean, IsLeftClean}
 use Rattle.wb_tasks.specs.declared.step.Got.TheVariants.{Done, More}
@@ -62,7 +67,7 @@ unfolding exists
 has_entry dirty = refl
 
 -- no entry is dirty where that one is not
-all_clean : (dirty : Bool) → dirty ≡ false → AreAllClean (stored_tree dirty)
+all_clean : (dirty : Bool) → dirty ≡ false → AreAllClean (stored_tree dirty).entries
 all_clean dirty e zero l = e
 all_clean dirty e (suc block) l = refl
 
@@ -81,32 +86,42 @@ module _ (P A : Type 0) (t : Tiny P A) (dirty : Bool) (device : List History) (o
   r = root P A t dirty
 
   -- the root is found, and the node is to be read
-  abbrev pub loader : Loading
-  loader = loading_of r [] (nothing_found r).entries (nothing_found r).mapped [] (top_node r)
+  abbrev tree_loader : Loading
+  tree_loader = loading_of r [] (nothing_found r).entries (nothing_found r).mapped [] (top_node r)
+
+  abbrev pub loader : ImageLoading
+  loader = image_loading r (OfMapping tree_loader)
 
   abbrev pub stored : Stored A
-  stored = record { root = r; tree = (stored_tree dirty); used = record { ptr = null_ptr; len = 1; cap = 1; alloc = t.global; items = leaf_place ∷ []; ok = (refl, omega arith); small = omega arith } }
+  stored = record {
+    root = r;
+    tree = stored_tree dirty;
+    dirty = None;
+    used = record { ptr = null_ptr; len = 1; cap = 1; alloc = t.global; items = leaf_place ∷ []; ok = (refl, omega arith); small = omega arith };
+    nodes = 1;
+  }
 
-  loads : (others : Nodes) → outcome loader others ≡ tree_read r others
+  loads : (others : Nodes) → outcome tree_loader others ≡ tree_read r others
   loads others = then_done r others (node_read r others (depth_of 1) 0 leaf_place (nothing_found r))
 
-  finds : (alloc : A) (global : Global) (first : Option Root) → IsInSlot (map newest device) 0 first → ReadingGoesOn {A = A} (FirstSlotRead alloc global first) device (RootFound global r loader)
+  finds : (alloc : A) (global : Global) (first : Option Root) → IsInSlot (map newest device) 0 first → ReadingGoesOn {A = A} (FirstSlotRead alloc global first) device (RootFound global r loader 0)
   finds alloc global first slot = λ sectors agree has. record {
     newest = same_newest (map newest device) sectors first slot has (agree.here 1 refl) r on.newest_root;
     nodes = λ place. None;
     reached = λ place e. absurd (cc);
-    rest = λ others there. loads others;
+    rest = λ others there. ap (λ (reading : ReadOutcome). reading then bits_behind r others r.top_dirty) (loads others);
+    mapping = λ others there. loads others;
   }
 
   pub root_read : (mode : Mode) (left : ℕ) (alloc : A) (global : Global) (first : Option Root) → IsInSlot (map newest device) 0 first → 1 ≤ left →
-      DoesRead {P = P} {A = A} mode (geometry P A t) left (FirstSlotRead alloc global first) device None More (Reaches (Some (RootFound global r loader)) None)
+      DoesRead {P = P} {A = A} mode (geometry P A t) left (FirstSlotRead alloc global first) device None More (Reaches (Some (RootFound global r loader 0)) None)
   unfolding IsDistinct
   root_read mode left alloc global first slot some = (
     λ e. absurd (cc),
     inl (
-      RootFound global r loader,
+      RootFound global r loader 0,
       finds alloc global first slot,
-      (record { size = sym on.size; root_is = refl; used = record { from = tt; to = tt; apart = tt } }, refl),
+      (record { size = sym on.size; root_is = refl; used = record { from = tt; to = tt; apart = tt }; told = told_none r loader loads }, refl, refl),
       inl ((some, refl, (λ known e. let same : r ≡ known = cc in ap (λ (x : Root). x.geometry) (sym same)), refl), λ passes state e. absurd (cc)),
       refl,
       tt,
@@ -119,23 +134,26 @@ module _ (P A : Type 0) (t : Tiny P A) (dirty : Bool) (device : List History) (o
       let s = on.stores level index place known in
       record { sector = s.sector; there = ap (λ (p : Place). slice_get sectors p.0) (sym (stands dirty level index place known)) ∙ same ∙ ap (λ (p : Place). slice_get (map newest device) p.0) (stands dirty level index place known) ∙ s.there; node = s.node; spelled = s.spelled; right = s.right }
 
-  represents : (sectors : List Bytes) → slice_get sectors leaf_place.0 ≡ slice_get (map newest device) leaf_place.0 → IsNewestRoot sectors r → Represents sectors r (found_of r (stored_tree dirty))
-  represents sectors same newest_there = Represents-stored sectors r (stored_tree dirty) (stored_mapping dirty) on.sound on.inside on.none_changed (top_is P A t dirty) newest_there (stores_there sectors same)
+  represents : (sectors : List Bytes) → slice_get sectors leaf_place.0 ≡ slice_get (map newest device) leaf_place.0 → IsNewestRoot sectors r → Represents sectors r (alone (found_of r (stored_tree dirty)))
+  represents sectors same newest_there =
+      Represents-tree sectors r (found_of r (stored_tree dirty)) refl newest_there
+      (tree_stored sectors r (stored_tree dirty) (stored_mapping dirty) on.sound on.inside on.none_changed (top_is P A t dirty) (first_keeps r.version (stored_tree dirty) refl) (stores_there sectors same))
 
   loaded : (nodes : Nodes) → tree_read r nodes ≡ Ok (found_of r (stored_tree dirty)) → IsLoaded r (found_of r (stored_tree dirty)) (stored_tree dirty)
   loaded nodes reads = loaded_all r nodes (found_of r (stored_tree dirty)) (stored_tree dirty) reads refl (sym (reached_is dirty))
       (subst (λ (ns : List PlacedNode). All (λ (n : PlacedNode). exists (stored_tree dirty).entries n.level n.index ≡ true) ns) (sym (reached_is dirty)) (All-cons (λ (n : PlacedNode). exists (stored_tree dirty).entries n.level n.index ≡ true) leaf [] (has_entry dirty) (All-nil _)))
 
-  completes : (global : Global) → ReadingGoesOn {A = A} (RootFound global r loader) device (AllRead stored)
+  completes : (global : Global) → ReadingGoesOn {A = A} (RootFound global r loader 0) device (AllRead stored)
   completes global = λ sectors agree has.
       let is = represents sectors (agree.here leaf_place.0 refl) has.newest in
       record {
-        found = found_of r (stored_tree dirty);
+        found = alone (found_of r (stored_tree dirty));
         represents = is;
         size = sym (agree.size ∙ on.size);
         entries = refl;
+        mapping_entries = refl;
         used_are = sym (ap (λ (ns : List PlacedNode). map (λ (n : PlacedNode). n.place) ns) (reached_is dirty));
-        loaded = loaded is.nodes is.reads;
+        loaded = loaded is.nodes is.mapping;
         stores = stores_there sectors (agree.here leaf_place.0 refl);
       }
 
@@ -149,6 +167,7 @@ module _ (P A : Type 0) (t : Tiny P A) (dirty : Bool) (device : List History) (o
     known_used = λ place at. subst (λ (p : Place). Contains (leaf_place ∷ []) p) (stands dirty at.level at.index place at.known) (Contains-first leaf_place []);
     used_are = record { from = (omega arith, tt); to = (omega (arith, roomy P A t, on.size), tt); apart = (tt, tt) };
     used_few = omega (arith, one_node);
+    keeps = first_keeps r.geometry.version (stored_tree dirty) refl;
   }
 
   abbrev pub next_commit : RunningCommit
@@ -159,13 +178,13 @@ module _ (P A : Type 0) (t : Tiny P A) (dirty : Bool) (device : List History) (o
   }
 
   -- in passthrough only where it was left clean
-  pub all_read : (mode : Mode) → (mode ≡ Passthrough → dirty ≡ false) → (left : ℕ) (global : Global) → DoesRead {P = P} {A = A} mode (geometry P A t) left (RootFound global r loader) device None Done (Reaches (Some (AllRead stored)) (Some next_commit))
+  pub all_read : (mode : Mode) → (mode ≡ Passthrough → dirty ≡ false) → (left : ℕ) (global : Global) → DoesRead {P = P} {A = A} mode (geometry P A t) left (RootFound global r loader 0) device None Done (Reaches (Some (AllRead stored)) (Some next_commit))
   all_read mode clean left global = (
     λ e. absurd (cc),
     inl (
       AllRead stored,
       completes global,
-      fits,
+      (fits, omega (arith, roomy P A t, on.size)),
       inl ((refl, (λ known e. let same : r ≡ known = cc in ap (λ (x : Root). x.geometry) (sym same)), record { is_done = tt; root = r; newest = refl; next = next_commit; commit_is = refl; opens = record { root_is = refl; no_nodes = refl }; steps = refl }), λ passes state e same. let is : stored ≡ state = cc in subst (λ (x : Stored A). IsLeftClean x) is (refl, all_clean dirty (clean passes))),
       refl,
       on.more,

@@ -24,8 +24,6 @@ use Rattle.wb_words.specs.Cards.{blank_card}
 use Rattle.wb_words.specs.declared.card.Card.{Card}
 use Rattle.wb_tree.specs.Mapping.{empty_mapping}
 use Rattle.wb_types.specs.Versions.{version_number}
-use Rattle.wb_disk.proofs.Leaving.{read-left}
-use Rattle.wb_meta.proofs.Versions.{version_of}
 use Rattle.wb_meta.specs.Formats.{IsFormatted}
 use Rattle.wb_policy.specs.declared.order.Order.{Order}
 use Rattle.wb_desk.specs.Desks.{DeskState}
@@ -227,13 +225,9 @@ module _ (P A : Type 0) (more : ℕ) (mode : Mode) (f : Formatted P A more mode)
   pub from_opened : (conditions : List (State P A → Notes → Type 0)) → ((n : Notes) → n ≡ noted shape_at (down P A down_at) (formatted shape_at) opening_run → PassesThrough shape_at opened_at n conditions) → Whole conditions
   from_opened conditions passes = along shape_at (down P A down_at) opened_at (formatted shape_at) opening_run conditions (opened_is P A down_at ∙ opened_there) (goes_on global shape_at (down P A down_at) (opening P A down_at) (opening_may P A down_at)) (passes _ refl)
 
--- what was formatted is of the first version
-none_of_second : (g : Geometry) (metadata : List History) → g.version ≡ Two → ¬ IsFormatted g metadata
-none_of_second g metadata second formatted =
-    let first : formatted.root.version ≡ One = (formatted.represents (map newest metadata) (read-left metadata)).newest.valid.version in
-    let same : One ≡ Two = sym first ∙ version_of formatted.root g formatted.first.geometry_is ∙ second in
-    let numbers : version_number One ≡ version_number Two = ap version_number same in
-    omega (arith, numbers)
+-- the second version is not the first
+not_first : One ≡ Two → ⊥
+not_first same = let numbers : version_number One ≡ version_number Two = ap version_number same in omega (arith, numbers)
 
 -- what is claimed of these sizes
 abbrev Claim : (P A : Type 0) → (Shape → List (State P A → Notes → Type 0)) → (b c o m : ℕ) (v : Version) → IsWithinLimits b c o m → HasRoom v c m → (threshold others : ℕ) → List History → Type 0
@@ -244,18 +238,18 @@ Claim P A conditions b c o m v w r threshold others metadata = let geometry : Ge
 -- a small shape is one of such sizes
 pub small_can : (P A : Type 0) (more asked : ℕ) (mode : Mode) (writes : mode ≢ Passthrough) (conditions : Shape → List (State P A → Notes → Type 0)) → ((f : Formatted P A more mode) → asked ≤ f.sizes.threshold → Whole P A more mode f (conditions (shape_of more f.sizes))) → CanPass P A (IsSmall (suc more) asked) conditions
 small_can P A more asked mode writes conditions passes = can_pass P A (IsSmall (suc more) asked) conditions (λ shape suits. suits.actors) (λ policy alloc global g threshold others metadata suits is_formatted size.
-    by_sizes policy alloc global g.block g.cache_blocks g.origin_blocks g.meta_sectors g.version g.within g.room threshold others metadata suits.block suits.origin suits.room is_formatted size)
+    by_sizes policy alloc global g.block g.cache_blocks g.origin_blocks g.meta_sectors g.version g.within g.room threshold others metadata suits.first suits.block suits.origin suits.room is_formatted size)
   where
-    by_cache : (policy : P) (alloc : A) (global : Global) (c m : ℕ) (v : Version) (w : IsWithinLimits 64 c (suc more) m) (r : HasRoom v c m) (threshold others : ℕ) (metadata : List History) → asked ≤ threshold → Claim P A conditions 64 c (suc more) m v w r threshold others metadata
-    by_cache policy alloc global zero m v w r threshold others metadata room is_formatted size = absurd (omega (arith, w.cache_from))
-    by_cache policy alloc global (suc k) m One w r threshold others metadata room is_formatted size =
+    by_cache : (policy : P) (alloc : A) (global : Global) (c m : ℕ) (v : Version) (w : IsWithinLimits 64 c (suc more) m) (r : HasRoom v c m) (threshold others : ℕ) (metadata : List History) → v ≡ One → asked ≤ threshold → Claim P A conditions 64 c (suc more) m v w r threshold others metadata
+    by_cache policy alloc global zero m v w r threshold others metadata first room is_formatted size = absurd (omega (arith, w.cache_from))
+    by_cache policy alloc global (suc k) m One w r threshold others metadata first room is_formatted size =
         passes (record { writes = writes; policy = policy; alloc = alloc; global = global; sizes = record { k = k; meta_sectors = m; within = w; room = r; threshold = threshold; others = others }; metadata = metadata; is_formatted = is_formatted; size = size }) room
-    by_cache policy alloc global (suc k) m Two w r threshold others metadata room is_formatted size = absurd (none_of_second _ metadata refl is_formatted)
+    by_cache policy alloc global (suc k) m Two w r threshold others metadata first room is_formatted size = absurd (not_first (sym first))
 
-    by_sizes : (policy : P) (alloc : A) (global : Global) (b c o m : ℕ) (v : Version) (w : IsWithinLimits b c o m) (r : HasRoom v c m) (threshold others : ℕ) (metadata : List History) → b ≡ 64 → o ≡ suc more → asked ≤ threshold → Claim P A conditions b c o m v w r threshold others metadata
-    by_sizes policy alloc global b c o m v w r threshold others metadata e f room =
+    by_sizes : (policy : P) (alloc : A) (global : Global) (b c o m : ℕ) (v : Version) (w : IsWithinLimits b c o m) (r : HasRoom v c m) (threshold others : ℕ) (metadata : List History) → v ≡ One → b ≡ 64 → o ≡ suc more → asked ≤ threshold → Claim P A conditions b c o m v w r threshold others metadata
+    by_sizes policy alloc global b c o m v w r threshold others metadata first e f room =
         subst (λ (b : ℕ). (w : IsWithinLimits b c o m) → Claim P A conditions b c o m v w r threshold others metadata) (sym e)
-        (subst (λ (o : ℕ). (w : IsWithinLimits 64 c o m) → Claim P A conditions 64 c o m v w r threshold others metadata) (sym f) (λ w. by_cache policy alloc global c m v w r threshold others metadata room)) w
+        (subst (λ (o : ℕ). (w : IsWithinLimits 64 c o m) → Claim P A conditions 64 c o m v w r threshold others metadata) (sym f) (λ w. by_cache policy alloc global c m v w r threshold others metadata first room)) w
 
 -- ---- a cache of one block
 
@@ -288,15 +282,15 @@ formatted_of t = record {
 -- the smallest shape is one of such sizes
 pub tiny_can : (P A : Type 0) (asked : ℕ) (conditions : Shape → List (State P A → Notes → Type 0)) → ((t : Tiny P A) → asked ≤ t.threshold → Whole P A 0 Writeback (formatted_of t) (conditions (shape_of 0 (formatted_of t).sizes))) → CanPass P A (IsSmallest asked) conditions
 tiny_can P A asked conditions passes = can_pass P A (IsSmallest asked) conditions (λ shape suits. suits.small.actors) (λ policy alloc global g threshold others metadata suits is_formatted size.
-    by_sizes policy alloc global g.block g.cache_blocks g.origin_blocks g.meta_sectors g.version g.within g.room threshold others metadata suits.small.block suits.cache suits.small.origin suits.small.room is_formatted size)
+    by_sizes policy alloc global g.block g.cache_blocks g.origin_blocks g.meta_sectors g.version g.within g.room threshold others metadata suits.small.first suits.small.block suits.cache suits.small.origin suits.small.room is_formatted size)
   where
-    by_version : (policy : P) (alloc : A) (global : Global) (m : ℕ) (v : Version) (w : IsWithinLimits 64 1 1 m) (r : HasRoom v 1 m) (threshold others : ℕ) (metadata : List History) → asked ≤ threshold → Claim P A conditions 64 1 1 m v w r threshold others metadata
-    by_version policy alloc global m One w r threshold others metadata room is_formatted size =
+    by_version : (policy : P) (alloc : A) (global : Global) (m : ℕ) (v : Version) (w : IsWithinLimits 64 1 1 m) (r : HasRoom v 1 m) (threshold others : ℕ) (metadata : List History) → v ≡ One → asked ≤ threshold → Claim P A conditions 64 1 1 m v w r threshold others metadata
+    by_version policy alloc global m One w r threshold others metadata first room is_formatted size =
         passes (record { policy = policy; alloc = alloc; global = global; meta_sectors = m; within = w; room = r; threshold = threshold; others = others; metadata = metadata; is_formatted = is_formatted; size = size }) room
-    by_version policy alloc global m Two w r threshold others metadata room is_formatted size = absurd (none_of_second _ metadata refl is_formatted)
+    by_version policy alloc global m Two w r threshold others metadata first room is_formatted size = absurd (not_first (sym first))
 
-    by_sizes : (policy : P) (alloc : A) (global : Global) (b c o m : ℕ) (v : Version) (w : IsWithinLimits b c o m) (r : HasRoom v c m) (threshold others : ℕ) (metadata : List History) → b ≡ 64 → c ≡ 1 → o ≡ 1 → asked ≤ threshold → Claim P A conditions b c o m v w r threshold others metadata
-    by_sizes policy alloc global b c o m v w r threshold others metadata e h f room =
+    by_sizes : (policy : P) (alloc : A) (global : Global) (b c o m : ℕ) (v : Version) (w : IsWithinLimits b c o m) (r : HasRoom v c m) (threshold others : ℕ) (metadata : List History) → v ≡ One → b ≡ 64 → c ≡ 1 → o ≡ 1 → asked ≤ threshold → Claim P A conditions b c o m v w r threshold others metadata
+    by_sizes policy alloc global b c o m v w r threshold others metadata first e h f room =
         subst (λ (b : ℕ). (w : IsWithinLimits b c o m) (r : HasRoom v c m) → Claim P A conditions b c o m v w r threshold others metadata) (sym e)
         (subst (λ (c : ℕ). (w : IsWithinLimits 64 c o m) (r : HasRoom v c m) → Claim P A conditions 64 c o m v w r threshold others metadata) (sym h)
-        (subst (λ (o : ℕ). (w : IsWithinLimits 64 1 o m) (r : HasRoom v 1 m) → Claim P A conditions 64 1 o m v w r threshold others metadata) (sym f) (λ w r. by_version policy alloc global m v w r threshold others metadata room))) w r
+        (subst (λ (o : ℕ). (w : IsWithinLimits 64 1 o m) (r : HasRoom v 1 m) → Claim P A conditions 64 1 o m v w r threshold others metadata) (sym f) (λ w r. by_version policy alloc global m v w r threshold others metadata first room))) w r

@@ -3,7 +3,6 @@ use Rattle.std.proofs.Common.{◌≡◌, ◌≢◌, ◌≤◌, ◌<◌, ◌+◌,
 use Rattle.std.specs.Prelude.{drop}
 use Rattle.wb_types.specs.declared.mode.Mode.TheVariants.{Writeback}
 use Rattle.wb_types.specs.declared.geometry.Geometry.{Geometry}
-use Rattle.wb_types.specs.Limits.{node_count}
 use Rattle.wb_disk.specs.Device.{History, synced}
 use Rattle.wb_words.specs.SharedWords.{fresh_words}
 use Rattle.wb_words.specs.Cards.{blank_card}
@@ -11,7 +10,7 @@ use Rattle.wb_words.specs.Effects.{card_after}
 use Rattle.wb_words.specs.declared.step.CellStep.TheVariants.{Look}
 use Rattle.wb_words.specs.declared.word.Word.TheVariants.{Fail}
 use Rattle.wb_meta.specs.Formats.{IsFormatted}
-use Rattle.wb_desk.specs.Commits.{MayBegin, commit_begun}
+use Rattle.wb_desk.specs.Commits.{MayBegin}
 use Rattle.wb_tasks.specs.Tables.{Flushing}
 use Rattle.wb_tasks.specs.Plan.{Plan, table, after}
 use Rattle.wb_tasks.specs.declared.step.Want.TheVariants.{Cell, Desk}
@@ -24,7 +23,7 @@ use Rattle.wb_promise.specs.declared.job.Job.TheVariants.{Flush, Suspend}
 use Rattle.wb_promise.specs.declared.event.Event.TheVariants.{Start, Step}
 use Rattle.wb_promise.specs.declared.event.What.TheVariants.{Started, Stepped}
 use Rattle.wb_promise.specs.States.{Shape, State, Actor, OfTarget, resting, start}
-use Rattle.wb_promise.specs.Happenings.{Plain, Happening, OfSome, OnTask, DoesNotApply}
+use Rattle.wb_promise.specs.Happenings.{Plain, Happening, OfSome, OnTask, DoesNotApply, most_for}
 use Rattle.wb_promise.specs.Effects.{after_all, all_resting, IsRun}
 use Rattle.wb_promise.specs.Clerk.{Notes, formatted}
 use Rattle.wb_promise.specs.Headline.{noted}
@@ -32,7 +31,7 @@ use Rattle.wb_examples.specs.Possible.{PassesThrough, IsWaitedBeside, AreDoneTog
 use Rattle.wb_runs.proofs.Rooted.{rooted}
 use Rattle.wb_runs.proofs.MetadataRuns.{IsKnown, known_always}
 use Rattle.wb_examples.proofs.Bare.{BareDesk}
-use Rattle.wb_examples.proofs.Beginning.{bare_commit}
+use Rattle.wb_examples.proofs.Beginning.{bare_begun, bare_commit}
 use Rattle.wb_examples.proofs.Playing.{Move, Gets, Goes, AreIdle, goes, goes_on, happened, has_any, is_idle, there, then, ends, played, resting_idle, MayGo, ◌⨟◌}
 use Rattle.wb_examples.proofs.Opening.{write_back_starts, Down, down, opening, opening_may, opened, opened_is, known, bare, target, Idle, idle, leading, committing, led, leading_may, committing_may}
 use Rattle.wb_examples.proofs.Runs.{along, stretched, can_pass, first_down}
@@ -81,7 +80,7 @@ module _ (P A : Type 0) (i : Idle P) (others : List Actor) where
   open i use {global, shape, desk}
 
   abbrev most : ℕ
-  most = node_count shape.geometry.cache_blocks
+  most = most_for shape.geometry false
 
   -- with this one beside the first
   abbrev beside : Actor → Idle P
@@ -111,7 +110,7 @@ module _ (P A : Type 0) (i : Idle P) (others : List Actor) where
     global = global;
     shape = shape;
     words = i.words;
-    desk = ended (commit_begun desk desk.tree);
+    desk = ended (bare_begun global desk);
     devices = record { metadata = synced (rooted (bare_commit global shape.geometry (desk.generation + 1)) (synced i.devices.metadata)); cache = synced i.devices.cache; origin = synced i.devices.origin };
     actor = record {
       task = None;

@@ -10,7 +10,6 @@ use Rattle.wb_disk.specs.Memory.{blank}
 use Rattle.wb_disk.specs.declared.crash_choice.Base.TheVariants.{Durable}
 use Rattle.wb_disk.proofs.Crashes.{Crashed-crashed_from}
 use Rattle.wb_desk.specs.Desks.{DeskState}
-use Rattle.wb_desk.specs.Commits.{commit_begun}
 use Rattle.wb_stage.specs.Asking.{ended}
 use Rattle.wb_words.specs.SharedWords.{Words}
 use Rattle.wb_tasks.specs.Plan.{Plan}
@@ -24,7 +23,7 @@ use Rattle.wb_examples.specs.Possible.{first_sector, PassesThrough, to_survive, 
 use Rattle.wb_runs.proofs.MetadataRuns.{IsKnown}
 use Rattle.wb_runs.proofs.Rooted.{rooted}
 use Rattle.wb_examples.proofs.Reopening.{may_stop, again, again_shown}
-use Rattle.wb_examples.proofs.Beginning.{bare_root, bare_commit}
+use Rattle.wb_examples.proofs.Beginning.{bare_begun, bare_root, bare_commit}
 use Rattle.wb_examples.proofs.Shown.{origin_shown}
 use Rattle.wb_examples.proofs.Playing.{Move, Gets, Moves, Reads, Fails, Stops, goes, played, ends, MayGo, goes_on, ◌⨟◌}
 use Rattle.wb_examples.proofs.Opening.{write_back_starts, Down, down, opening, opening_may, opened_is, target, bare, Idle, flushing, flushing_may}
@@ -85,7 +84,7 @@ module _ (P A : Type 0) (policy : P) (alloc : A) (s : Setting P 0 Writeback) (me
   was_read = here metadata cache (history ∷ sectors) (words 1 1 1) (desk P 0 Writeback s) (ending (Read first_sector))
 
   abbrev desk_then : DeskState P
-  desk_then = ended (commit_begun (desk P 0 Writeback s) (desk P 0 Writeback s).tree)
+  desk_then = ended (bare_begun global (desk P 0 Writeback s))
 
   abbrev durable : Scene P
   durable = here (synced (rooted (bare_commit global shape0.geometry (s.generation + 1)) (synced metadata))) (synced cache) (only content ∷ synced sectors) (words 1 1 1) desk_then (over Flush (task_job shape0 Writeback [] Flush [] []))
@@ -154,7 +153,7 @@ module _ (P A : Type 0) (policy : P) (alloc : A) (s : Setting P 0 Writeback) (me
     all_there = ap (λ (n : ℕ). suc n) ((Crashed-crashed_from Origin nothing_lands 1 (synced sectors)).size ∙ length-map sectors (λ (h : History). only (newest h)) ∙ many)
 
     abbrev down_then : Down P A
-    down_then = again P A policy alloc Writeback s desk_then (bare_root shape0.geometry (s.generation + 1)) metadata known.images known.known refl refl refl later size nothing_lands (crashed Cache nothing_lands (synced cache)) origin_then
+    down_then = again P A policy alloc Writeback s desk_then (bare_root shape0.geometry (s.generation + 1)) metadata known.images known.known refl refl refl refl later size nothing_lands (crashed Cache nothing_lands (synced cache)) origin_then
 
     last_stretches : PassesThrough shape0 settled n3 (drop 3 conditions)
     last_stretches = (
@@ -165,7 +164,7 @@ module _ (P A : Type 0) (policy : P) (alloc : A) (s : Setting P 0 Writeback) (me
         played global shape0 (lead settled failing) crash,
         goes_on global shape0 (lead settled failing) crash (may_stop Durable _ ⨟ tt),
         refl,
-        (played global shape0 (down P A down_then) (opening P A down_then), goes_on global shape0 (down P A down_then) (opening P A down_then) (opening_may P A down_then), (tt, again_shown P A policy alloc Writeback s desk_then (bare_root shape0.geometry (s.generation + 1)) metadata known.images known.known refl refl refl later size nothing_lands (crashed Cache nothing_lands (synced cache)) origin_then content all_there refl), tt),
+        (played global shape0 (down P A down_then) (opening P A down_then), goes_on global shape0 (down P A down_then) (opening P A down_then) (opening_may P A down_then), (tt, again_shown P A policy alloc Writeback s desk_then (bare_root shape0.geometry (s.generation + 1)) metadata known.images known.known refl refl refl refl later size nothing_lands (crashed Cache nothing_lands (synced cache)) origin_then content all_there refl), tt),
       ),
     )
 

@@ -51,7 +51,7 @@ use Rattle.wb_examples.proofs.Runs.{along}
 use Rattle.wb_examples.proofs.Blocks.{first_written, sync_gives, filled, came, promotes, promoting, promoting_leads}
 use Rattle.wb_examples.proofs.Reopening.{root_there}
 use Rattle.wb_examples.proofs.Surviving.{Others, notes, doing_at, noted_then, others_then}
-use Rattle.wb_examples.proofs.Marking.{seen_entry, image, leaf_place, leaf_node, stored_tree, none_changed, s, stood0, root, commit, begins}
+use Rattle.wb_examples.proofs.Marking.{seen_entry, image, leaf_place, leaf_node, leaf_whole, stored_tree, none_changed, s, stood0, root, commit, begins}
 use Rattle.wb_examples.proofs.Desks.{shape}
 use Rattle.wb_examples.proofs.Rereading.{StandsOn, loader, stored, root_read, next_commit, all_read}
 
@@ -126,7 +126,7 @@ module _ (P A : Type 0) (t : Tiny P A) (content : Bytes) (d0 : Devices (List His
     durable = record { metadata = synced rooted_there; cache = synced (devices_at dirty).cache; origin = synced (devices_at dirty).origin }
 
     abbrev desk_then : DeskState P
-    desk_then = ended (commit_begun (stood0 P A t) (stored_tree dirty))
+    desk_then = ended (commit_begun (stood0 P A t) (stored_tree dirty) (image P A t dirty))
 
     abbrev pub suspended : ℕ → Scene P
     suspended fail = here durable (words_at dirty fail) desk_then (over Suspend (task_job shape0 Writeback [] Suspend [] (first_block ∷ [])))
@@ -160,7 +160,7 @@ module _ (P A : Type 0) (t : Tiny P A) (content : Bytes) (d0 : Devices (List His
       puts_node : DoesPut {P = P} {A = A} (Some c) (WriteNode 0) d0.metadata (Puts noded)
       puts_node = (
         comes_next c d0.metadata (NodesWritten 0) (WriteNode 0) metadata_size refl refl,
-        record { content = node_spelling (leaf_node dirty ((s P A t).generation + 1)); spelled = spelled_node (leaf_node dirty ((s P A t).generation + 1)) (record { mapping = refl; words = refl; generation = may_begin.next; index = omega arith }); wrote = refl },
+        record { content = node_spelling (leaf_node dirty ((s P A t).generation + 1)); spelled = spelled_node (leaf_node dirty ((s P A t).generation + 1)) (leaf_whole dirty ((s P A t).generation + 1) may_begin.next); wrote = refl },
       )
 
       syncs_node : leads_on (length noded) (image P A t dirty) (NodesWritten 1) (Sync Metadata) ≡ true
@@ -225,7 +225,7 @@ module _ (P A : Type 0) (t : Tiny P A) (content : Bytes) (d0 : Devices (List His
       opening =
           Does Done (Begins (Begun t.alloc t.global))
           ∷ goes 2 (Does More (Reaches (Some (FirstSlotRead t.alloc t.global slot.0)) None)
-          ∷ Does More (Reaches (Some (RootFound t.global (root P A t dirty) (loader P A t dirty read on))) None)
+          ∷ Does More (Reaches (Some (RootFound t.global (root P A t dirty) (loader P A t dirty read on) 0)) None)
           ∷ Does Done (Reaches (Some (AllRead (stored P A t dirty read on))) (Some next))
           ∷ Does Done (Puts (rooted next read))
           ∷ Does Done Plain

@@ -22,7 +22,9 @@ use Rattle.wb_stage.specs.Sharing.{MustWait}
 use Rattle.wb_stage.specs.declared.share.Share.{Share}
 use Rattle.wb_stage.specs.declared.share.Share.TheVariants.{Nothing, Waiting}
 use Rattle.wb_devices.specs.declared.running.RunningCommit.{RunningCommit}
+use Rattle.wb_dirty.specs.ImageReading.{with_bits}
 use Rattle.wb_desk.specs.Desks.{DeskState}
+use Rattle.wb_desk.specs.Commits.{beside}
 use Rattle.wb_desk.specs.Entries.{entry_of}
 use Rattle.wb_tree.specs.Mapping.{Mapping}
 use Rattle.wb_promise.specs.declared.job.Job.{Job}
@@ -115,12 +117,12 @@ pub record ExcludesWrongAnswers (P A : Type 0) : Type 0 where
   -- whoever has a task is not skipped, but a flush that waits
   pub skipped : (w : State P A) (a : ℕ) → HasTask w a → ¬ WaitsForCommit w a → ¬ SkipsRightly w (Step a) Skipped
 
--- A commit that stores the first block's entry so, over a desk that maps this block alone, once a suspend has seen its copy dirty.
+-- A commit of whose image the first block's entry is read so, over a desk that maps this block alone, once a suspend has seen its copy dirty.
 pub record StoresSeen (P A : Type 0) (desk : DeskState P) (entry : Entry) : Type 0 where
   pub mapped : desk.tree.entries ≡ Some (entry_of first_block) ∷ []
   pub commit : RunningCommit
   pub tree : Mapping
-  pub stored : tree.entries ≡ Some entry ∷ []
+  pub stored : with_bits (beside desk (Some (true ∷ []))) tree.entries ≡ Some entry ∷ []
   pub most : ℕ
   pub nodes : ℕ
   pub begins : DoesBegin {P = P} {A = A} (Some (true ∷ [])) most desk (Began nodes) (Commits commit tree)

@@ -6,6 +6,7 @@ use Rattle.wb_types.specs.declared.mode.Mode.{Mode}
 use Rattle.wb_types.specs.declared.mode.Mode.TheVariants.{Writeback, Writethrough, Passthrough}
 use Rattle.wb_types.specs.declared.mode.Dev.TheVariants.{Cache, Origin}
 use Rattle.wb_types.specs.declared.refusal.Refusal.TheVariants.{Memory}
+use Rattle.wb_types.specs.declared.version.Version.TheVariants.{One}
 use Rattle.wb_types.specs.declared.number.OBlock.{OBlock}
 use Rattle.wb_types.specs.declared.number.CBlock.{CBlock}
 use Rattle.wb_words.specs.SharedWords.{word_at, seal_word}
@@ -58,9 +59,11 @@ CanPass P A Suits conditions = (policy : P) (reading : ReadSteps A) → sectors_
 abbrev pub HasActors : Shape → Type 0
 HasActors shape = 1 ≤ shape.actors
 
--- Somebody is there; the origin has so many blocks, of the fewest sectors that a block may have; and orders may ask for so many sectors at once.
+-- Somebody is there; metadata are of the first version; the origin has so many blocks, of the fewest sectors that a block may have; and orders may
+-- ask for so many sectors at once.
 pub record IsSmall (blocks asked : ℕ) (shape : Shape) : Type 0 where
   pub actors : 1 ≤ shape.actors
+  pub first : shape.geometry.version ≡ One
   pub block : shape.geometry.block ≡ 64
   pub origin : shape.geometry.origin_blocks ≡ blocks
   pub room : asked ≤ shape.threshold

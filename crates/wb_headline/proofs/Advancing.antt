@@ -89,7 +89,7 @@ use Rattle.wb_promise.specs.Happenings.{Chosen, Plain, Puts, DoesPut, DoesSync, 
 use Rattle.wb_promise.specs.Headline.{shown}
 use Rattle.wb_types.proofs.Truth.{and_true}
 use Rattle.wb_runs.proofs.Stepping.{data_device}
-use Rattle.wb_headline.proofs.Underway.{failed_read, IsStill, written_before, failed_written, written_there, runs_there, still, not_noted, finished_durable, marks, begun_places, begun_takes, some_is}
+use Rattle.wb_headline.proofs.Underway.{failed_read, IsStill, written_before, failed_written, written_there, runs_there, still, not_noted, finished_durable, marks, begun_places, shown_places, begun_takes, some_is}
 
 module _ (P A : Type 0) (shape : Shape) (images : Images) (t : Target P) (commit : Option RunningCommit) (devices : Devices (List History)) (actors : List Actor) (n : Notes) (known : MetadataKept {P = P} {A = A} shape.geometry images (Stands t) commit devices.metadata)
     (f : Followed P A shape images (standing P A shape images t commit devices actors n) n) (rule : LockRule shape.geometry.origin_blocks t.words (cards_of actors)) (a : ℕ) (x : Actor) (ex : slice_get actors a ≡ Some x) (clean : Bool) (plan : Plan) (xt : x.task ≡ Some (flush_or_suspend clean, plan))
@@ -103,7 +103,7 @@ module _ (P A : Type 0) (shape : Shape) (images : Images) (t : Target P) (commit
   wants {next} e = record { here = ex; task = xt; asks = sym e; agrees = f.phase.agrees }
 
   -- its task
-  pub its_task : (blocks : List OBlock) × (plan.job ≡ commit_task clean blocks (most P A shape))
+  pub its_task : (blocks : List OBlock) × (plan.job ≡ commit_task clean blocks (most P A shape clean))
   its_task =
       let b = beside P A shape images t commit devices actors n known f a x ex in
       let r = doing_as clean (size P A shape) (most P A shape) _ plan x.card x.share b.0 (doing_of (size P A shape) (most P A shape) t.words x b.0 (flush_or_suspend clean) plan (f.phase.agrees.each a x b.0 ex b.1) xt) in
@@ -204,7 +204,7 @@ module _ (P A : Type 0) (shape : Shape) (images : Images) (t : Target P) (commit
         let so = parts step coming s' g.desk g.turned in
         let u = led_on shape.geometry images c l.of devices.metadata new l.under does in
         let same : u.now.committed ≡ images.committed = ap (λ (i : Images). i.committed) u.kept.are ∙ committed_now in
-        let known' : AtDesk shape.geometry u.now t.desk (Some c') new = record { is = k.is; stands = record { of = l.of; under = u.kept; edited = l.edited; entries = l.entries; places = l.places; generation = l.generation; busy = l.busy } } in
+        let known' : AtDesk shape.geometry u.now t.desk (Some c') new = record { is = k.is; stands = record { of = l.of; under = u.kept; edited = l.edited; places = l.places; generation = l.generation; busy = l.busy } } in
         let readable = kept_readable shape.geometry u.now new P A (Stands t) (Some c') known' in
         let runs_now = f.phase.running l.of.new running_now in
         let there : s'.running ≡ locations l.of.new = so.3 ∙ runs_now.0 in
@@ -271,14 +271,14 @@ module _ (P A : Type 0) (shape : Shape) (images : Images) (t : Target P) (commit
   no_begin refusal r = absurd r
 
   -- a commit begins, of the desk's mapping
-  pub begins : (step : DeskStep) (nodes : ℕ) (c : RunningCommit) (tree : Mapping) (y : Actor) → actor_then {P = P} {A = A} shape (Stands t) devices x (Desk step) (Began nodes) ≡ y → c.steps ≡ NodesWritten 0 → (hint_of : P → ℕ → ℕ) → HasBegun hint_of (marks clean x.seen) t.desk c.image (commit_begun t.desk tree) →
+  pub begins : (step : DeskStep) (nodes : ℕ) (c : RunningCommit) (tree : Mapping) (y : Actor) → actor_then {P = P} {A = A} shape (Stands t) devices x (Desk step) (Began nodes) ≡ y → c.steps ≡ NodesWritten 0 → (hint_of : P → ℕ → ℕ) → HasBegun hint_of (marks clean x.seen) t.desk c.image (commit_begun t.desk tree c.image) →
       (clean ≡ true → AllSeen t.words t.desk.tree.entries x.seen × ((block : OBlock) → number_of (place_in (word_at t.words.seals block)) ≡ place_of t.desk.tree.entries block.0)) →
       WorldFollowsBy (Begins clean) Quietly a f.site.world (record now { commits = one_begun now.commits }) y →
-      Goes P A shape (then_is (record { words = t.words; desk = commit_begun t.desk tree }) (Some c) devices (Desk step) (Began nodes)) n
+      Goes P A shape (then_is (record { words = t.words; desk = commit_begun t.desk tree c.image }) (Some c) devices (Desk step) (Began nodes)) n
   begins step nodes c tree y is_then steps hint_of begun all g = by_commit commit refl known
     where
       To : Type 0
-      To = Goes P A shape (then_is (record { words = t.words; desk = commit_begun t.desk tree }) (Some c) devices (Desk step) (Began nodes)) n
+      To = Goes P A shape (then_is (record { words = t.words; desk = commit_begun t.desk tree c.image }) (Some c) devices (Desk step) (Began nodes)) n
 
       idle : t.desk.space.committing ≡ false
       idle = begun.may.idle
@@ -287,7 +287,7 @@ module _ (P A : Type 0) (shape : Shape) (images : Images) (t : Target P) (commit
       quiet q k =
           let b = begins_over P shape.geometry images t.desk devices.metadata hint_of (marks clean x.seen) c tree k.is q steps begun in
           let s' = (abstract_after_all f.site.world g.records).shared in
-          let t' : Target P = record { words = t.words; desk = commit_begun t.desk tree } in
+          let t' : Target P = record { words = t.words; desk = commit_begun t.desk tree c.image } in
           let l = b.kept.0.stands in
           let one : later_of images ≡ None = ap later_of q.are in
           let agree : ImagesAgree shape.geometry images.committed None devices.metadata s = subst (λ (o : Option Stored). ImagesAgree shape.geometry images.committed o devices.metadata s) one f.phase.images_agree in
@@ -295,8 +295,8 @@ module _ (P A : Type 0) (shape : Shape) (images : Images) (t : Target P) (commit
           let same : b.now.committed ≡ images.committed = same_one b.turn images b.now (ap (λ (i : Images). i.running) q.are) b.turned in
           let later : later_of b.now ≡ None = ap later_of l.under.are ∙ ap (λ (v : CommitSteps). if is_written v then Some l.of.new else None) steps in
           subst (λ (v : Actor). Goes P A shape (record { devices = devices; commit = Some c; phase = Stands t'; actors = slice_set actors a v }) n) (sym is_then)
-          (leads_on P A shape images t commit devices actors n known f a x ex (Begins clean) Quietly t' (Some c) devices y n b.now (live_orders t'.desk) g (quiet_notes g) refl refl b.kept.0 refl (desk_begins P t.desk s s' f.phase.desk tree (begun_places clean x.seen hint_of t.desk c.image tree begun) g.desk.0 g.desk.1) (subst (λ (o : Option Stored). ImagesAgree shape.geometry b.now.committed o devices.metadata s') (sym later) (subst (λ (v : Stored). ImagesAgree shape.geometry v None devices.metadata s') (sym same) begun_there.0)) (λ state e. let is = some_is b.kept.1.0 state (sym b.kept.1.1 ∙ e) in (
-            begun_there.1 ∙ f.phase.desk.mapping ∙ sym (begun_places clean x.seen hint_of t.desk c.image tree begun) ∙ ap (λ es. Rattle.wb_simulation.specs.Opened.located es) (sym b.kept.1.2) ∙ ap locations is,
+          (leads_on P A shape images t commit devices actors n known f a x ex (Begins clean) Quietly t' (Some c) devices y n b.now (live_orders t'.desk) g (quiet_notes g) refl refl b.kept.0 refl (desk_begins P t.desk s s' f.phase.desk tree c.image (begun_places clean x.seen hint_of t.desk c.image tree begun) g.desk.0 g.desk.1) (subst (λ (o : Option Stored). ImagesAgree shape.geometry b.now.committed o devices.metadata s') (sym later) (subst (λ (v : Stored). ImagesAgree shape.geometry v None devices.metadata s') (sym same) begun_there.0)) (λ state e. let is = some_is b.kept.1.0 state (sym b.kept.1.1 ∙ e) in (
+            begun_there.1 ∙ f.phase.desk.mapping ∙ sym (shown_places clean x.seen (hint_of t.desk.policy) t.desk.tree.entries) ∙ ap (λ es. Rattle.wb_simulation.specs.Opened.located es) (sym b.kept.1.2) ∙ ap locations is,
             subst (StateTakesClean state) (sym g.turned.4) (begun_takes clean x.seen hint_of t.desk c.image tree t.words s state begun f.phase.agrees.words_agree all
                 (ap (λ (v : Stored). v.root.clean) (sym (some_is l.of.new state (sym (ap (λ (i : Images). i.running) l.under.are) ∙ e))) ∙ ap (λ (r : Root). r.clean) l.under.can.root_is ∙ ap (λ (i : Image). i.root.clean) l.under.image)
                 (ap (λ (v : Stored). v.found.entries) (sym is) ∙ b.kept.1.2)),
@@ -460,8 +460,8 @@ module _ (P A : Type 0) (shape : Shape) (images : Images) (t : Target P) (commit
     Failed_by choice next read chosen = Goes P A shape (stepped shape w a x next Fault chosen (λ step. device_failed (lands (device_of step) choice) (flush_or_suspend clean) x.buffer step chosen))
         (noted_step shape t.desk.mode (shown shape (stepped shape w a x next Fault chosen (λ step. device_failed (lands (device_of step) choice) (flush_or_suspend clean) x.buffer step chosen))) n a (Some (Some doing)) next Fault read)
 
-    pub mine : (next : Want) → next ≡ want plan → IsOwnStep (commit_task clean its_task.0 (most P A shape)) next
-    mine next e = subst (λ (v : Want). IsOwnStep (commit_task clean its_task.0 (most P A shape)) v) (sym e) (subst (λ (q : TaskJob). IsOwnStep q (want plan)) its_task.1 (is_own_step shape.geometry.origin_blocks plan x.card suits))
+    pub mine : (next : Want) → next ≡ want plan → IsOwnStep (commit_task clean its_task.0 (most P A shape clean)) next
+    mine next e = subst (λ (v : Want). IsOwnStep (commit_task clean its_task.0 (most P A shape clean)) v) (sym e) (subst (λ (q : TaskJob). IsOwnStep q (want plan)) its_task.1 (is_own_step shape.geometry.origin_blocks plan x.card suits))
 
     -- a step of the commit, done or failing
     module _ (step : DeviceStep) (of_metadata : device_of step ≡ Metadata) (next : Device step ≡ want plan) (read : List Bytes) where

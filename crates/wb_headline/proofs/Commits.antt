@@ -147,22 +147,22 @@ module _ (P A : Type 0) (shape : Shape) (images : Images) (t : Target P) (commit
   has_seen xt allowed next =
       let first = begins_by plan (Desk (BeginCommit allowed)) (sym next) (λ v q. absurd (cc)) in
       let b = beside P A shape images t commit devices actors n known f a x ex in
-      let r : IsCommitAt (size P A shape) (most P A shape) _ true plan x.share b.0 = doing_of (size P A shape) (most P A shape) t.words x b.0 Suspend plan (f.phase.agrees.each a x b.0 ex b.1) xt in
-      let none = (subst (λ (ws : List Want). IsOfCommit true (most P A shape) ws) first.1 r.steps).2 in (
+      let r : IsCommitAt (size P A shape) (most P A shape true) _ true plan x.share b.0 = doing_of (size P A shape) (most P A shape) t.words x b.0 Suspend plan (f.phase.agrees.each a x b.0 ex b.1) xt in
+      let none = (subst (λ (ws : List Want). IsOfCommit true (most P A shape true) ws) first.1 r.steps).2 in (
         saw_all t.words t.desk.tree.entries x.seen allowed first.0 none (subst (λ (ws : List Want). Saw t.words t.desk.tree.entries x.seen ws) first.1 (saw_now P A shape images t commit devices actors n known f rule all_suited k a x ex Suspend plan xt refl)),
         all_told P A shape images t commit devices actors n known f rule all_suited k a x ex Suspend plan xt refl (Desk (BeginCommit allowed)) next (λ b p d q. absurd (cc)),
       )
 
   -- a suspend begins its commit
-  suspends_by : (xt : x.task ≡ Some (Suspend, plan)) → doing.job ≡ Suspend → (allowed nodes : ℕ) (c : RunningCommit) (tree : Mapping) → Desk (BeginCommit allowed) ≡ want plan → c.steps ≡ NodesWritten 0 → (hint_of : P → ℕ → ℕ) → HasBegun hint_of (Some x.seen) t.desk c.image (commit_begun t.desk tree) →
-      Goes P A shape (record { devices = devices; commit = Some c; phase = Stands (record { words = t.words; desk = commit_begun t.desk tree }); actors = slice_set actors a (actor_then {P = P} {A = A} shape (Stands t) devices x (Desk (BeginCommit allowed)) (Began nodes)) }) n
+  suspends_by : (xt : x.task ≡ Some (Suspend, plan)) → doing.job ≡ Suspend → (allowed nodes : ℕ) (c : RunningCommit) (tree : Mapping) → Desk (BeginCommit allowed) ≡ want plan → c.steps ≡ NodesWritten 0 → (hint_of : P → ℕ → ℕ) → HasBegun hint_of (Some x.seen) t.desk c.image (commit_begun t.desk tree c.image) →
+      Goes P A shape (record { devices = devices; commit = Some c; phase = Stands (record { words = t.words; desk = commit_begun t.desk tree c.image }); actors = slice_set actors a (actor_then {P = P} {A = A} shape (Stands t) devices x (Desk (BeginCommit allowed)) (Began nodes)) }) n
   suspends_by xt job_is allowed nodes c tree e steps hint_of begun =
       begins P A shape images t commit devices actors n known f rule a x ex true plan xt doing noted job_is (BeginCommit allowed) nodes c tree _ (goes_still P A shape images t commit devices actors n known f rule a x ex true plan xt doing noted job_is (Desk (BeginCommit allowed)) (Began nodes) tt) steps hint_of begun (λ q. has_seen xt allowed e)
       (commit_steps_followed.begins (situation shape t devices actors) nodes allowed a x plan f.site.world (record { here = ex; task = xt; asks = sym e; agrees = f.phase.agrees }) begun.may.idle)
 
   -- a flush leads one
-  leads_by : (xt : x.task ≡ Some (Flush, plan)) → doing.job ≡ Flush → (step : DeskStep) (nodes : ℕ) (c : RunningCommit) (tree : Mapping) (asks : AsksToLead step) → Desk step ≡ want plan → t.desk.broken ≡ false → c.steps ≡ NodesWritten 0 → (hint_of : P → ℕ → ℕ) → HasBegun hint_of None t.desk c.image (commit_begun t.desk tree) → IsLeftOut (commits_of t.desk) (ticket_in (Desk step) x.share) →
-      Goes P A shape (record { devices = devices; commit = Some c; phase = Stands (record { words = t.words; desk = commit_begun t.desk tree }); actors = slice_set actors a (actor_then {P = P} {A = A} shape (Stands t) devices x (Desk step) (Began nodes)) }) n
+  leads_by : (xt : x.task ≡ Some (Flush, plan)) → doing.job ≡ Flush → (step : DeskStep) (nodes : ℕ) (c : RunningCommit) (tree : Mapping) (asks : AsksToLead step) → Desk step ≡ want plan → t.desk.broken ≡ false → c.steps ≡ NodesWritten 0 → (hint_of : P → ℕ → ℕ) → HasBegun hint_of None t.desk c.image (commit_begun t.desk tree c.image) → IsLeftOut (commits_of t.desk) (ticket_in (Desk step) x.share) →
+      Goes P A shape (record { devices = devices; commit = Some c; phase = Stands (record { words = t.words; desk = commit_begun t.desk tree c.image }); actors = slice_set actors a (actor_then {P = P} {A = A} shape (Stands t) devices x (Desk step) (Began nodes)) }) n
   leads_by xt job_is step nodes c tree asks e whole steps hint_of begun out =
       begins P A shape images t commit devices actors n known f rule a x ex false plan xt doing noted job_is step nodes c tree _ (asked_then P A shape images t commit devices actors n known f rule a x ex false plan xt doing noted job_is step (Began nodes) asks refl) steps hint_of begun (λ q. absurd (cc))
       (commit_steps_followed.leads (situation shape t devices actors) nodes step (share_then t.desk x.share step (Began nodes)) a x plan f.site.world asks (record { here = ex; task = xt; asks = sym e; agrees = f.phase.agrees }) begun.may.idle whole out)

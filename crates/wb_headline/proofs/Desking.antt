@@ -19,6 +19,7 @@ use Rattle.wb_desk.specs.Calls.{reserved, released}
 use Rattle.wb_desk.specs.Commits.{commit_begun, commit_ended}
 use Rattle.wb_desk.specs.Entries.{entry_of, keeps, mapped, unmapped}
 use Rattle.wb_promise.specs.Headline.{cached_from, place_of}
+use Rattle.wb_tree.specs.declared.image.Image.{Image}
 use Rattle.wb_runs.proofs.Located.{StandsAlone, alone_later, none_from}
 use Rattle.wb_link.specs.World.{Shared, Block as AbstractBlock, Mapped as MappedThere, Reserved as ReservedThere, block_begun as begun, block_ended as ended, block_given_back, removed}
 use Rattle.wb_simulation.specs.Opened.{located}
@@ -157,8 +158,8 @@ module _ (P : Type 0) (desk : DeskState P) (s t : Shared) (g : DeskAgrees desk s
     blocks = λ c. ap (λ (f : ℕ → AbstractBlock). f c) k ∙ g.blocks c ∙ ap (λ bs. block_there (state bs c)) (sym b);
   }
 
-  pub desk_begins : (tree : Mapping) → located tree.entries ≡ located desk.tree.entries → t.mapping ≡ s.mapping → t.blocks ≡ (λ c. begun (s.blocks c)) → DeskAgrees (commit_begun desk tree) t
-  desk_begins tree e m k = record {
+  pub desk_begins : (tree : Mapping) (image : Image) → located tree.entries ≡ located desk.tree.entries → t.mapping ≡ s.mapping → t.blocks ≡ (λ c. begun (s.blocks c)) → DeskAgrees (commit_begun desk tree image) t
+  desk_begins tree image e m k = record {
     mapping = m ∙ g.mapping ∙ sym e;
     blocks = λ c. ap (λ (f : ℕ → AbstractBlock). f c) k ∙ ap begun (g.blocks c) ∙ sym (begun_there (state desk.space.blocks c)) ∙ ap (λ (v : Block). block_there v) (sym (state_map block_begun refl desk.space.blocks c));
   }

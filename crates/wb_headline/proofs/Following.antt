@@ -1,6 +1,5 @@
 -- A state of a run, with its clerk's notes, and the site of the abstract world that follows it.
-use Rattle.std.proofs.Common.{◌≡◌, ◌≢◌, ◌⊎◌, ℕ, false, List, [], ◌∷◌, Option, Some, None, length, slice_get}
-use Rattle.wb_types.specs.Limits.{node_count}
+use Rattle.std.proofs.Common.{◌≡◌, ◌≢◌, ◌⊎◌, ℕ, Bool, false, List, [], ◌∷◌, Option, Some, None, length, slice_get}
 use Rattle.wb_types.specs.declared.mode.Mode.{Mode}
 use Rattle.wb_types.specs.declared.mode.Dev.TheVariants.{Metadata, Cache, Origin}
 use Rattle.wb_disk.specs.Device.{History}
@@ -8,6 +7,7 @@ use Rattle.wb_meta.specs.Representing.{Stored}
 use Rattle.wb_meta.specs.declared.read_steps.ReadSteps.{ReadSteps}
 use Rattle.wb_meta.specs.declared.read_steps.ReadSteps.TheVariants.{Done as AllRead}
 use Rattle.wb_meta.specs.declared.read_steps.State.{State as StoredThere}
+use Rattle.wb_devices.specs.Clean.{entries_of}
 use Rattle.wb_tasks.specs.Tables.{Opening}
 use Rattle.wb_tasks.specs.Plan.{Plan}
 use Rattle.wb_tasks.specs.declared.step.Answer.TheVariants.{Done as Finished}
@@ -20,6 +20,7 @@ use Rattle.wb_devices.specs.declared.running.RunningCommit.{RunningCommit}
 use Rattle.wb_promise.specs.declared.job.Job.{Job}
 use Rattle.wb_promise.specs.States.{Shape, State, Actor, Target, Phase, Stands, Gone, Opens, block_size, sector_count}
 use Rattle.wb_promise.specs.Clerk.{Notes}
+use Rattle.wb_promise.specs.Happenings.{most_for}
 use Rattle.wb_runs.proofs.Images.{Images, later_of}
 use Rattle.wb_runs.proofs.Metadata.{MetadataKept}
 use Rattle.wb_link.specs.World.{AbstractActor}
@@ -54,7 +55,7 @@ pub record HasLearnt {A : Type 0} (reading : Option (ReadSteps A)) (commit : Opt
   pub running : RunningCommit
   pub commit_is : commit ≡ Some running
   pub same : learnt.locations ≡ located stored.tree.entries
-  pub clean : TakesClean stored.root.clean stored.tree.entries learnt.clean
+  pub clean : TakesClean stored.root.clean (entries_of stored) learnt.clean
 
 -- the root that it has written leads to what it has read, and says of no block that it is clean
 abbrev pub HasRoot : Learnt → Option Stored → Type 0
@@ -94,7 +95,7 @@ abbrev pub situation : {P : Type 0} → Shape → Target P → Devices (List His
 situation shape t devices actors = record {
   mode = t.desk.mode;
   size = block_size shape;
-  most = node_count shape.geometry.cache_blocks;
+  most = most_for shape.geometry;
   words = t.words;
   commits = commits_of t.desk;
   orders = live_orders t.desk;
@@ -110,8 +111,8 @@ module _ (P A : Type 0) (shape : Shape) where
   abbrev pub size : ℕ
   size = block_size shape
 
-  abbrev pub most : ℕ
-  most = node_count shape.geometry.cache_blocks
+  abbrev pub most : Bool → ℕ
+  most = most_for shape.geometry
 
   -- where no target stands the devices agree; beside the committed state the metadata may be read as this one
   pub record DevicesFollow (images : Images) (later : Option Stored) (devices : Devices (List History)) (v : Site) : Type 0 where

@@ -298,10 +298,10 @@ module _ (P A : Type 0) (shape : Shape) (images : Images) (t : Target P) (commit
       its_task : x.task ≡ Some (Suspend, plan)
       its_task = xt ∙ ap (λ (j : Job). Some (j, plan)) suspends
 
-      its_blocks : (looks : List OBlock) × (plan.job ≡ Suspending looks (most P A shape))
+      its_blocks : (looks : List OBlock) × (plan.job ≡ Suspending looks (most P A shape true))
       its_blocks =
           let z = beside P A shape images t commit devices actors n known f a x ex in
-          let r : IsCommitAt (size P A shape) (most P A shape) _ true plan x.share z.0 = doing_of (size P A shape) (most P A shape) t.words x z.0 Suspend plan (f.phase.agrees.each a x z.0 ex z.1) its_task in
+          let r : IsCommitAt (size P A shape) (most P A shape true) _ true plan x.share z.0 = doing_of (size P A shape) (most P A shape) t.words x z.0 Suspend plan (f.phase.agrees.each a x z.0 ex z.1) its_task in
           (r.blocks, r.job)
 
       -- what it has seen up to now
@@ -328,28 +328,28 @@ module _ (P A : Type 0) (shape : Shape) (images : Images) (t : Target P) (commit
       saw_first_of next e step = let first = begins_by plan next (sym e) step in (first.0, first.1, subst (λ (ws : List Want). Saw t.words t.desk.tree.entries x.seen ws) first.1 saw_now)
 
       -- what is left of it, with this next
-      is_left : (next : Want) (rest : List Want) → plan.steps ≡ next ∷ rest → plan ≡ record { job = Suspending its_blocks.0 (most P A shape); steps = next ∷ rest; answer = plan.answer }
+      is_left : (next : Want) (rest : List Want) → plan.steps ≡ next ∷ rest → plan ≡ record { job = Suspending its_blocks.0 (most P A shape true); steps = next ∷ rest; answer = plan.answer }
       is_left next rest s = λ i. record { job = its_blocks.1 i; steps = s i; answer = plan.answer }
 
       saw_words : (step : CellStep) → Cell step ≡ want plan → Saw (words_after t.words step) t.desk.tree.entries (seen_after (Cell step) (got_of (result_of t.words step)) x.seen) (after plan (got_of (result_of t.words step))).steps
       saw_words step e =
           let s = saw_first_of (Cell step) e (λ v q. absurd (cc)) in
           subst (λ (p : Plan). Saw (words_after t.words step) t.desk.tree.entries (seen_after (Cell step) (got_of (result_of t.words step)) x.seen) (after p (got_of (result_of t.words step))).steps) (sym (is_left (Cell step) s.0 s.1))
-          (by step s.0 (own (Suspending its_blocks.0 (most P A shape)) (Cell step) its_blocks.1 e) s.2 (all_told (Cell step) e (λ b p d q. not_it step (own (Suspending its_blocks.0 (most P A shape)) (Cell step) its_blocks.1 e) b p d (let same : step ≡ Seal b p d = cc in same))))
+          (by step s.0 (own (Suspending its_blocks.0 (most P A shape true)) (Cell step) its_blocks.1 e) s.2 (all_told (Cell step) e (λ b p d q. not_it step (own (Suspending its_blocks.0 (most P A shape true)) (Cell step) its_blocks.1 e) b p d (let same : step ≡ Seal b p d = cc in same))))
         where
-          not_it : (s : CellStep) → IsOwnStep (Suspending its_blocks.0 (most P A shape)) (Cell s) → (b : OBlock) (place : Option CBlock) (dirty : Bool) → s ≢ Seal b place dirty
+          not_it : (s : CellStep) → IsOwnStep (Suspending its_blocks.0 (most P A shape true)) (Cell s) → (b : OBlock) (place : Option CBlock) (dirty : Bool) → s ≢ Seal b place dirty
           not_it (Seal o q v) own_step b place dirty e = absurd own_step
-          not_it s own_step b place dirty e = absurd (subst (λ (c : CellStep). IsOwnStep (Suspending its_blocks.0 (most P A shape)) (Cell c)) e own_step)
+          not_it s own_step b place dirty e = absurd (subst (λ (c : CellStep). IsOwnStep (Suspending its_blocks.0 (most P A shape true)) (Cell c)) e own_step)
 
           left : CellStep → List Want → Plan
-          left s rest = record { job = Suspending its_blocks.0 (most P A shape); steps = Cell s ∷ rest; answer = plan.answer }
+          left s rest = record { job = Suspending its_blocks.0 (most P A shape true); steps = Cell s ∷ rest; answer = plan.answer }
 
-          by : (s : CellStep) (rest : List Want) → IsOwnStep (Suspending its_blocks.0 (most P A shape)) (Cell s) → Saw t.words t.desk.tree.entries x.seen (Cell s ∷ rest) → ((block : OBlock) → number_of (place_in (word_at t.words.seals block)) ≡ place_of t.desk.tree.entries block.0) →
+          by : (s : CellStep) (rest : List Want) → IsOwnStep (Suspending its_blocks.0 (most P A shape true)) (Cell s) → Saw t.words t.desk.tree.entries x.seen (Cell s ∷ rest) → ((block : OBlock) → number_of (place_in (word_at t.words.seals block)) ≡ place_of t.desk.tree.entries block.0) →
               Saw (words_after t.words s) t.desk.tree.entries (seen_after (Cell s) (got_of (result_of t.words s)) x.seen) (after (left s rest) (got_of (result_of t.words s))).steps
           by (Look Rattle.wb_words.specs.declared.word.Word.TheVariants.Fail) rest own_step saw told = by_test (t.words.fail == 0)
             where
               then_left : Bool → Plan
-              then_left v = if v then record { job = Suspending its_blocks.0 (most P A shape); steps = rest; answer = plan.answer } else record { job = Suspending its_blocks.0 (most P A shape); steps = []; answer = Refuses Failed }
+              then_left v = if v then record { job = Suspending its_blocks.0 (most P A shape true); steps = rest; answer = plan.answer } else record { job = Suspending its_blocks.0 (most P A shape true); steps = []; answer = Refuses Failed }
 
               by_test : (v : Bool) → Saw t.words t.desk.tree.entries x.seen (then_left v).steps
               by_test true = saw_on t.words t.words t.desk.tree.entries t.desk.tree.entries x.seen (Cell (Look Rattle.wb_words.specs.declared.word.Word.TheVariants.Fail)) rest (λ b q. absurd (cc)) refl (λ b. refl) saw
@@ -371,7 +371,7 @@ module _ (P A : Type 0) (shape : Shape) (images : Images) (t : Target P) (commit
       pub saw_begin : (allowed : ℕ) (desk' : DeskState P) (got : Got) → Desk (BeginCommit allowed) ≡ want plan → ((nodes : ℕ) × (got ≡ Began nodes)) ⊎ ((refusal : Refusal) × (got ≡ GotRefused refusal)) → Saw t.words desk'.tree.entries x.seen (after plan got).steps
       saw_begin allowed desk' got e (inl began) =
           let s = saw_first_of (Desk (BeginCommit allowed)) e (λ v q. absurd (cc)) in
-          subst (λ (g : Got). Saw t.words desk'.tree.entries x.seen (after plan g).steps) (sym began.1) (subst (λ (p : Plan). Saw t.words desk'.tree.entries x.seen (after p (Began began.0)).steps) (sym (is_left (Desk (BeginCommit allowed)) s.0 s.1)) (λ b. absurd (begun_once true its_blocks.0 (most P A shape) began.0 b)))
+          subst (λ (g : Got). Saw t.words desk'.tree.entries x.seen (after plan g).steps) (sym began.1) (subst (λ (p : Plan). Saw t.words desk'.tree.entries x.seen (after p (Began began.0)).steps) (sym (is_left (Desk (BeginCommit allowed)) s.0 s.1)) (λ b. absurd (begun_once true its_blocks.0 (most P A shape true) began.0 b)))
       saw_begin allowed desk' got e (inr r) =
           let s = saw_first_of (Desk (BeginCommit allowed)) e (λ v q. absurd (cc)) in
           subst (λ (g : Got). Saw t.words desk'.tree.entries x.seen (after plan g).steps) (sym r.1) (subst (λ (p : Plan). Saw t.words desk'.tree.entries x.seen (after p (GotRefused r.0)).steps) (sym (is_left (Desk (BeginCommit allowed)) s.0 s.1)) (λ b. absurd b))
@@ -383,8 +383,8 @@ module _ (P A : Type 0) (shape : Shape) (images : Images) (t : Target P) (commit
 
       -- it never asks to share one
       pub shares_none : (allowed : ℕ) → (Desk (Arrive allowed) ≡ want plan) ⊎ (Desk (Ask allowed) ≡ want plan) → ⊥
-      shares_none allowed (inl e) = own (Suspending its_blocks.0 (most P A shape)) (Desk (Arrive allowed)) its_blocks.1 e
-      shares_none allowed (inr e) = own (Suspending its_blocks.0 (most P A shape)) (Desk (Ask allowed)) its_blocks.1 e
+      shares_none allowed (inl e) = own (Suspending its_blocks.0 (most P A shape true)) (Desk (Arrive allowed)) its_blocks.1 e
+      shares_none allowed (inr e) = own (Suspending its_blocks.0 (most P A shape true)) (Desk (Ask allowed)) its_blocks.1 e
 
     y_parted : (next : Want) (got : Got) → AreParted (y next got)
     y_parted next got = parted_then x.orders x.awaiting (job_of x.task) next got (k.parted a x ex)
@@ -469,8 +469,8 @@ module _ (P A : Type 0) (shape : Shape) (images : Images) (t : Target P) (commit
           by_job (Read extent) jt = of_it (doing (Read extent) jt).part.block.0 (doing (Read extent) jt).of_block
           by_job (Write extent content) jt = of_it (doing (Write extent content) jt).part.block.0 (doing (Write extent content) jt).of_block
           by_job (Invalidate block) jt = of_it (doing (Invalidate block) jt).part.block.0 (doing (Invalidate block) jt).of_block
-          by_job Flush jt = (let r = doing Flush jt in absurd (own (Flushing r.blocks (most P A shape)) (Cell (Seal b place dirty)) r.job is_seal))
-          by_job Suspend jt = (let r = doing Suspend jt in absurd (own (Suspending r.blocks (most P A shape)) (Cell (Seal b place dirty)) r.job is_seal))
+          by_job Flush jt = (let r = doing Flush jt in absurd (own (Flushing r.blocks (most P A shape false)) (Cell (Seal b place dirty)) r.job is_seal))
+          by_job Suspend jt = (let r = doing Suspend jt in absurd (own (Suspending r.blocks (most P A shape true)) (Cell (Seal b place dirty)) r.job is_seal))
           by_job (Open mode) jt = absurd (doing (Open mode) jt)
           by_job (Migrate m block) jt =
               let c = carried now shape.geometry.origin_blocks f.site.world f.phase.agrees a x m block plan ex jt suits (Cell (Seal b place dirty)) is_seal tt in

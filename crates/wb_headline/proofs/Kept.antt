@@ -33,12 +33,14 @@ use Rattle.wb_promise.specs.declared.job.Job.{Job}
 use Rattle.wb_promise.specs.declared.job.Job.TheVariants.{Read, Write, Flush, Suspend, Migrate, Replace, Invalidate}
 use Rattle.wb_promise.specs.declared.event.What.TheVariants.{Started}
 use Rattle.wb_promise.specs.States.{Shape, State, Actor, Target, Phase, Stands, OfReading, resting}
-use Rattle.wb_promise.specs.Happenings.{Chosen, Plain, Cut, Orders, Looks, Asks, Commits, Gives, DoesArrive, DoesAsk, DoesBegin, DoesLead, DoesRead, StartsAs, AreMapped, HasTask, OfSome, order_for}
+use Rattle.wb_promise.specs.Happenings.{Chosen, Plain, Cut, Orders, Looks, Asks, Commits, Gives, DoesArrive, DoesAsk, DoesBegin, DoesLead, DoesRead, StartsAs, AreMapped, HasTask, OfSome, most_for, order_for}
 use Rattle.wb_promise.specs.Effects.{actor_then, phase_then, phase_given, given, job_of, begun_desk, all_resting}
 use Rattle.wb_promise.specs.Clerk.{Notes}
 use Rattle.wb_promise.specs.Headline.{place_of}
 use Rattle.wb_runs.specs.Holding.{cards_of, AllSuited, TaskSuits}
 use Rattle.wb_promise.specs.Sealed.{SealsNext, number_of}
+use Rattle.wb_desk.specs.Marks.{bits_in_tree}
+use Rattle.wb_runs.proofs.Imaged.{begun_entries}
 use Rattle.wb_runs.proofs.Images.{Images}
 use Rattle.wb_runs.proofs.Metadata.{MetadataKept}
 use Rattle.wb_runs.proofs.Lists.{first_or}
@@ -54,7 +56,6 @@ use Rattle.wb_simulation.specs.Actors.{IsAmong, IsAmongOthers, AreAmongOthers}
 use Rattle.wb_simulation.proofs.Opened.{found_at}
 use Rattle.wb_tree.specs.declared.image.Image.{Image}
 use Rattle.wb_tree.specs.Mapping.{Mapping}
-use Rattle.wb_types.specs.Limits.{node_count}
 use Rattle.wb_types.specs.declared.geometry.Geometry.{Geometry}
 use Rattle.wb_types.specs.declared.refusal.Refusal.{Refusal}
 use Rattle.wb_words.specs.declared.step.CellStep.TheVariants.{Look}
@@ -199,7 +200,7 @@ module _ (P A : Type 0) (shape : Shape) (images : Images) (t : Target P) (commit
           plain Suspend y _ (record {
             nobody = λ c z away ez. all_among c z ez;
             itself = inr (λ c z away ez. at_nothing P A w c z ez (h.0 c));
-            saw = saw_first t.words t.desk.tree.entries shape.geometry.cache_blocks (node_count shape.geometry.cache_blocks) blocks (Cell (Look Fail)) (looks_at_all blocks h.1);
+            saw = saw_first t.words t.desk.tree.entries shape.geometry.cache_blocks (most_for shape.geometry true) blocks (Cell (Look Fail)) (looks_at_all blocks h.1);
           }) refl refl refl (k.parted a x ex)
       by_job Suspend chosen h = absurd h
       by_job job chosen h = (let y : Actor = given shape t.desk.mode x job chosen in plain job y _ (among t y job _ refl tt) refl refl refl (k.parted a x ex))
@@ -216,9 +217,9 @@ module _ (P A : Type 0) (shape : Shape) (images : Images) (t : Target P) (commit
         (owned_same P t.desk actors a x (actor_then {P = P} {A = A} shape (Stands t) devices x (Desk step) got) ex k.owned (begun_desk chosen t.desk) same (begun_orders P A chosen t.desk))
 
     -- the entries that are stored are of the same blocks, marked or not
-    same_places : (seen : Option (List Bool)) (hint_of : P → ℕ → ℕ) (image : Image) (tree : Mapping) → HasBegun hint_of seen t.desk image (commit_begun t.desk tree) → (b : ℕ) → place_of tree.entries b ≡ place_of t.desk.tree.entries b
-    same_places None hint_of image tree h b = ap (λ (es : List (Option Entry)). place_of es b) h.image_is.same_entries
-    same_places (Some bits) hint_of image tree h b = ap (λ (es : List (Option Entry)). place_of es b) (h.image_is.2.same_entries ∙ h.image_is.1.entries) ∙ marked_places (hint_of t.desk.policy) bits t.desk.tree.entries 0 b
+    same_places : (seen : Option (List Bool)) (hint_of : P → ℕ → ℕ) (image : Image) (tree : Mapping) → HasBegun hint_of seen t.desk image (commit_begun t.desk tree image) → (b : ℕ) → place_of tree.entries b ≡ place_of t.desk.tree.entries b
+    same_places None hint_of image tree h b = ap (λ (es : List (Option Entry)). place_of es b) (begun_entries hint_of None t.desk tree image h)
+    same_places (Some bits) hint_of image tree h b = ap (λ (es : List (Option Entry)). place_of es b) (begun_entries hint_of (Some bits) t.desk tree image h) ∙ marked_places (hint_of t.desk.policy) (bits_in_tree t.desk.geometry.version bits) t.desk.tree.entries 0 b
 
     -- a suspend's begins, or does not
     begins_keeps : (job : Job) → x.task ≡ Some (job, plan) → (most : ℕ) (got : Got) (chosen : Chosen P A) → Desk (BeginCommit most) ≡ want plan → DoesBegin (Some x.seen) most t.desk got chosen → After (Desk (BeginCommit most)) got chosen

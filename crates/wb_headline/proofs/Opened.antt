@@ -25,6 +25,7 @@ use Rattle.wb_tasks.specs.declared.step.Want.TheVariants.{End, Device}
 use Rattle.wb_tasks.specs.declared.step.Got.{Got}
 use Rattle.wb_devices.specs.declared.devices.Devices.{Devices}
 use Rattle.wb_devices.specs.declared.running.RunningCommit.{RunningCommit}
+use Rattle.wb_devices.specs.Clean.{entries_of}
 use Rattle.wb_devices.specs.Committing.{is_committed}
 use Rattle.wb_stage.specs.Stages.{is_all_done}
 use Rattle.wb_refines.specs.Translation.{number_of as number_there}
@@ -44,6 +45,8 @@ use Rattle.wb_headline.proofs.Suspends.{takes_none}
 use Rattle.wb_simulation.specs.Opened.{located}
 use Rattle.wb_simulation.specs.Sites.{DevicesAgree, IsRunning}
 use Rattle.wb_simulation.specs.Worlds.{zeros, Agrees}
+use Rattle.wb_devices.proofs.BitEntries.{mapping-with_bits}
+use Rattle.wb_simulation.proofs.BitLocations.{located-with_bits}
 use Rattle.wb_simulation.proofs.Noted.{notes_followed}
 use Rattle.wb_simulation.proofs.Opened.{opened_followed}
 use Rattle.wb_types.specs.declared.mode.Dev.TheVariants.{Metadata, Cache, Origin}
@@ -191,7 +194,8 @@ module _ (P A : Type 0) (shape : Shape) (images : Images) (devices : Devices (Li
           let few : shape.geometry.cache_blocks ≤ 2 ^ 32 = (let l = shape.geometry.within.cache_to in omega (arith, l)) in
           subst (λ (os : List (Option Order)). Agrees (record (situation shape (target_over shape mode policy stored) devices (slice_set actors a y)) { orders = os }) site_now.world) (sym (no_orders_live shape.geometry.cache_blocks))
           (subst (λ (k : ℕ). Agrees (record (situation shape (target_over shape mode policy stored) devices (slice_set actors a y)) { orders = replicate shape.geometry.cache_blocks None }) (record { shared = opened_on f.site.world.shared mode i blocks_now; actors = replicate k idle; waiting = λ c. None })) many_then
-          (opened_followed mode (size P A shape) (most P A shape) shape.geometry.origin_blocks shape.geometry.cache_blocks stored.root.clean tree i blocks_now f.site.world.shared devices (slice_set actors a y) mapping few rd.0.same rd.0.clean d.origin d.cache at_rest))
+          (opened_followed mode (size P A shape) (most P A shape) shape.geometry.origin_blocks shape.geometry.cache_blocks stored.root.clean (entries_of stored) i blocks_now f.site.world.shared devices (slice_set actors a y)
+          (mapping-with_bits stored.dirty shape.geometry.cache_blocks shape.geometry.origin_blocks tree mapping) few (rd.0.same ∙ sym (located-with_bits stored.dirty tree)) rd.0.clean d.origin d.cache at_rest))
 
       -- the seals tell where the tree has each block
       pub opened_tells : (block : OBlock) → number_there (place_in (word_at (target_over shape mode policy stored).words.seals block)) ≡ place_of tree block.0

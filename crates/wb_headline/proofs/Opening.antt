@@ -1,7 +1,7 @@
 -- Each step of an opening, done, refused or failing, is followed.
 use Rattle.std.proofs.Common.{◌≡◌, ◌≢◌, ◌∙◌, ◌-◌, ◌⊎◌, inl, inr, ℕ, Bool, true, List, [], Option, Some, None, refl, sym, ap, subst, arith, map, slice_get, slice_set, false}
 use Rattle.wb_format.specs.declared.root.Root.{Root}
-use Rattle.wb_devices.specs.Clean.{IsCleanSoFar}
+use Rattle.wb_devices.specs.Clean.{IsCleanSoFar, entries_of}
 use Rattle.std.proofs.lemmas.Option.{some_pair_parts}
 use Rattle.std.proofs.lemmas.List.{length-set}
 use Rattle.wb_types.proofs.Lists.{set_cases}
@@ -43,6 +43,7 @@ use Rattle.wb_link.specs.World.{Shared}
 use Rattle.wb_link.specs.Openings.{AbstractPhase as PhaseThere, Stands as StandsThere, Gone as GoneThere, Opens as OpensThere, Learnt, Stage, Settling, Caching, Basing, Looking, Rooting, Renewing, Answering, Learns, Advances, advance}
 use Rattle.wb_simulation.specs.Opened.{located}
 use Rattle.wb_simulation.specs.Sites.{DevicesAgree, LeadsTo, locations, StateTakesClean}
+use Rattle.wb_simulation.proofs.BitLocations.{located-with_bits}
 use Rattle.wb_simulation.proofs.Opening.{admitted, openings_followed, read_clean}
 use Rattle.wb_headline.proofs.Following.{opening_at, HasLearnt, HasRoot, HasReadAt, AtStage, IsOver, size, Followed, Goes}
 use Rattle.wb_headline.proofs.Suspends.{takes_none}
@@ -225,15 +226,15 @@ module _ (P A : Type 0) (shape : Shape) (images : Images) (devices : Devices (Li
         look_done : (stored : Rattle.wb_meta.specs.declared.read_steps.State.State A) (running : RunningCommit) (read : List Bytes) (chosen : Chosen P A) → (mode ≡ Passthrough → IsCleanSoFar shape.geometry (AllRead stored)) → HasReached shape.geometry images (AllRead stored) device → (next : Rattle.wb_devices.specs.Opened.HasNextRoot (AllRead stored) (Some running)) →
             reading_then reading (Device (ReadMetadata left)) Done chosen ≡ Some (AllRead stored) → commit_then {P = P} {A = A} (Opens mode reading) commit (Device (ReadMetadata left)) Done chosen ≡ Some running → Goes P A shape (after_it (ReadMetadata left) Done chosen devices) (n' (ReadMetadata left) Done read)
         look_done stored running read chosen clean k next er ec =
-            let is = read_is_committed shape.geometry k.found.committed device stored.root stored.tree stored.used.items k.found.read k.found.settled k.come k.on in
+            let is = read_is_committed shape.geometry k.found.committed device stored.root stored.tree stored.dirty stored.used.items k.found.read k.found.settled k.come k.on.0 in
             let one : images.committed ≡ k.found.committed = ap (λ (i : Images). i.committed) k.found.are in
-            let entries_are : stored.tree.entries ≡ images.committed.found.entries = is.1 ∙ ap (λ (s : Stored). s.found.entries) (sym one) in
-            let located_so : learnt.locations ≡ located stored.tree.entries = agree.images.committed_is ∙ ap (λ es. located es) (sym entries_are) in
-            let takes = read_clean stored.root stored.tree images.committed learnt.clean (is.0 ∙ ap (λ (s : Stored). s.root) (sym one)) entries_are agree.images.clean_is in
+            let entries_are : entries_of stored ≡ images.committed.found.entries = is.1 ∙ ap (λ (s : Stored). s.found.entries) (sym one) in
+            let located_so : learnt.locations ≡ located (entries_of stored) = agree.images.committed_is ∙ ap (λ es. located es) (sym entries_are) in
+            let takes = read_clean stored.root (entries_of stored) images.committed learnt.clean (is.0 ∙ ap (λ (s : Stored). s.root) (sym one)) entries_are agree.images.clean_is in
             let its_geometry : stored.root.geometry ≡ shape.geometry = ap (λ (r : Root). r.geometry) is.0 ∙ k.found.read.same_geometry in
             let l : LeadsTo shape.geometry (size P A shape) images.committed None f.site (OpensThere mode (Rooting learnt)) devices = record {
               event = Advances (Learns learnt);
-              may = (mode, Looking, ph, (refl, refl, admitted mode stored.root stored.tree learnt (λ passes. clean passes stored refl its_geometry) located_so takes));
+              may = (mode, Looking, ph, (refl, refl, admitted mode stored.root (entries_of stored) learnt (λ passes. clean passes stored refl its_geometry) located_so takes));
               phase_is = ap (λ (p : PhaseThere). (advance f.site.world p (Learns learnt)).phase) ph;
               agrees = subst (λ (p : PhaseThere). DevicesAgree shape.geometry (size P A shape) images.committed None devices (advance f.site.world p (Learns learnt)).world.shared) (sym ph) agree;
             } in
@@ -254,7 +255,7 @@ module _ (P A : Type 0) (shape : Shape) (images : Images) (devices : Devices (Li
                   reading_is = refl;
                   running = running;
                   commit_is = refl;
-                  same = located_so;
+                  same = located_so ∙ located-with_bits stored.dirty stored.tree.entries;
                   clean = takes;
                 },
                 refl,

@@ -23,8 +23,8 @@ use Rattle.wb_simulation.specs.Noting.{counts_by_block}
 use Rattle.wb_simulation.specs.Worlds.{zeros}
 use Rattle.wb_simulation.proofs.Opened.{found_at}
 use Rattle.wb_types.specs.declared.geometry.Geometry.{Geometry}
-use Rattle.wb_tree.proofs.Reading.MappingRead.{mapping_read}
-use Rattle.wb_meta.specs.Representing.{Represents, Stored}
+use Rattle.wb_simulation.proofs.BitLocations.{image_mapping}
+use Rattle.wb_meta.specs.Representing.{Represents, Stored, all_of}
 use Rattle.wb_meta.specs.Roots.{AreOneOf, StoredIsOf}
 use Rattle.wb_runs.proofs.Images.{Images}
 use Rattle.wb_runs.proofs.Metadata.{MetadataKept}
@@ -144,7 +144,7 @@ state_allowed sectors actors g v m committed later devices state r d (inr e) b o
 
 -- a state that is represented has each block once
 mapping_of : (g : Geometry) (sectors : List Bytes) (state : Stored) → Represents sectors state.root state.found → state.root.geometry ≡ g → IsMapping g.cache_blocks g.origin_blocks state.found.entries
-mapping_of g sectors state r e = subst (λ (x : Geometry). IsMapping x.cache_blocks x.origin_blocks state.found.entries) e (mapping_read state.root r.nodes state.found r.reads)
+mapping_of g sectors state r e = subst (λ (x : Geometry). IsMapping x.cache_blocks x.origin_blocks state.found.entries) e (image_mapping state.root r.nodes state.found.mapping (all_of state.found) r.reads r.mapping)
 
 module _ (P A : Type 0) (shape : Shape) (images : Images) (w : State P A) (n : Notes) (known : MetadataKept shape.geometry images w.phase w.commit w.devices.metadata) (f : Followed P A shape images w n) (cache_size : length w.devices.cache ≡ cache_sector_count shape) (origin_size : length w.devices.origin ≡ sector_count shape) where
   pub crash_consistent : CrashConsistent shape n w.devices

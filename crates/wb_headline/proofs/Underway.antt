@@ -19,6 +19,8 @@ use Rattle.wb_meta.specs.declared.commit_steps.CommitSteps.TheVariants.{NodesWri
 use Rattle.wb_meta.proofs.Stepping.{fails as step_fails}
 use Rattle.wb_desk.specs.Desks.{DeskState}
 use Rattle.wb_desk.specs.Commits.{HasBegun, commit_begun}
+use Rattle.wb_desk.specs.Marks.{bits_in_tree, entries_shown}
+use Rattle.wb_types.specs.declared.entry.Entry.{Entry}
 use Rattle.wb_tasks.specs.Plan.{after}
 use Rattle.wb_tasks.specs.declared.step.DeviceStep.{DeviceStep}
 use Rattle.wb_tasks.specs.declared.step.DeviceStep.TheVariants.{Read as ReadExtent, Sync, WriteRoot}
@@ -35,6 +37,7 @@ use Rattle.wb_promise.specs.declared.job.Job.{Job}
 use Rattle.wb_promise.specs.States.{Shape, Phase, Actor, Target, Stands}
 use Rattle.wb_promise.specs.Effects.{awaiting_then, buffer_then, seen_then, share_by, orders_then}
 use Rattle.wb_promise.specs.Clerk.{Notes, Doing, device_note, finished_note, made_durable}
+use Rattle.wb_runs.proofs.Imaged.{begun_entries, begun_root}
 use Rattle.wb_runs.proofs.Images.{Images, later_of}
 use Rattle.wb_runs.proofs.Underway.{Underway, Readable, images_of, is_written}
 use Rattle.wb_link.specs.World.{Shared}
@@ -136,14 +139,19 @@ marks true seen = Some seen
 marks false seen = None
 
 -- What it stores is of the blocks that the desk maps, and takes those as clean whose seals are, or none.
-pub begun_places : {P : Type 0} (clean : Bool) (seen : List Bool) (hint_of : P → ℕ → ℕ) (desk : DeskState P) (image : Image) (tree : Mapping) → HasBegun hint_of (marks clean seen) desk image (commit_begun desk tree) → located tree.entries ≡ located desk.tree.entries
-begun_places true seen hint_of desk image tree h = ap located (h.image_is.2.same_entries ∙ h.image_is.1.entries) ∙ (λ i b. marked_places (hint_of desk.policy) seen desk.tree.entries 0 b i)
-begun_places false seen hint_of desk image tree h = ap located h.image_is.same_entries
+pub begun_places : {P : Type 0} (clean : Bool) (seen : List Bool) (hint_of : P → ℕ → ℕ) (desk : DeskState P) (image : Image) (tree : Mapping) → HasBegun hint_of (marks clean seen) desk image (commit_begun desk tree image) → located tree.entries ≡ located desk.tree.entries
+begun_places true seen hint_of desk image tree h = ap located (begun_entries hint_of (Some seen) desk tree image h) ∙ (λ i b. marked_places (hint_of desk.policy) (bits_in_tree desk.geometry.version seen) desk.tree.entries 0 b i)
+begun_places false seen hint_of desk image tree h = ap located (begun_entries hint_of None desk tree image h)
 
-pub begun_takes : {P : Type 0} (clean : Bool) (seen : List Bool) (hint_of : P → ℕ → ℕ) (desk : DeskState P) (image : Image) (tree : Mapping) (words : Words) (s : Shared) (state : Stored) → HasBegun hint_of (marks clean seen) desk image (commit_begun desk tree) →
-    WordsAgree words s → (clean ≡ true → AllSeen words desk.tree.entries seen × ((block : OBlock) → number_of (place_in (word_at words.seals block)) ≡ place_of desk.tree.entries block.0)) → state.root.clean ≡ image.root.clean → state.found.entries ≡ tree.entries → StateTakesClean state (clean_by clean s)
-begun_takes true seen hint_of desk image tree words s state h agree all root entries = takes_seen (hint_of desk.policy) words s desk.tree.entries seen state agree (all refl).1 (all refl).0 (root ∙ h.image_is.2.root_clean) (entries ∙ h.image_is.2.same_entries ∙ h.image_is.1.entries)
-begun_takes false seen hint_of desk image tree words s state h agree all root entries = takes_none state (root ∙ h.image_is.root_clean)
+-- and so is what is read of it
+pub shown_places : (clean : Bool) (seen : List Bool) (hint : ℕ → ℕ) (entries : List (Option Entry)) → located (entries_shown hint (marks clean seen) entries) ≡ located entries
+shown_places true seen hint entries = λ i b. marked_places hint seen entries 0 b i
+shown_places false seen hint entries = refl
+
+pub begun_takes : {P : Type 0} (clean : Bool) (seen : List Bool) (hint_of : P → ℕ → ℕ) (desk : DeskState P) (image : Image) (tree : Mapping) (words : Words) (s : Shared) (state : Stored) → HasBegun hint_of (marks clean seen) desk image (commit_begun desk tree image) →
+    WordsAgree words s → (clean ≡ true → AllSeen words desk.tree.entries seen × ((block : OBlock) → number_of (place_in (word_at words.seals block)) ≡ place_of desk.tree.entries block.0)) → state.root.clean ≡ image.root.clean → state.found.entries ≡ entries_shown (hint_of desk.policy) (marks clean seen) desk.tree.entries → StateTakesClean state (clean_by clean s)
+begun_takes true seen hint_of desk image tree words s state h agree all root entries = takes_seen (hint_of desk.policy) words s desk.tree.entries seen state agree (all refl).1 (all refl).0 (root ∙ (begun_root hint_of (Some seen) desk tree image h).1) entries
+begun_takes false seen hint_of desk image tree words s state h agree all root entries = takes_none state (root ∙ (begun_root hint_of None desk tree image h).1)
 
 pub some_is : {X : Type 0} (a b : X) → ◌≡◌ {A = Option X} (Some a) (Some b) → a ≡ b
 some_is a b e = ap (λ o. Rattle.std.proofs.Common.unwrap_or o a) e

@@ -1,5 +1,5 @@
 -- What the lines of a replay ask.
-use Rattle.std.specs.Prelude.{◌≡◌, ◌==◌, ◌<◌, ◌^◌, ℕ, List, [], ◌∷◌, codes}
+use Rattle.std.specs.Prelude.{◌≡◌, ◌==◌, ◌<◌, ◌^◌, ℕ, Bool, true, false, List, [], ◌∷◌, codes}
 use Rattle.std.specs.List.{slice_split}
 use Rattle.wb_types.specs.declared.mode.Mode.{Mode}
 use Rattle.wb_types.specs.declared.mode.Dev.{Dev}
@@ -134,13 +134,19 @@ Asks (name ∷ words) (Open mode) = (name ≡ codes "open") × SpellsMode words 
 Asks (name ∷ words) (View at count) = (name ≡ codes "view") × SpellsSectors words at.0 count
 Asks words line = ⊥
 
--- The words of the first line: `setup <mode> <block> <cache blocks> <origin blocks> <metadata sectors>`.
+-- the words that ask for metadata of the second version, or of the first
+abbrev pub version_words : Bool → List (List ℕ)
+version_words true = codes "metadata2" ∷ []
+version_words false = []
+
+-- The words of the first line: `setup <mode> <block> <cache blocks> <origin blocks> <metadata sectors>`, and `metadata2` behind them for metadata of
+-- the second version.
 pub record SetsUp (words : List (List ℕ)) (setup : Setup) : Type 0 where
   pub block : List ℕ
   pub cache : List ℕ
   pub origin : List ℕ
   pub metadata : List ℕ
-  pub spelled : words ≡ codes "setup" ∷ mode_name setup.mode ∷ block ∷ cache ∷ origin ∷ metadata ∷ []
+  pub spelled : words ≡ codes "setup" ∷ mode_name setup.mode ∷ block ∷ cache ∷ origin ∷ metadata ∷ version_words setup.metadata2
   pub of_block : SpellsNumber block setup.block
   pub of_cache : SpellsNumber cache setup.cache_blocks
   pub of_origin : SpellsNumber origin setup.origin_blocks

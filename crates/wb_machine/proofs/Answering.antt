@@ -107,7 +107,7 @@ answers_done g n devices o h next done (Some made) made_is is =
     subst (Answers g n devices o) (sym stood) (record {
       happens = subst (λ (w : Want). Happens (shape_of g n) (state_of n devices (Underway o)) (Step o.asked.actor) (Stepped w Done) [] (state_of n devices (Standing made.target made.members))) (sym next) (opened g n devices o made h next made_is is done);
       is_there = (ap length is.cards_are ∙ length-set (replicate n blank_card) o.asked.actor _ ∙ length_replicate n blank_card, ap length is.members_are ∙ length_replicate n free);
-      so = record { blocks = is.blocks_are; failed = is.failed_is; sizes = sizes g n o.asked made is; roomy = subst (λ (ms : List Member). AllRoomy g.cache_blocks ms) (sym is.members_are) (roomy_free g.cache_blocks n) };
+      so = record { blocks = is.blocks_are; failed = is.failed_is; sizes = sizes g n o.asked made is; roomy = subst (λ (ms : List Member). AllRoomy g ms) (sym is.members_are) (roomy_free g n) };
     })
 
 answers_refused : (g : Geometry) (n : ℕ) (devices : Devices Memory) (o : Opener) → o.asked.actor < n → (refusal : Refusal) → want o.task ≡ End (Refuses refusal) → Answers g n devices o (answered (Underway o))

@@ -16,7 +16,7 @@ use Rattle.wb_policy.specs.declared.quiet.Quiet.{Quiet}
 use Rattle.wb_tree.specs.declared.image.Image.{Image}
 use Rattle.wb_meta.specs.declared.commit_steps.CommitSteps.{CommitSteps}
 use Rattle.wb_meta.specs.declared.commit_steps.CommitSteps.TheVariants.{NodesWritten, NodesSynced, RootWritten, Done as Committed}
-use Rattle.wb_types.specs.Limits.{node_count}
+use Rattle.wb_types.specs.Limits.{most_nodes}
 use Rattle.wb_desk.specs.Commits.{HasBegun}
 use Rattle.wb_desk.specs.Desks.{DeskState}
 use Rattle.wb_desk.specs.Entries.{MayUnmap, HasLeft, mapped, unmapped}
@@ -316,7 +316,7 @@ module _ (desk : DeskState Quiet) (commit : Option RunningCommit) (desk' : DeskS
     gives_break (Replace old new) = ((refl, refl), refl, tt)
 
   -- a flush arrives: it leads a commit, is refused one, or gets a ticket
-  did_arrive : (job : Job) (most : ℕ) (got : Got) → node_count desk.geometry.cache_blocks ≤ most → Fits (Desk (Arrive most)) got → BeginsWhole got → DidArrive most got desk commit desk' commit' → Asked (Arrive most) job got
+  did_arrive : (job : Job) (most : ℕ) (got : Got) → most_nodes desk.geometry.version false desk.geometry.cache_blocks ≤ most → Fits (Desk (Arrive most)) got → BeginsWhole got → DidArrive most got desk commit desk' commit' → Asked (Arrive most) job got
   did_arrive job most (Began nodes) enough fits whole did =
       let does = begins None most nodes did.1.0 fits did.1.2 did.1.3 did.1.4.0 did.1.4.1 (whole nodes did.1.0 refl did.1.1) in
       record { chosen = Commits did.1.0 desk'.tree; gives = λ shape devices words actors x own. gives_arrival shape devices words actors x job most (Began nodes) (Commits did.1.0 desk'.tree) (did.0, does); desk_is = did.1.4.1.state; commit_is = did.1.1 }
@@ -327,7 +327,7 @@ module _ (desk : DeskState Quiet) (commit : Option RunningCommit) (desk' : DeskS
   did_arrive job most got enough fits whole did = absurd did
 
   -- one with a ticket asks: it is served, leads a commit, or is refused one
-  did_ask_again : (job : Job) (most : ℕ) (got : Got) → node_count desk.geometry.cache_blocks ≤ most → Fits (Desk (Ask most)) got → BeginsWhole got → DidAskWith share most got desk commit desk' commit' → Asked (Ask most) job got
+  did_ask_again : (job : Job) (most : ℕ) (got : Got) → most_nodes desk.geometry.version false desk.geometry.cache_blocks ≤ most → Fits (Desk (Ask most)) got → BeginsWhole got → DidAskWith share most got desk commit desk' commit' → Asked (Ask most) job got
   did_ask_again job most Served enough fits whole did = record {
     chosen = Plain;
     gives = λ shape devices words actors x own. gives_asking shape devices words actors x job most Served Plain (subst (λ (s : Share). ShareIsCovered desk s) (sym own.2) did.0);
@@ -351,7 +351,7 @@ module _ (desk : DeskState Quiet) (commit : Option RunningCommit) (desk' : DeskS
   did_ask_again job most got enough fits whole did = absurd did
 
   -- a suspend's commit begins, or is refused
-  did_begin : (job : Job) (most : ℕ) (got : Got) (hint_of : Quiet → ℕ → ℕ) → node_count desk.geometry.cache_blocks ≤ most → Fits (Desk (BeginCommit most)) got → BeginsWhole got → DidBeginWith hint_of seen most got desk commit desk' commit' → Asked (BeginCommit most) job got
+  did_begin : (job : Job) (most : ℕ) (got : Got) (hint_of : Quiet → ℕ → ℕ) → most_nodes desk.geometry.version true desk.geometry.cache_blocks ≤ most → Fits (Desk (BeginCommit most)) got → BeginsWhole got → DidBeginWith hint_of seen most got desk commit desk' commit' → Asked (BeginCommit most) job got
   did_begin job most (Began nodes) hint_of enough fits whole did =
       let does = begins (Some seen) most nodes did.0 fits did.2 did.3 hint_of did.4 (whole nodes did.0 refl did.1) in
       record {
@@ -416,7 +416,7 @@ module _ (desk : DeskState Quiet) (commit : Option RunningCommit) (desk' : DeskS
   did_release job b m up k = absurd m
 
   -- so it is with whatever the desk was asked
-  pub did_ask : (job : Job) (step : DeskStep) (got : Got) → IsAskable commit job step → Allows desk.geometry.cache_blocks seen (Desk step) → Fits (Desk step) got → BeginsWhole got → DidAskFor held seen share step got desk commit desk' commit' → Asked step job got
+  pub did_ask : (job : Job) (step : DeskStep) (got : Got) → IsAskable commit job step → Allows desk.geometry seen (Desk step) → Fits (Desk step) got → BeginsWhole got → DidAskFor held seen share step got desk commit desk' commit' → Asked step job got
   did_ask job (Map b c) got askable enough fits whole did = did_map did.0 job b c got askable fits did.2.0 did.2.1
   did_ask job (Unmap b) Done askable enough fits whole did = did_unmap did.1 job b askable did.2.0 did.2.1
   did_ask job (ReleaseOrder b) Done askable enough fits whole did = did_release job b askable did.2.0 did.2.1

@@ -4,6 +4,7 @@ use Rattle.std.proofs.lemmas.List.{get_or-set_same, get_or-replicate, set-get_or
 use Rattle.std.specs.List.{count_by}
 use Rattle.wb_types.specs.declared.geometry.Geometry.{Geometry}
 use Rattle.wb_tree.specs.Mapping.{Mapping}
+use Rattle.wb_dirty.specs.ImageReading.{with_bits}
 use Rattle.wb_policy.specs.declared.quiet.Quiet.{Quiet}
 use Rattle.wb_desk.specs.Desks.{DeskState}
 use Rattle.wb_desk.specs.Opening.{opened, threshold_of}
@@ -92,16 +93,17 @@ pub as_many : (crew : CrewState) (a : ℕ) (steps : List CellStep) → length (c
 as_many crew a [] = refl
 as_many crew a (step ∷ steps) = as_many (crew_after crew a step) a steps ∙ length-set crew.cards a (card_after crew.words step (card_of crew a))
 
--- What is made of what was read: the desk has the tree, and the blocks of its entries were sealed.
+-- What is made of what was read: the desk has the tree, and the blocks of its entries were sealed, each with its dirty bit.
 pub made_so : (g : Geometry) (n : ℕ) (asked : Asked) (made : Made) (tree : Mapping) (crew : CrewState) → asked.actor < n
     → made.target.desk ≡ opened g (made.root.generation + 1) tree made.used.items asked.mode made.target.desk.policy (threshold_of None) (count_by is_some made.target.desk.tree.entries)
-    → made.target.crew ≡ crew_by crew asked.actor (sealing_steps made.root.clean 0 tree.entries)
+    → made.target.crew ≡ crew_by crew asked.actor (sealing_steps made.root.clean 0 (with_bits made.dirty tree.entries))
     → crew.words ≡ fresh_words g.origin_blocks → crew.cards ≡ replicate n blank_card → crew.blocks ≡ g.origin_blocks → made.target.failed ≡ false → made.target.commit ≡ None → made.members.items ≡ replicate n free → IsMade g n asked made
 made_so g n asked made tree crew h desk sealed fresh cards blocks failed commit members =
-    let seals = sealing_steps made.root.clean 0 tree.entries in
+    let entries = with_bits made.dirty tree.entries in
+    let seals = sealing_steps made.root.clean 0 entries in
     let words = fresh_words g.origin_blocks in
     let same : made.target.desk.tree ≡ tree = ap (λ (d : DeskState Quiet). d.tree) desk in
-    let steps : seals ≡ seals_of (read_of made) = ap (λ (t : Mapping). sealing_steps made.root.clean 0 t.entries) (sym same) in
+    let steps : seals ≡ seals_of (read_of made) = ap (λ (t : Mapping). sealing_steps made.root.clean 0 (with_bits made.dirty t.entries)) (sym same) in
     let words_so : made.target.crew.words ≡ words_by words seals = ap (λ (k : CrewState). k.words) sealed ∙ words_come crew asked.actor seals ∙ ap (λ (w : Words). words_by w seals) fresh in
     let blank : card_of crew asked.actor ≡ blank_card = ap (λ (cs : List Card). get_or cs asked.actor blank_card) cards ∙ get_or-replicate n asked.actor blank_card blank_card h in
     let there : asked.actor < length crew.cards = subst (λ k. asked.actor < k) (sym (ap length cards ∙ length-replicate n blank_card)) h in
@@ -114,7 +116,7 @@ made_so g n asked made tree crew h desk sealed fresh cards blocks failed commit 
           ∙ ap (λ (cs : List Card). slice_set cs asked.actor (card_by words blank_card seals)) cards
           ∙ ap (λ (ss : List CellStep). slice_set (replicate n blank_card) asked.actor (card_by words blank_card ss)) steps;
       blocks_are = ap (λ (k : CrewState). k.blocks) sealed ∙ blocks_stay crew asked.actor seals ∙ blocks;
-      failed_is = failed ∙ sym (ap (λ (w : Words). flag w.fail) words_so ∙ ap flag (fail_stays words made.root.clean 0 tree.entries));
+      failed_is = failed ∙ sym (ap (λ (w : Words). flag w.fail) words_so ∙ ap flag (fail_stays words made.root.clean 0 entries));
       commit_is = commit;
       members_are = members;
     }

@@ -1,7 +1,8 @@
 -- What an event does over a target that stands is what wb_promise says.
 use Rattle.std.proofs.Common.{◌≡◌, ◌≤◌, inl, inr, ℕ, zero, suc, Bool, true, false, List, [], ◌∷◌, Option, Some, None, refl, sym, ap, subst, ◌∙◌, if◌then◌else◌, slice_get, slice_set, slice_index_or, length, length-set, replicate, is_none, arith}
 use Rattle.std.specs.declared.alloc.Global.{Global}
-use Rattle.wb_types.specs.Limits.{node_count}
+use Rattle.wb_types.specs.declared.geometry.Geometry.{Geometry}
+use Rattle.wb_types.specs.Limits.{most_nodes}
 use Rattle.wb_types.specs.declared.mode.Dev.TheVariants.{Metadata, Cache, Origin}
 use Rattle.wb_types.specs.declared.number.OBlock.{OBlock}
 use Rattle.wb_types.specs.declared.number.CBlock.{CBlock}
@@ -460,7 +461,7 @@ start_sizes shape desk m job what desk' m' s = by_test (is_none m.task) s
     by_what what chosen l = absurd l
 
     by_test : (b : Bool) → StartsIf b shape desk m job what desk' m' → desk'.geometry ≡ desk.geometry
-    by_test true g = by_what what g.chosen g.leaves
+    by_test true p = by_what what p.chosen p.leaves
     by_test false p = ap (λ (k : DeskState Quiet). k.geometry) p.desk_is
 
 -- ---- who commits allows as many nodes as an image may have, and who suspends has a bit for each cache block
@@ -484,77 +485,77 @@ bits_then next got seen (Open mode) = refl
 bits_then next got seen (Migrate migration block) = refl
 bits_then next got seen (Replace old new) = refl
 
-allowed_by : (cache_blocks : ℕ) (seen seen' : List Bool) (job : TaskJob) → length seen' ≡ length seen → AllowsImages cache_blocks seen job → AllowsImages cache_blocks seen' job
-allowed_by cache_blocks seen seen' (OnBlock job) e r = tt
-allowed_by cache_blocks seen seen' (Flushing serves most) e r = r
-allowed_by cache_blocks seen seen' (Suspending looks most) e r = (r.0, e ∙ r.1)
-allowed_by cache_blocks seen seen' (Opening left) e r = tt
+allowed_by : (g : Geometry) (seen seen' : List Bool) (job : TaskJob) → length seen' ≡ length seen → AllowsImages g seen job → AllowsImages g seen' job
+allowed_by g seen seen' (OnBlock job) e r = tt
+allowed_by g seen seen' (Flushing serves most) e r = r
+allowed_by g seen seen' (Suspending looks most) e r = (r.0, e ∙ r.1)
+allowed_by g seen seen' (Opening left) e r = tt
 
-allowed_then : (cache_blocks : ℕ) (seen seen' : List Bool) (doing : Job × Plan) (got : Got) → length seen' ≡ length seen → AllowsImages cache_blocks seen doing.1.job → AllowsImages cache_blocks seen' (after doing.1 got).job
-allowed_then cache_blocks seen seen' doing got e r = subst (λ (job : TaskJob). AllowsImages cache_blocks seen' job) (sym (job_stays doing.1 got)) (allowed_by cache_blocks seen seen' doing.1.job e r)
+allowed_then : (g : Geometry) (seen seen' : List Bool) (doing : Job × Plan) (got : Got) → length seen' ≡ length seen → AllowsImages g seen doing.1.job → AllowsImages g seen' (after doing.1 got).job
+allowed_then g seen seen' doing got e r = subst (λ (job : TaskJob). AllowsImages g seen' job) (sym (job_stays doing.1 got)) (allowed_by g seen seen' doing.1.job e r)
 
-room_then : (cache_blocks : ℕ) (seen seen' : List Bool) (doing : Job × Plan) (next : Want) (got : Got) → length seen' ≡ length seen → IsTaskRoomy cache_blocks seen (Some doing) → IsTaskRoomy cache_blocks seen' (task_then (Some doing) next got)
-room_then cache_blocks seen seen' doing (Cell step) got e r = allowed_then cache_blocks seen seen' doing got e r
-room_then cache_blocks seen seen' doing (Device step) got e r = allowed_then cache_blocks seen seen' doing got e r
-room_then cache_blocks seen seen' doing (Desk step) got e r = allowed_then cache_blocks seen seen' doing got e r
-room_then cache_blocks seen seen' doing (End answer) got e r = tt
+room_then : (g : Geometry) (seen seen' : List Bool) (doing : Job × Plan) (next : Want) (got : Got) → length seen' ≡ length seen → IsTaskRoomy g seen (Some doing) → IsTaskRoomy g seen' (task_then (Some doing) next got)
+room_then g seen seen' doing (Cell step) got e r = allowed_then g seen seen' doing got e r
+room_then g seen seen' doing (Device step) got e r = allowed_then g seen seen' doing got e r
+room_then g seen seen' doing (Desk step) got e r = allowed_then g seen seen' doing got e r
+room_then g seen seen' doing (End answer) got e r = tt
 
 -- so it is after a step of who is at a task
-roomy_then : (cache_blocks : ℕ) (devices : Devices (List History)) (share : Share) (m : Member) (doing : Job × Plan) (next : Want) (got : Got) → m.task ≡ Some doing → IsRoomy cache_blocks m → IsRoomy cache_blocks (member_then devices share m next got)
-roomy_then cache_blocks devices share m doing next got e r =
-    let was = subst (λ (k : Option (Job × Plan)). IsTaskRoomy cache_blocks m.seen k) e r in
-    subst (λ (k : Option (Job × Plan)). IsTaskRoomy cache_blocks (seen_then m.seen next got (job_of k)) (task_then k next got)) (sym e)
-    (room_then cache_blocks m.seen (seen_then m.seen next got doing.0) doing next got (bits_then next got m.seen doing.0) was)
+roomy_then : (g : Geometry) (devices : Devices (List History)) (share : Share) (m : Member) (doing : Job × Plan) (next : Want) (got : Got) → m.task ≡ Some doing → IsRoomy g m → IsRoomy g (member_then devices share m next got)
+roomy_then g devices share m doing next got e r =
+    let was = subst (λ (k : Option (Job × Plan)). IsTaskRoomy g m.seen k) e r in
+    subst (λ (k : Option (Job × Plan)). IsTaskRoomy g (seen_then m.seen next got (job_of k)) (task_then k next got)) (sym e)
+    (room_then g m.seen (seen_then m.seen next got doing.0) doing next got (bits_then next got m.seen doing.0) was)
 
-pub step_roomy : (cache_blocks : ℕ) (devices : Devices (List History)) (t : Target) (a : ℕ) (m : Member) (what : What) (read : List Bytes) (devices' : Devices (List History)) (t' : Target) (m' : Member) → IsRoomy cache_blocks m → Steps devices t a m what read devices' t' m' → IsRoomy cache_blocks m'
-step_roomy cache_blocks devices t a m what read devices' t' m' r s = by_task m.task refl s
+pub step_roomy : (g : Geometry) (devices : Devices (List History)) (t : Target) (a : ℕ) (m : Member) (what : What) (read : List Bytes) (devices' : Devices (List History)) (t' : Target) (m' : Member) → IsRoomy g m → Steps devices t a m what read devices' t' m' → IsRoomy g m'
+step_roomy g devices t a m what read devices' t' m' r s = by_task m.task refl s
   where
-    by_task : (o : Option (Job × Plan)) → m.task ≡ o → MemberSteps devices t a m o what read devices' t' m' → IsRoomy cache_blocks m'
-    by_task None e s = subst (λ (v : Member). IsRoomy cache_blocks v) (sym s.member_is) r
-    by_task (Some doing) e (inl s) = subst (λ (v : Member). IsRoomy cache_blocks v) (sym s.1.member_is) r
-    by_task (Some doing) e (inr s) = subst (λ (v : Member). IsRoomy cache_blocks v) (sym s.member_is) (roomy_then cache_blocks devices (share_after t.desk m.share (want doing.1) s.got) m doing (want doing.1) s.got e r)
+    by_task : (o : Option (Job × Plan)) → m.task ≡ o → MemberSteps devices t a m o what read devices' t' m' → IsRoomy g m'
+    by_task None e s = subst (λ (v : Member). IsRoomy g v) (sym s.member_is) r
+    by_task (Some doing) e (inl s) = subst (λ (v : Member). IsRoomy g v) (sym s.1.member_is) r
+    by_task (Some doing) e (inr s) = subst (λ (v : Member). IsRoomy g v) (sym s.member_is) (roomy_then g devices (share_after t.desk m.share (want doing.1) s.got) m doing (want doing.1) s.got e r)
 
-pub fault_roomy : (cache_blocks : ℕ) (choice : Choice) (devices : Devices (List History)) (commit : Option RunningCommit) (m : Member) (what : What) (devices' : Devices (List History)) (commit' : Option RunningCommit) (m' : Member) → IsRoomy cache_blocks m → FailsOrRests choice devices commit m what devices' commit' m' → IsRoomy cache_blocks m'
-fault_roomy cache_blocks choice devices commit m what devices' commit' m' r f = by_task m.task refl f
+pub fault_roomy : (g : Geometry) (choice : Choice) (devices : Devices (List History)) (commit : Option RunningCommit) (m : Member) (what : What) (devices' : Devices (List History)) (commit' : Option RunningCommit) (m' : Member) → IsRoomy g m → FailsOrRests choice devices commit m what devices' commit' m' → IsRoomy g m'
+fault_roomy g choice devices commit m what devices' commit' m' r f = by_task m.task refl f
   where
-    by_task : (o : Option (Job × Plan)) → m.task ≡ o → MemberFails choice devices commit m o what devices' commit' m' → IsRoomy cache_blocks m'
-    by_task None e f = subst (λ (v : Member). IsRoomy cache_blocks v) (sym f.member_is) r
-    by_task (Some doing) e (inl f) = subst (λ (v : Member). IsRoomy cache_blocks v) (sym f.member_is) (roomy_then cache_blocks devices m.share m doing (want doing.1) Fault e r)
-    by_task (Some doing) e (inr f) = subst (λ (v : Member). IsRoomy cache_blocks v) (sym f.0.member_is) r
+    by_task : (o : Option (Job × Plan)) → m.task ≡ o → MemberFails choice devices commit m o what devices' commit' m' → IsRoomy g m'
+    by_task None e f = subst (λ (v : Member). IsRoomy g v) (sym f.member_is) r
+    by_task (Some doing) e (inl f) = subst (λ (v : Member). IsRoomy g v) (sym f.member_is) (roomy_then g devices m.share m doing (want doing.1) Fault e r)
+    by_task (Some doing) e (inr f) = subst (λ (v : Member). IsRoomy g v) (sym f.0.member_is) r
 
 no_more : (n : ℕ) → n ≤ n
 no_more n = omega arith
 
-pub given_roomy : (shape : Shape) (mode : Mode) (m : Member) (job : Job) (chosen : Chosen Quiet Global) → IsRoomy shape.geometry.cache_blocks (member_given shape mode m job chosen)
+pub given_roomy : (shape : Shape) (mode : Mode) (m : Member) (job : Job) (chosen : Chosen Quiet Global) → IsRoomy shape.geometry (member_given shape mode m job chosen)
 given_roomy shape mode m (Read extent) chosen = tt
 given_roomy shape mode m (Write extent content) chosen = tt
 given_roomy shape mode m (Invalidate block) chosen = tt
-given_roomy shape mode m Flush chosen = no_more (node_count shape.geometry.cache_blocks)
-given_roomy shape mode m Suspend chosen = (no_more (node_count shape.geometry.cache_blocks), length_replicate shape.geometry.cache_blocks false)
+given_roomy shape mode m Flush chosen = no_more (most_nodes shape.geometry.version false shape.geometry.cache_blocks)
+given_roomy shape mode m Suspend chosen = (no_more (most_nodes shape.geometry.version true shape.geometry.cache_blocks), length_replicate shape.geometry.cache_blocks false)
 given_roomy shape mode m (Open opened_in) chosen = tt
 given_roomy shape mode m (Migrate migration block) chosen = tt
 given_roomy shape mode m (Replace old new) chosen = tt
 
-pub start_roomy : (shape : Shape) (desk : DeskState Quiet) (m : Member) (job : Job) (what : What) (desk' : DeskState Quiet) (m' : Member) → IsRoomy shape.geometry.cache_blocks m → Starts shape desk m job what desk' m' → IsRoomy shape.geometry.cache_blocks m'
+pub start_roomy : (shape : Shape) (desk : DeskState Quiet) (m : Member) (job : Job) (what : What) (desk' : DeskState Quiet) (m' : Member) → IsRoomy shape.geometry m → Starts shape desk m job what desk' m' → IsRoomy shape.geometry m'
 start_roomy shape desk m job what desk' m' r s = by_test (is_none m.task) s
   where
-    by_what : (what : What) (chosen : Chosen Quiet Global) → LeavesStarted shape desk m job what chosen desk' m' → IsRoomy shape.geometry.cache_blocks m'
-    by_what Started chosen l = subst (λ (v : Member). IsRoomy shape.geometry.cache_blocks v) (sym l.1) (given_roomy shape desk.mode m job chosen)
-    by_what (Refused refusal) chosen l = subst (λ (v : Member). IsRoomy shape.geometry.cache_blocks v) (sym l.1) r
+    by_what : (what : What) (chosen : Chosen Quiet Global) → LeavesStarted shape desk m job what chosen desk' m' → IsRoomy shape.geometry m'
+    by_what Started chosen l = subst (λ (v : Member). IsRoomy shape.geometry v) (sym l.1) (given_roomy shape desk.mode m job chosen)
+    by_what (Refused refusal) chosen l = subst (λ (v : Member). IsRoomy shape.geometry v) (sym l.1) r
     by_what what chosen l = absurd l
 
-    by_test : (b : Bool) → StartsIf b shape desk m job what desk' m' → IsRoomy shape.geometry.cache_blocks m'
-    by_test true g = by_what what g.chosen g.leaves
-    by_test false p = subst (λ (v : Member). IsRoomy shape.geometry.cache_blocks v) (sym p.member_is) r
+    by_test : (b : Bool) → StartsIf b shape desk m job what desk' m' → IsRoomy shape.geometry m'
+    by_test true p = by_what what p.chosen p.leaves
+    by_test false p = subst (λ (v : Member). IsRoomy shape.geometry v) (sym p.member_is) r
 
-pub roomy_set : (cache_blocks : ℕ) (members : List Member) (a : ℕ) (m : Member) → AllRoomy cache_blocks members → IsRoomy cache_blocks m → AllRoomy cache_blocks (slice_set members a m)
-roomy_set cache_blocks [] a m all r b x e = absurd (cc)
-roomy_set cache_blocks (y ∷ ys) zero m all r zero x e = let same : m ≡ x = cc in subst (λ (v : Member). IsRoomy cache_blocks v) same r
-roomy_set cache_blocks (y ∷ ys) zero m all r (suc b) x e = all (suc b) x e
-roomy_set cache_blocks (y ∷ ys) (suc a) m all r zero x e = all zero x e
-roomy_set cache_blocks (y ∷ ys) (suc a) m all r (suc b) x e = roomy_set cache_blocks ys a m (λ c z h. all (suc c) z h) r b x e
+pub roomy_set : (g : Geometry) (members : List Member) (a : ℕ) (m : Member) → AllRoomy g members → IsRoomy g m → AllRoomy g (slice_set members a m)
+roomy_set g [] a m all r b x e = absurd (cc)
+roomy_set g (y ∷ ys) zero m all r zero x e = let same : m ≡ x = cc in subst (λ (v : Member). IsRoomy g v) same r
+roomy_set g (y ∷ ys) zero m all r (suc b) x e = all (suc b) x e
+roomy_set g (y ∷ ys) (suc a) m all r zero x e = all zero x e
+roomy_set g (y ∷ ys) (suc a) m all r (suc b) x e = roomy_set g ys a m (λ c z h. all (suc c) z h) r b x e
 
-pub roomy_free : (cache_blocks n : ℕ) → AllRoomy cache_blocks (replicate n free)
-roomy_free cache_blocks zero b x e = absurd (cc)
-roomy_free cache_blocks (suc n) zero x e = let same : free ≡ x = cc in subst (λ (v : Member). IsRoomy cache_blocks v) same tt
-roomy_free cache_blocks (suc n) (suc b) x e = roomy_free cache_blocks n b x e
+pub roomy_free : (g : Geometry) (n : ℕ) → AllRoomy g (replicate n free)
+roomy_free g zero b x e = absurd (cc)
+roomy_free g (suc n) zero x e = let same : free ≡ x = cc in subst (λ (v : Member). IsRoomy g v) same tt
+roomy_free g (suc n) (suc b) x e = roomy_free g n b x e

@@ -262,7 +262,7 @@ module _ (mode : Mode) (g : Geometry) (left : ℕ) (was : ReadSteps Global) (dev
   all_read (AllRead state) on is fits root = record {
     state = state;
     reading_is = is;
-    fits = on;
+    fits = on.0;
     geometry = fits state.root refl;
     next = root.next;
     commit_is = root.commit_is;
@@ -271,7 +271,7 @@ module _ (mode : Mode) (g : Geometry) (left : ℕ) (was : ReadSteps Global) (dev
   }
   all_read (Begun alloc global) on is fits root = absurd root.is_done
   all_read (FirstSlotRead alloc global first) on is fits root = absurd root.is_done
-  all_read (RootFound global known loader) on is fits root = absurd root.is_done
+  all_read (RootFound global known loader nodes) on is fits root = absurd root.is_done
 
   goes_more : (n : ℕ) (a : Asked) (other : Got) → (now : ReadSteps Global) → AreStepsOn g.meta_sectors now → sectors_read now ≡ sectors_read was + 1 → (other ≡ More → ¬ IsDone now) → HasCome g left now None other after' commit' → (other ≡ Fault → ⊥) → (made : Option Made) → MadeBy g n other a made → Goes g n a (AtRead left) other after' commit' made
   goes_more n a More now on one more come fault made is = more_on n a now on one (more refl) come.0 come.1 come.3 made is
@@ -311,7 +311,7 @@ module _ (mode : Mode) (g : Geometry) (left : ℕ) (was : ReadSteps Global) (dev
   fitting (AllRead state) done sectors read = record { root = state.root; newest = read.represents.newest; size = read.size }
   fitting (Begun alloc global) done sectors read = absurd done
   fitting (FirstSlotRead alloc global first) done sectors read = absurd done
-  fitting (RootFound global known loader) done sectors read = absurd done
+  fitting (RootFound global known loader nodes) done sectors read = absurd done
 
   -- where all was read, the opening may be refused for want of memory
   pub wants_memory : got ≡ Done → DidTell mode g g.meta_sectors left was device None (Refused Memory) None None

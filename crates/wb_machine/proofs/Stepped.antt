@@ -1,5 +1,6 @@
 -- What a member is after a step on its job, by the parts that the step changes.
 use Rattle.std.proofs.Common.{◌≡◌, ◌∙◌, inr, ℕ, Bool, true, false, List, [], Option, Some, None, refl, sym, ap, subst, ◌≢◌, Vec, arith}
+use Rattle.wb_types.specs.declared.geometry.Geometry.{Geometry}
 use Rattle.wb_disk.specs.Device.{Content as Bytes, History}
 use Rattle.wb_devices.specs.declared.devices.Devices.{Devices}
 use Rattle.wb_policy.specs.declared.order.Order.{Order}
@@ -113,16 +114,16 @@ module _ (devices : Devices (List History)) (old : Target) (a : ℕ) (m : Member
 
 -- ---- what a step of a task asks for
 
-allows_next : (cache_blocks : ℕ) (seen : List Bool) (job : TaskJob) (next : Want) → IsOwnStep job next → AllowsImages cache_blocks seen job → Allows cache_blocks seen next
-allows_next cache_blocks seen job (Cell step) own a = tt
-allows_next cache_blocks seen job (Device step) own a = tt
-allows_next cache_blocks seen job (Desk (Map block place)) own a = tt
-allows_next cache_blocks seen job (Desk (Unmap block)) own a = tt
-allows_next cache_blocks seen job (Desk (ReleaseOrder block)) own a = tt
-allows_next cache_blocks seen job (Desk EndCommit) own a = tt
-allows_next cache_blocks seen job (Desk BreakCommit) own a = tt
-allows_next cache_blocks seen job (End answer) own a = tt
-allows_next cache_blocks seen (OnBlock job) (Desk (Arrive most)) own a = absurd (no_arrival job most own)
+allows_next : (g : Geometry) (seen : List Bool) (job : TaskJob) (next : Want) → IsOwnStep job next → AllowsImages g seen job → Allows g seen next
+allows_next g seen job (Cell step) own a = tt
+allows_next g seen job (Device step) own a = tt
+allows_next g seen job (Desk (Map block place)) own a = tt
+allows_next g seen job (Desk (Unmap block)) own a = tt
+allows_next g seen job (Desk (ReleaseOrder block)) own a = tt
+allows_next g seen job (Desk EndCommit) own a = tt
+allows_next g seen job (Desk BreakCommit) own a = tt
+allows_next g seen job (End answer) own a = tt
+allows_next g seen (OnBlock job) (Desk (Arrive most)) own a = absurd (no_arrival job most own)
   where
     no_arrival : (job : BlockJob) (most : ℕ) → IsAsked job (Arrive most) → ⊥
     no_arrival (Reading part) most asked = asked
@@ -130,7 +131,7 @@ allows_next cache_blocks seen (OnBlock job) (Desk (Arrive most)) own a = absurd 
     no_arrival (Displacing part) most asked = asked
     no_arrival (Invalidating part) most asked = asked
     no_arrival (Migrating migration part) most asked = asked
-allows_next cache_blocks seen (OnBlock job) (Desk (Ask most)) own a = absurd (no_asking job most own)
+allows_next g seen (OnBlock job) (Desk (Ask most)) own a = absurd (no_asking job most own)
   where
     no_asking : (job : BlockJob) (most : ℕ) → IsAsked job (Ask most) → ⊥
     no_asking (Reading part) most asked = asked
@@ -138,7 +139,7 @@ allows_next cache_blocks seen (OnBlock job) (Desk (Ask most)) own a = absurd (no
     no_asking (Displacing part) most asked = asked
     no_asking (Invalidating part) most asked = asked
     no_asking (Migrating migration part) most asked = asked
-allows_next cache_blocks seen (OnBlock job) (Desk (BeginCommit most)) own a = absurd (no_commit job most own)
+allows_next g seen (OnBlock job) (Desk (BeginCommit most)) own a = absurd (no_commit job most own)
   where
     no_commit : (job : BlockJob) (most : ℕ) → IsAsked job (BeginCommit most) → ⊥
     no_commit (Reading part) most asked = asked
@@ -146,16 +147,16 @@ allows_next cache_blocks seen (OnBlock job) (Desk (BeginCommit most)) own a = ab
     no_commit (Displacing part) most asked = asked
     no_commit (Invalidating part) most asked = asked
     no_commit (Migrating migration part) most asked = asked
-allows_next cache_blocks seen (Flushing serves bound) (Desk (Arrive most)) own a = omega (arith, own, a)
-allows_next cache_blocks seen (Flushing serves bound) (Desk (Ask most)) own a = omega (arith, own, a)
-allows_next cache_blocks seen (Flushing serves bound) (Desk (BeginCommit most)) own a = absurd own
-allows_next cache_blocks seen (Suspending blocks bound) (Desk (Arrive most)) own a = absurd own
-allows_next cache_blocks seen (Suspending blocks bound) (Desk (Ask most)) own a = absurd own
-allows_next cache_blocks seen (Suspending blocks bound) (Desk (BeginCommit most)) own a = let enough = a.0 in (omega (arith, own, enough), a.1)
-allows_next cache_blocks seen (Opening left) (Desk (Arrive most)) own a = absurd own
-allows_next cache_blocks seen (Opening left) (Desk (Ask most)) own a = absurd own
-allows_next cache_blocks seen (Opening left) (Desk (BeginCommit most)) own a = absurd own
+allows_next g seen (Flushing serves bound) (Desk (Arrive most)) own a = omega (arith, own, a)
+allows_next g seen (Flushing serves bound) (Desk (Ask most)) own a = omega (arith, own, a)
+allows_next g seen (Flushing serves bound) (Desk (BeginCommit most)) own a = absurd own
+allows_next g seen (Suspending blocks bound) (Desk (Arrive most)) own a = absurd own
+allows_next g seen (Suspending blocks bound) (Desk (Ask most)) own a = absurd own
+allows_next g seen (Suspending blocks bound) (Desk (BeginCommit most)) own a = let enough = a.0 in (omega (arith, own, enough), a.1)
+allows_next g seen (Opening left) (Desk (Arrive most)) own a = absurd own
+allows_next g seen (Opening left) (Desk (Ask most)) own a = absurd own
+allows_next g seen (Opening left) (Desk (BeginCommit most)) own a = absurd own
 
 -- who commits asks for as many nodes as its job allows
-pub allows : (blocks cache_blocks : ℕ) (seen : List Bool) (plan : Plan) (card : Card) → Suits blocks plan card → AllowsImages cache_blocks seen plan.job → Allows cache_blocks seen (want plan)
-allows blocks cache_blocks seen plan card suits a = allows_next cache_blocks seen plan.job (want plan) (is_own_step blocks plan card suits) a
+pub allows : (blocks : ℕ) (g : Geometry) (seen : List Bool) (plan : Plan) (card : Card) → Suits blocks plan card → AllowsImages g seen plan.job → Allows g seen (want plan)
+allows blocks g seen plan card suits a = allows_next g seen plan.job (want plan) (is_own_step blocks plan card suits) a

@@ -30,11 +30,11 @@ either (Ok x) Did Kept P f g did kept = f x did
 either (Err e) Did Kept P f g did kept = g kept
 
 -- it leaves each of the members roomy
-pub suspend_roomy : (shape : Shape) (desk : DeskState Quiet) (members : List Member) (a : ℕ) (what : What) (members' : List Member) → AllRoomy shape.geometry.cache_blocks members → StartsSuspend shape desk members a what members' → AllRoomy shape.geometry.cache_blocks members'
-suspend_roomy shape desk members a Skipped members' all s = subst (λ (ms : List Member). AllRoomy shape.geometry.cache_blocks ms) (sym s.1) all
-suspend_roomy shape desk members a (Refused Busy) members' all s = subst (λ (ms : List Member). AllRoomy shape.geometry.cache_blocks ms) (sym s.2) all
+pub suspend_roomy : (shape : Shape) (desk : DeskState Quiet) (members : List Member) (a : ℕ) (what : What) (members' : List Member) → AllRoomy shape.geometry members → StartsSuspend shape desk members a what members' → AllRoomy shape.geometry members'
+suspend_roomy shape desk members a Skipped members' all s = subst (λ (ms : List Member). AllRoomy shape.geometry ms) (sym s.1) all
+suspend_roomy shape desk members a (Refused Busy) members' all s = subst (λ (ms : List Member). AllRoomy shape.geometry ms) (sym s.2) all
 suspend_roomy shape desk members a Started members' all s =
-    subst (λ (ms : List Member). AllRoomy shape.geometry.cache_blocks ms) (sym s.1.2.2) (roomy_set shape.geometry.cache_blocks members a _ all (given_roomy shape desk.mode s.1.2.0 Suspend (Looks s.1.0)))
+    subst (λ (ms : List Member). AllRoomy shape.geometry ms) (sym s.1.2.2) (roomy_set shape.geometry members a _ all (given_roomy shape desk.mode s.1.2.0 Suspend (Looks s.1.0)))
 suspend_roomy shape desk members a what members' all s = absurd s
 
 pub suspend_length : (shape : Shape) (desk : DeskState Quiet) (members : List Member) (a : ℕ) (what : What) (members' : List Member) → StartsSuspend shape desk members a what members' → length members' ≡ length members

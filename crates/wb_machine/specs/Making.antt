@@ -42,7 +42,7 @@ AllFree crew = (block : OBlock) → word_at crew.words.cells block ≡ 0
 
 -- what was read
 abbrev pub read_of : Made → Stored Global
-read_of made = record { root = made.root; tree = made.target.desk.tree; used = made.used }
+read_of made = record { root = made.root; tree = made.target.desk.tree; dirty = made.dirty; used = made.used; nodes = made.nodes }
 
 -- how far the reading of an opening has come: as what was made shows it, once it was
 abbrev pub reading_by : Option Made → Option (ReadSteps Global) → Option (ReadSteps Global)

@@ -2,7 +2,7 @@
 use Rattle.std.specs.Prelude.{◌≡◌, ◌≤◌, ◌+◌, ◌⊎◌, ℕ, Bool, true, false, if◌then◌else◌, length, List, [], ◌∷◌, Option, Some, None, is_none, is_some, slice_get, slice_set, IfSome}
 use Rattle.std.specs.declared.alloc.Global.{Global}
 use Rattle.wb_types.specs.Extents.{pieces}
-use Rattle.wb_types.specs.Limits.{node_count}
+use Rattle.wb_types.specs.Limits.{most_nodes}
 use Rattle.wb_types.specs.declared.entry.Entry.{Entry}
 use Rattle.wb_types.specs.declared.extent.Extent.{Extent}
 use Rattle.wb_types.specs.declared.geometry.Geometry.{Geometry}
@@ -274,11 +274,11 @@ IsPossible devices commit job (End Finished) = ¬ Opens job
 IsPossible devices commit job next = Unit {0}
 
 -- A commit that begins may have an image of as many nodes as so many cache blocks have, and that of a suspend has a bit for each.
-abbrev pub Allows : ℕ → List Bool → Want → Type 0
-Allows cache_blocks seen (Desk (Arrive most)) = node_count cache_blocks ≤ most
-Allows cache_blocks seen (Desk (Ask most)) = node_count cache_blocks ≤ most
-Allows cache_blocks seen (Desk (BeginCommit most)) = (node_count cache_blocks ≤ most) × (length seen ≡ cache_blocks)
-Allows cache_blocks seen next = Unit {0}
+abbrev pub Allows : Geometry → List Bool → Want → Type 0
+Allows g seen (Desk (Arrive most)) = most_nodes g.version false g.cache_blocks ≤ most
+Allows g seen (Desk (Ask most)) = most_nodes g.version false g.cache_blocks ≤ most
+Allows g seen (Desk (BeginCommit most)) = (most_nodes g.version true g.cache_blocks ≤ most) × (length seen ≡ g.cache_blocks)
+Allows g seen next = Unit {0}
 
 -- what stands over these devices, with this commit, and these actors
 abbrev pub stood : Devices (List History) → Option RunningCommit → RunTarget Quiet → List Actor → Now

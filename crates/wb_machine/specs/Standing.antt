@@ -1,7 +1,7 @@
 -- Where an opening of the machine stands in its table, and how far its reading has come there.
-use Rattle.std.specs.Prelude.{◌≡◌, ◌≤◌, ◌+◌, ℕ, Bool, List, Option, Some, None, length, slice_get}
+use Rattle.std.specs.Prelude.{◌≡◌, ◌≤◌, ◌+◌, ℕ, Bool, true, false, List, Option, Some, None, length, slice_get}
 use Rattle.std.specs.declared.alloc.Global.{Global}
-use Rattle.wb_types.specs.Limits.{node_count}
+use Rattle.wb_types.specs.Limits.{most_nodes}
 use Rattle.wb_types.specs.declared.geometry.Geometry.{Geometry}
 use Rattle.wb_disk.specs.Memory.{Memory}
 use Rattle.wb_meta.specs.Openings.{IsOpening}
@@ -73,21 +73,21 @@ pub record StandsAt (g : Geometry) (actors : ℕ) (o : Opener) : Type 0 where
   pub come : HasComeTo g point (reading_of o) o.opening.commit
   pub made : HasMadeThere g actors point o.asked o.made
 
--- Of so many cache blocks a flush or a suspend allows as many nodes as an image may have, and a suspend has a bit for each.
-abbrev pub AllowsImages : ℕ → List Bool → TaskJob → Type 0
-AllowsImages cache_blocks seen (Flushing serves most) = node_count cache_blocks ≤ most
-AllowsImages cache_blocks seen (Suspending looks most) = (node_count cache_blocks ≤ most) × (length seen ≡ cache_blocks)
-AllowsImages cache_blocks seen job = Unit {0}
+-- A flush, and a suspend, whose image is clean, allows as many nodes as its image may have, and a suspend has a bit for each cache block.
+abbrev pub AllowsImages : Geometry → List Bool → TaskJob → Type 0
+AllowsImages g seen (Flushing serves most) = most_nodes g.version false g.cache_blocks ≤ most
+AllowsImages g seen (Suspending looks most) = (most_nodes g.version true g.cache_blocks ≤ most) × (length seen ≡ g.cache_blocks)
+AllowsImages g seen job = Unit {0}
 
-abbrev pub IsTaskRoomy : ℕ → List Bool → Option (Job × Plan) → Type 0
-IsTaskRoomy cache_blocks seen None = Unit {0}
-IsTaskRoomy cache_blocks seen (Some doing) = AllowsImages cache_blocks seen doing.1.job
+abbrev pub IsTaskRoomy : Geometry → List Bool → Option (Job × Plan) → Type 0
+IsTaskRoomy g seen None = Unit {0}
+IsTaskRoomy g seen (Some doing) = AllowsImages g seen doing.1.job
 
-abbrev pub IsRoomy : ℕ → Member → Type 0
-IsRoomy cache_blocks m = IsTaskRoomy cache_blocks m.seen m.task
+abbrev pub IsRoomy : Geometry → Member → Type 0
+IsRoomy g m = IsTaskRoomy g m.seen m.task
 
-abbrev pub AllRoomy : ℕ → List Member → Type 0
-AllRoomy cache_blocks members = (a : ℕ) (m : Member) → slice_get members a ≡ Some m → IsRoomy cache_blocks m
+abbrev pub AllRoomy : Geometry → List Member → Type 0
+AllRoomy g members = (a : ℕ) (m : Member) → slice_get members a ≡ Some m → IsRoomy g m
 
 -- A target has as many words as the origin has blocks, knows whether it has failed, and its desk is of this geometry; whoever
 -- flushes or suspends it allows as many nodes as an image may have, and a suspend has a bit for each cache block.
@@ -95,7 +95,7 @@ pub record IsWholeTarget (g : Geometry) (target : Target) (members : List Member
   pub blocks : target.crew.blocks ≡ g.origin_blocks
   pub failed : target.failed ≡ flag target.crew.words.fail
   pub sizes : target.desk.geometry ≡ g
-  pub roomy : AllRoomy g.cache_blocks members
+  pub roomy : AllRoomy g members
 
 abbrev pub StandsSo : Geometry → ℕ → Phase → Type 0
 StandsSo g actors Closed = Unit {0}

@@ -8,7 +8,7 @@ ghost use Rattle.wb_tasks.specs.declared.step.Want.TheVariants.{Desk as OnDesk};
 ghost use Rattle.std.specs.Bool.{OnTrue, OnFalse};
 ghost use Rattle.wb_stage.specs.Sharing.{MayAskNow, share_then};
 ghost use Rattle.wb_promise.specs.declared.job.Job.{Job};
-ghost use Rattle.wb_promise.specs.Happenings.{AreWhole, Awaits};
+ghost use Rattle.wb_promise.specs.Happenings.{AreWhole, Awaits, IsWholeNode};
 ghost use Rattle.wb_machine.specs.Serving.{Allows, DidAskFor, IsAskable, DeskWasAsked};
 
 use std::alloc::Global;
@@ -31,7 +31,7 @@ pub(crate) fn ask(
     share: &mut Share,
     step: DeskStep,
 ) -> Got
-    requires enough { Allows desk.old.geometry.cache_blocks seen.now (OnDesk step) }
+    requires enough { Allows desk.old.geometry seen.now (OnDesk step) }
     requires goes_on { MayAskNow desk.old share.old step }
     ensures asked { (job : Job) → IsAskable commit.old job step → DeskWasAsked desk.old commit.old job held.now seen.now share.old step result desk.new commit.new }
     ensures kind { Fits (OnDesk step) result }
@@ -55,7 +55,7 @@ fn ask_for(
     share: &mut Share,
     step: DeskStep,
 ) -> Got
-    requires enough { Allows desk.old.geometry.cache_blocks seen.now (OnDesk step) }
+    requires enough { Allows desk.old.geometry seen.now (OnDesk step) }
     requires goes_on { MayAskNow desk.old share.old step }
     ensures did { DidAskFor held.now seen.now share.old step result desk.old commit.old desk.new commit.new }
     ensures kind { Fits (OnDesk step) result }
@@ -78,7 +78,7 @@ pub(crate) fn awaits(desk: &Desk<Quiet>, share: &Share, want: Want) -> bool
     }
 }
 
-/// The image of a commit has nodes with all their words. It does nothing.
+/// The image of a commit has whole nodes. It does nothing.
 fn see_commit(commit: &Option<RunningCommit>)
     ensures { IfSome commit.now (λ running. AreWhole running.image) }
 {
@@ -87,18 +87,18 @@ fn see_commit(commit: &Option<RunningCommit>)
     }
 }
 
-/// Each node has all its words, an array's. It does nothing.
+/// Each node has all its words, and numbers of their types. It does nothing.
 fn see_whole(nodes: &[(Place, Node)])
-    ensures { All (λ (node : PlaceValue × NodeValue). length node.1.words ≡ 32) nodes.now }
+    ensures { All (λ (node : PlaceValue × NodeValue). IsWholeNode node.1) nodes.now }
 {
     for node in nodes {
-        see_words(node.1.words);
+        see_node(node.1);
     }
 }
 
-/// An array has its length.
-fn see_words(words: [u64; 32])
-    ensures { length words ≡ 32 }
+/// A node is whole, as its type has it. It does nothing.
+fn see_node(node: Node)
+    ensures { IsWholeNode node }
 {
-    let _ = words;
+    let _ = node;
 }

@@ -3,7 +3,6 @@
 ghost use Rattle.std.specs.Prelude.{◌≡◌, [], OnOk, OnErr, IfOk, IfErr, slice_get};
 ghost use Rattle.std.specs.declared.alloc.Global.{Global};
 ghost use Rattle.wb_types.specs.declared.refusal.Refusal.TheVariants.{Memory};
-ghost use Rattle.wb_types.specs.declared.version.Version.TheVariants.{One};
 ghost use Rattle.wb_promise.specs.Headline.{shown};
 ghost use Rattle.wb_machine.specs.declared.machine.TheConstants.{ACTORS};
 ghost use Rattle.wb_machine.specs.Life.{GoesOn, Happens, IsReached, IsThere, shape_of, state_of};
@@ -71,7 +70,6 @@ impl Machine {
     /// A machine in which nothing has happened: metadata that were formatted, two devices of zeros, no target, and nobody at work.
     /// `Memory` where there is none for it.
     pub fn new(alloc: Global, geometry: Geometry) -> Result<Machine, Refusal>
-        requires version { geometry.version ≡ One }
         ensures shape { IfOk result (λ m. m.shape ≡ shape_of geometry ACTORS) }
         ensures trace { IfOk result (λ m. m.trace ≡ []) }
         ensures refusal { IfErr result (λ refusal. refusal ≡ Memory) }

@@ -15,18 +15,21 @@ use crate::member::Member;
 use crate::sealing::seal_all;
 use crate::target::Target;
 use std::alloc::{AllocError, Global};
+use wb_bits::BitSet;
 use wb_desk::Desk;
 use wb_format::Root;
 use wb_meta::State;
 use wb_policy::Quiet;
 use wb_types::{Place, Refusal};
 
-/// The target that stands once the opening is answered done, and its actors, which wants no more memory, and the root and the
-/// places that were read; the tree that was read is the desk's.
+/// The target that stands once the opening is answered done, and its actors, which wants no more memory, and what was read
+/// beside the tree, which is the desk's: the root, the dirty bits, the places of the tree's nodes, and how many nodes were read.
 #[derive(Drop)]
 pub struct Made {
     pub root: Root,
+    pub dirty: Option<BitSet>,
     pub used: Vec<Place>,
+    pub nodes: usize,
     pub target: Target,
     pub members: Vec<Member>,
 }
@@ -45,16 +48,23 @@ pub(crate) fn make(
     ensures read { IfOk result (λ made. read_of made ≡ state) }
     ensures refused { IfErr result (λ refusal. refusal ≡ Memory) }
 {
-    let State { root, tree, used } = state;
-    let geometry = root.geometry;
-    let places = copied(alloc, &used)?;
+    let places = copied(alloc, &state.used)?;
     let members = resting_members(alloc)?;
-    let mut crew = KnownCrew::new(alloc, geometry.origin_blocks, ACTORS)?;
-    seal_all(&mut crew, asked.actor, &geometry, root.clean, &tree);
+    let mut crew = KnownCrew::new(alloc, state.root.geometry.origin_blocks, ACTORS)?;
+    seal_all(&mut crew, asked.actor, &state);
+    let State {
+        root,
+        tree,
+        dirty,
+        used,
+        nodes,
+    } = state;
     let state = State {
         root: next,
         tree,
+        dirty: None,
         used: places,
+        nodes,
     };
     let desk = Desk::new(alloc, state, asked.mode, Quiet, &[])?;
     let target = Target {
@@ -65,7 +75,9 @@ pub(crate) fn make(
     };
     Ok(Made {
         root,
+        dirty,
         used,
+        nodes,
         target,
         members,
     })

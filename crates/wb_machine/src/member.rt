@@ -157,7 +157,7 @@ impl Member {
     {
         let looks = mapped_blocks(alloc, desk)?;
         let bits = no_bits(alloc, geometry.cache_blocks)?;
-        let task = CommitTask::suspend(looks, geometry.node_count());
+        let task = CommitTask::suspend(looks, geometry.most_nodes(true));
         self.task = Some((Job::Suspend, Work::commits(task)));
         self.seen = bits;
         Ok(())
@@ -219,7 +219,7 @@ impl Member {
         requires failed { target.old.failed ≡ flag target.old.crew.words.fail }
         requires suits { TaskSuits target.old.crew.blocks (card_of target.old.crew number) self.old.task }
         requires can { CanStep (contents_of devices.old) target.old.commit self.old.task }
-        requires roomy { IsRoomy target.old.desk.geometry.cache_blocks self.old }
+        requires roomy { IsRoomy target.old.desk.geometry self.old }
         ensures ok { IfOk result (λ done. Steps (contents_of devices.old) target.old number self.old done.what done.read.items (contents_of devices.new) target.new self.new) }
         ensures size { length devices.new.metadata.contents ≡ length devices.old.metadata.contents }
         ensures err { OnErr result ((contents_of devices.new ≡ contents_of devices.old) × (target.new ≡ target.old) × (self.new ≡ self.old)) }

@@ -46,7 +46,7 @@ impl Target {
         requires failed { self.old.failed ≡ flag self.old.crew.words.fail }
         requires ready { MayTake self.old.crew.blocks (card_of self.old.crew actor) want }
         requires possible { IsPossible (contents_of devices.old) self.old.commit job.now want }
-        requires enough { Allows self.old.desk.geometry.cache_blocks seen.now want }
+        requires enough { Allows self.old.desk.geometry seen.now want }
         requires goes_on { ¬ Awaits self.old.desk share.old want }
         ensures ok { IfOk result (λ given. Performs (contents_of devices.old) self.old actor job.now held.now seen.now share.old buffer.now want given.0 given.1.items (contents_of devices.new) self.new) }
         ensures share { IfOk result (λ given. share.new ≡ share_after self.old.desk share.old want given.0) }

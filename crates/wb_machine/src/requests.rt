@@ -122,7 +122,7 @@ pub(crate) fn task_of(
         }
         Job::Flush => {
             let serves = blocks_left(alloc, awaiting)?;
-            Ok(Work::commits(CommitTask::flush(serves, geometry.node_count())))
+            Ok(Work::commits(CommitTask::flush(serves, geometry.most_nodes(false))))
         }
         Job::Invalidate(block) => {
             let task = BlockTask::invalidate(geometry.block, *block);

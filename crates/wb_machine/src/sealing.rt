@@ -5,33 +5,29 @@ ghost use Rattle.wb_tree.specs.Mapping.{IsMapping};
 ghost use Rattle.wb_words.specs.declared.card.Hold.TheVariants.{Nothing};
 ghost use Rattle.wb_words.specs.SharedWords.{word_at};
 ghost use Rattle.wb_cells.specs.Crews.{card_of};
-ghost use Rattle.wb_promise.specs.Effects.{sealing_steps};
+ghost use Rattle.wb_promise.specs.Effects.{seals_of};
 ghost use Rattle.wb_machine.specs.Making.{AllFree, block_seals, crew_by};
 
 use crate::known_crew::KnownCrew;
 use std::alloc::Global;
-use wb_tree::Tree;
-use wb_types::{CBlock, Entry, Geometry, OBlock};
+use wb_devices::stored_entry;
+use wb_meta::State;
+use wb_types::{CBlock, Entry, OBlock};
 use wb_words::{Access, CellStep};
 
-/// An actor that holds nothing seals each mapped block at its place: dirty as its entry says, and each without the clean flag.
-pub(crate) fn seal_all(
-    crew: &mut KnownCrew,
-    actor: usize,
-    geometry: &Geometry,
-    clean: bool,
-    tree: &Tree<Global>,
-)
+/// An actor that holds nothing seals each mapped block at its place: dirty as its entry says, with the bit that was read of it, and each
+/// without the clean flag.
+pub(crate) fn seal_all(crew: &mut KnownCrew, actor: usize, state: &State<Global>)
     requires there { actor < length crew.old.cards }
     requires idle { (card_of crew.old actor).hold ≡ Nothing }
-    requires blocks { crew.old.blocks ≡ geometry.now.origin_blocks }
+    requires blocks { crew.old.blocks ≡ state.now.root.geometry.origin_blocks }
     requires free { AllFree crew.old }
-    requires mapping { IsMapping geometry.now.cache_blocks geometry.now.origin_blocks tree.now.entries }
-    ensures { crew.new ≡ crew_by crew.old actor (sealing_steps clean 0 tree.now.entries) }
+    requires mapping { IsMapping state.now.root.geometry.cache_blocks state.now.root.geometry.origin_blocks state.now.tree.entries }
+    ensures { crew.new ≡ crew_by crew.old actor (seals_of state.now) }
 {
-    for c in 0..geometry.cache_blocks {
-        if let Some(entry) = tree.get(CBlock(c)) {
-            let dirty = counts_as_dirty(clean, entry);
+    for c in 0..state.root.geometry.cache_blocks {
+        if let Some(entry) = stored_entry(state, CBlock(c)) {
+            let dirty = counts_as_dirty(state.root.clean, entry);
             seal(crew, actor, entry.origin, CBlock(c), dirty);
         }
     }

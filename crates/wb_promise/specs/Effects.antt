@@ -17,6 +17,7 @@ use Rattle.wb_words.specs.Effects.{words_after, card_after}
 use Rattle.wb_words.specs.declared.card.Card.{Card}
 use Rattle.wb_words.specs.declared.step.CellStep.{CellStep}
 use Rattle.wb_words.specs.declared.step.CellStep.TheVariants.{Take, Seal, Release}
+use Rattle.wb_devices.specs.Clean.{entries_of}
 use Rattle.wb_meta.specs.Steps.{steps_after}
 use Rattle.wb_meta.specs.declared.read_steps.ReadSteps.{ReadSteps}
 use Rattle.wb_meta.specs.declared.read_steps.ReadSteps.TheVariants.{Done as AllRead}
@@ -124,7 +125,7 @@ commit_then phase old next got chosen = old
 -- ---- the target
 
 abbrev pub begun_desk : {P A : Type 0} → Chosen P A → DeskState P → DeskState P
-begun_desk (Commits commit tree) desk = commit_begun desk tree
+begun_desk (Commits commit tree) desk = commit_begun desk tree commit.image
 begun_desk chosen desk = desk
 
 abbrev pub asked_desk : {P A : Type 0} → Chosen P A → DeskState P → DeskState P
@@ -183,7 +184,7 @@ card_by words card [] = card
 card_by words card (step ∷ steps) = card_by (words_after words step) (card_after words step card) steps
 
 abbrev pub seals_of : {A : Type 0} → Stored A → List CellStep
-seals_of stored = sealing_steps stored.root.clean 0 stored.tree.entries
+seals_of stored = sealing_steps stored.root.clean 0 (entries_of stored)
 
 -- The target over what was read, by a root of the next generation.
 abbrev pub target_over : {P A : Type 0} → Shape → Mode → P → Stored A → Target P

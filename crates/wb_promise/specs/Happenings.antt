@@ -1,6 +1,6 @@
 -- What an event may do in a state.
-use Rattle.std.specs.Prelude.{◌≡◌, ◌≢◌, ◌≤◌, ◌<◌, ◌+◌, ◌-◌, ◌/◌, ◌^◌, ◌&&◌, ◌==◌, ◌⊎◌, ℕ, Bool, true, false, List, [], Option, Some, None, All, Contains, length, map, slice_get, if◌then◌else◌, nat_le, nat_lt}
-use Rattle.wb_types.specs.Limits.{node_count}
+use Rattle.std.specs.Prelude.{◌≡◌, ◌≢◌, ◌≤◌, ◌<◌, ◌+◌, ◌-◌, ◌/◌, ◌^◌, ◌&&◌, ◌==◌, ◌⊎◌, ℕ, Bool, true, false, List, [], Option, Some, None, All, Contains, length, map, slice_get, slice_index, if◌then◌else◌, nat_le, nat_lt}
+use Rattle.wb_types.specs.Limits.{most_nodes}
 use Rattle.wb_types.specs.declared.extent.Extent.{Extent}
 use Rattle.wb_types.specs.declared.geometry.Geometry.{Geometry}
 use Rattle.wb_types.specs.Extents.{IsCutInto}
@@ -135,13 +135,17 @@ abbrev pub write_job : Mode → BlockRange → BlockJob
 write_job Passthrough part = Displacing part
 write_job mode part = Writing part
 
+-- the most nodes of an image of this geometry, clean or not
+abbrev pub most_for : Geometry → Bool → ℕ
+most_for geometry clean = most_nodes geometry.version clean geometry.cache_blocks
+
 -- The task of a job, whose sectors are cut so, or which looks at the seals of these blocks, over a target of this mode. A flush serves the
 -- replacements that wait for it; a replacement begins with the demotion of the block that leaves.
 abbrev pub task_job : Shape → Mode → List Order → Job → List Extent → List OBlock → TaskJob
 task_job shape mode awaiting (Read extent) cut looks = OnBlock (Reading (block_range shape mode extent cut))
 task_job shape mode awaiting (Write extent content) cut looks = OnBlock (write_job mode (block_range shape mode extent cut))
-task_job shape mode awaiting Flush cut looks = Flushing (blocks_left awaiting) (node_count shape.geometry.cache_blocks)
-task_job shape mode awaiting Suspend cut looks = Suspending looks (node_count shape.geometry.cache_blocks)
+task_job shape mode awaiting Flush cut looks = Flushing (blocks_left awaiting) (most_for shape.geometry false)
+task_job shape mode awaiting Suspend cut looks = Suspending looks (most_for shape.geometry true)
 task_job shape mode awaiting (Open opened_in) cut looks = Opening shape.geometry.meta_sectors
 task_job shape mode awaiting (Invalidate block) cut looks = OnBlock (Invalidating (invalidated_range shape block))
 task_job shape mode awaiting (Migrate migration block) cut looks = OnBlock (Migrating migration (migrated_range shape block cut))
@@ -275,15 +279,22 @@ DoesRead {P} {A} mode geometry left was device commit got (Reaches after commit'
     ⊎ ((refusal : Refusal) × IsOfReading refusal × StopsBy was device refusal × (got ≡ got_of_refusal refusal) × (after ≡ None) × (commit' ≡ commit)))
 DoesRead mode geometry left was device commit got chosen = ⊥
 
--- each node of an image has all its words
+-- a node has all its words, and numbers that their bytes hold
+pub record IsWholeNode (node : Node) : Type 0 where
+  pub words : length node.words ≡ 32
+  pub each_word : (j : ℕ) → slice_index node.words j < 2 ^ 64
+  pub index : node.index < 2 ^ 32
+  pub generation : node.generation < 2 ^ 64
+
+-- so has each of an image
 abbrev pub AreWhole : Image → Type 0
-AreWhole image = All (λ (node : Place × Node). length node.1.words ≡ 32) image.nodes.items
+AreWhole image = All (λ (node : Place × Node). IsWholeNode node.1) image.nodes.items
 
 -- A commit begins, of an image of the desk's tree, with at most so many nodes; or the desk refuses it. Where dirty bits were seen its root
--- is marked clean, and the entries have them, and hints, whatever these are.
+-- is marked clean, and what is read of its image has them, and hints, whatever these are.
 abbrev pub DoesBegin : {P A : Type 0} → Option (List Bool) → ℕ → DeskState P → Got → Chosen P A → Type 0
 DoesBegin {P} seen most desk (Began nodes) (Commits commit tree) = (nodes ≤ most) × (nodes ≡ length commit.image.nodes.items) × (commit.steps ≡ NodesWritten 0)
-    × ((hint_of : P → ℕ → ℕ) × HasBegun hint_of seen desk commit.image (commit_begun desk tree)) × AreWhole commit.image
+    × ((hint_of : P → ℕ → ℕ) × HasBegun hint_of seen desk commit.image (commit_begun desk tree commit.image)) × AreWhole commit.image
 DoesBegin seen most desk (GotRefused refusal) Plain = IsBeginRefused desk refusal
 DoesBegin seen most desk got chosen = ⊥
 

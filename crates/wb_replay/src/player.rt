@@ -23,11 +23,12 @@ impl Player {
     /// A new world of these sizes, formatted and not yet opened: `Geometry` where they are outside the limits, `Memory` where
     /// there is none for it.
     pub(crate) fn new(alloc: Global, setup: Setup) -> Result<Player, Refusal> {
-        let geometry = Geometry::new(
+        let geometry = Geometry::with_version(
             setup.block,
             setup.cache_blocks,
             setup.origin_blocks,
             setup.metadata_sectors,
+            if setup.metadata2 { 2 } else { 1 },
         )?;
         let actors = actors_of(alloc, ACTORS)?;
         let world = World::new(alloc, geometry)?;

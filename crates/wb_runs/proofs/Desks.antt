@@ -178,6 +178,7 @@ module _ (P : Type 0) (g : Geometry) (images : Images) (desk : DeskState P) (com
         are = q.are;
         used = q.used;
         stores = subst (λ (m : Mapping). Rattle.wb_meta.specs.Imaging.DeviceStores m device q.stored q.used) (sym tree) q.stores;
+        all_used = q.all_used;
         places = ap (λ (p : Rattle.wb_space.specs.Places.PlacesInUse). p.committed) places ∙ q.places;
         generation = generation ∙ q.generation;
         same = q.same;
@@ -188,7 +189,6 @@ module _ (P : Type 0) (g : Geometry) (images : Images) (desk : DeskState P) (com
         of = l.of;
         under = l.under;
         edited = subst (λ (m : Mapping). Rattle.wb_tree.specs.Edits.IsEdited l.of.tree m) (sym tree) l.edited;
-        entries = l.entries;
         places = ap (λ (p : Rattle.wb_space.specs.Places.PlacesInUse). p.running) places ∙ l.places;
         generation = l.generation ∙ ap (λ (n : ℕ). n + 1) (sym generation);
         busy = committing ∙ l.busy;
@@ -204,6 +204,7 @@ module _ (P : Type 0) (g : Geometry) (images : Images) (desk : DeskState P) (com
         are = q.are;
         used = q.used;
         stores = stored_edited desk.tree desk'.tree device q.stored q.used q.stores edited sound;
+        all_used = q.all_used;
         places = ap (λ (p : Rattle.wb_space.specs.Places.PlacesInUse). p.committed) places ∙ q.places;
         generation = generation ∙ q.generation;
         same = q.same;
@@ -214,7 +215,6 @@ module _ (P : Type 0) (g : Geometry) (images : Images) (desk : DeskState P) (com
         of = l.of;
         under = l.under;
         edited = edited-more l.of.tree desk.tree desk'.tree l.edited edited;
-        entries = l.entries;
         places = ap (λ (p : Rattle.wb_space.specs.Places.PlacesInUse). p.running) places ∙ l.places;
         generation = l.generation ∙ ap (λ (n : ℕ). n + 1) (sym generation);
         busy = committing ∙ l.busy;

@@ -272,7 +272,7 @@ module _ (P A : Type 0) (shape : Shape) (policy : P) (first : ReadSteps A) (begi
   heap_of : (reading : ReadSteps A) → sectors_read reading ≡ 0 → Global
   heap_of (Begun alloc global) e = global
   heap_of (FirstSlotRead alloc global found) e = global
-  heap_of (RootFound global root loader) e = global
+  heap_of (RootFound global root loader nodes) e = global
   heap_of (AllRead state) e = absurd (omega (arith, e))
 
   -- whether it has to wait

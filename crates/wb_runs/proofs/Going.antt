@@ -161,7 +161,7 @@ module _ (P A : Type 0) (shape : Shape) (t : Target P) (commit : Option RunningC
   begins : (seen : Option (List Bool)) (most : ℕ) (ws : List Want) (got : Got) (chosen : Chosen P A) → begun_from ws → refused_from ws → DoesBegin seen most t.desk got chosen → Then (Rattle.wb_promise.specs.Effects.begun_commit chosen commit) (after (F ws) got)
   begins seen most ws (Began nodes) (Commits c tree) from none s = record {
     leader' = a;
-    here = stands_at job (Some c) (a ≡ a) answer (ToSyncCache nodes) _ tt (from nodes ∙ ap (λ vs. plan_of (task_of job) vs answer) (begun_left job nodes)) (sym s.1, image_small shape.geometry t.desk tree c known.is.geometry known.is.kept.mapping s.3.0 seen s.3.1 s.4, s.2) (λ i. refl);
+    here = stands_at job (Some c) (a ≡ a) answer (ToSyncCache nodes) _ tt (from nodes ∙ ap (λ vs. plan_of (task_of job) vs answer) (begun_left job nodes)) (sym s.1, image_small t.desk tree c s.3.0 seen s.3.1 s.4, s.2) (λ i. refl);
     others = λ Makes b p o k. stays Makes commit (Some c) (b ≡ leader) (b ≡ a) p k (λ i. no_leader commit known k.point i k.at);
   }
     where

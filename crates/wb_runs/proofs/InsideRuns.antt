@@ -63,6 +63,8 @@ use Rattle.wb_runs.proofs.Using.{order_inside, replacement_inside}
 use Rattle.wb_runs.proofs.Bounds.{SealInside, SealsInside, seals_after, fresh_inside, sealed_inside, AllInside, PartInside, JobInside, MigrationInside, inside_after, looks_inside}
 use Rattle.wb_runs.proofs.LinkedRuns.{Base, base_after, base_start}
 use Rattle.wb_policy.specs.declared.order.Order.{Order}
+use Rattle.wb_devices.specs.Clean.{entries_of}
+use Rattle.wb_devices.proofs.BitEntries.{length-with_bits}
 use Rattle.wb_disk.proofs.Lengths.{length_written_where}
 
 -- ---- sizes
@@ -219,10 +221,10 @@ module _ (P A : Type 0) (shape : Shape) where
 
   -- the seals after it
   opened_seals : (mode : Mode) (reading : Option (ReadSteps A)) (commit : Option RunningCommit) (got : Got) (chosen : Chosen P A) (m : List History) (i : Images) → MetadataKept {P = P} {A = A} shape.geometry i (phase_opened shape mode reading chosen) None m → SealsHere shape (phase_opened shape mode reading chosen)
-  opened_seals mode (Some (AllRead stored)) commit got (Opened policy) m i k = sealed_inside shape stored.root.clean 0 stored.tree.entries (fresh_words shape.geometry.origin_blocks) (omega (arith, k.is.kept.mapping.size)) (fresh_inside shape.geometry.cache_blocks shape.geometry.origin_blocks)
+  opened_seals mode (Some (AllRead stored)) commit got (Opened policy) m i k = sealed_inside shape stored.root.clean 0 (entries_of stored) (fresh_words shape.geometry.origin_blocks) (omega (arith, k.is.kept.mapping.size, length-with_bits stored.dirty stored.tree.entries)) (fresh_inside shape.geometry.cache_blocks shape.geometry.origin_blocks)
   opened_seals mode (Some (Begun alloc global)) commit got (Opened policy) m i k = tt
   opened_seals mode (Some (FirstSlotRead alloc global first)) commit got (Opened policy) m i k = tt
-  opened_seals mode (Some (RootFound global root loader)) commit got (Opened policy) m i k = tt
+  opened_seals mode (Some (RootFound global root loader nodes)) commit got (Opened policy) m i k = tt
   opened_seals mode None commit got (Opened policy) m i k = tt
   opened_seals mode reading commit got Plain m i k = tt
   opened_seals mode reading commit got (Cut es) m i k = tt
@@ -327,7 +329,7 @@ module _ (P A : Type 0) (shape : Shape) where
       by_mode Writethrough = (part_inside shape Writethrough extent (record { 0 = extent.first / block_size shape }) cut (may_start shape extent g.0) g.1, (tt, (tt, tt)))
       by_mode Passthrough = (part_inside shape Passthrough extent (record { 0 = extent.first / block_size shape }) cut (may_start shape extent g.0) g.1, (tt, (tt, tt)))
   table_inside w n a Flush chosen b g mode awaiting = (tt, (tt, (tt, tt)))
-  table_inside w n a Suspend (Looks looks) b g mode awaiting = (tt, (tt, looks_inside shape looks (Rattle.wb_types.specs.Limits.node_count shape.geometry.cache_blocks)))
+  table_inside w n a Suspend (Looks looks) b g mode awaiting = (tt, (tt, looks_inside shape looks (Rattle.wb_promise.specs.Happenings.most_for shape.geometry true)))
   table_inside w n a Suspend chosen b g mode awaiting = absurd g
   table_inside w n a (Open opened_in) chosen b g mode awaiting = (tt, (tt, (tt, (tt, (tt, (tt, (tt, tt)))))))
   table_inside w n a (Invalidate block) chosen b g mode awaiting = (tt, (tt, (tt, tt)))

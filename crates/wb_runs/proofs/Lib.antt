@@ -1,3 +1,4 @@
+pub mod Imaged
 pub mod Images
 pub mod Underway
 pub mod Metadata
@@ -37,5 +38,5 @@ mod Going
 mod Progressing
 mod Giving
 mod Applying
-mod Making
+pub mod Making
 mod Free

@@ -129,7 +129,7 @@ module _ (P A : Type 0) (shape : Shape) where
   opened_alone mode (Some (AllRead stored)) (Opened policy) actors = tt
   opened_alone mode (Some (Begun alloc global)) (Opened policy) actors = tt
   opened_alone mode (Some (FirstSlotRead alloc global first)) (Opened policy) actors = tt
-  opened_alone mode (Some (RootFound global root loader)) (Opened policy) actors = tt
+  opened_alone mode (Some (RootFound global root loader nodes)) (Opened policy) actors = tt
   opened_alone mode None (Opened policy) actors = tt
   opened_alone mode reading Plain actors = tt
   opened_alone mode reading (Cut es) actors = tt

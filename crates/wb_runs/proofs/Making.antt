@@ -2,7 +2,7 @@
 use Rattle.std.proofs.Common.{Global, ◌≡◌, ◌∙◌, ◌≤◌, ◌<◌, ◌+◌, ◌-◌, ◌*◌, ◌/◌, ◌%◌, ◌^◌, ◌++◌, inl, inr, ℕ, zero, suc, Bool, true, false, is_some, List, [], ◌∷◌, Option, Some, None, refl, sym, ap, subst, arith, length, map, get_or, slice_get, slice_index, slice_index_or, append_assoc}
 use Rattle.std.specs.List.{AllByRecursion}
 use Rattle.std.specs.Prelude.{All}
-use Rattle.std.proofs.lemmas.Bool.{cases_Bool}
+use Rattle.std.proofs.lemmas.Bool.{cases_Bool, cases_eq}
 use Rattle.std.proofs.lemmas.List.{append-nil, length-map, map-append}
 use Rattle.std.proofs.lemmas.List.Elements.{All-push, All-nil, recursion_from_All}
 use Rattle.std.proofs.lemmas.Option.{slice_get-get_or}
@@ -15,11 +15,11 @@ use Rattle.wb_disk.specs.Device.{History}
 use Rattle.wb_format.specs.declared.node.Node.{Node}
 use Rattle.wb_types.specs.declared.version.Version.{Version}
 use Rattle.wb_types.specs.declared.version.Version.TheVariants.{One, Two}
-use Rattle.wb_format.specs.NodeWords.{IsEntry, IsLeafWord, IsNodeWordOf, entry_word, kept}
+use Rattle.wb_format.specs.NodeWords.{IsEntry, IsLeafWord, IsNodeWord, IsNodeWordOf, entry_word, kept}
 use Rattle.wb_format.proofs.WordLemmas.{IsWord-everywhere}
 use Rattle.wb_tree.specs.declared.image.Image.{Image}
 use Rattle.wb_tree.specs.Mapping.{Mapping, NodeName, IsMapping, AreInside, nodes_of, place_of, changed, changed_of}
-use Rattle.wb_tree.specs.Images.{AreFree, IsImage, name_of, word_at, place_word, kept_tree}
+use Rattle.wb_tree.specs.Images.{AreFree, ImagePlan, IsImage, name_of, word_at, place_word, kept_tree}
 use Rattle.wb_tree.specs.Planning.{planned, levels, names, Begins, MayPlan, IsWritten, AreWritten}
 use Rattle.wb_tree.specs.Fields.{AreApart}
 use Rattle.wb_tree.proofs.Nodes.Names.{IsBelow, nodes_below-below}
@@ -31,14 +31,18 @@ use Rattle.wb_tree.proofs.Images.PlanWords.{IsLeafWord-zero}
 use Rattle.wb_tree.proofs.Reading.LoaderSteps.{depth_range}
 use Rattle.wb_tree.proofs.Stored.Edited.{edited-none}
 use Rattle.wb_meta.specs.declared.commit_steps.CommitSteps.TheVariants.{NodesWritten}
+use Rattle.wb_meta.specs.CleanImages.{IsImageOf}
 use Rattle.wb_meta.proofs.Imaging.{have_places}
+use Rattle.wb_meta.proofs.CleanImaging.{image_places}
 use Rattle.wb_desk.specs.Desks.{DeskState}
+use Rattle.wb_desk.specs.Marks.{bits_beside}
 use Rattle.wb_desk.specs.Commits.{HasBegun, MayBegin, next_plan, commit_begun}
 use Rattle.wb_desk.proofs.Committing.{free_for, has_begun}
 use Rattle.wb_devices.specs.declared.running.RunningCommit.{RunningCommit}
 use denote.RawPtr.{null_ptr}
-use Rattle.wb_promise.specs.Happenings.{Commits, AreWhole}
+use Rattle.wb_promise.specs.Happenings.{Commits, AreWhole, IsWholeNode, most_for}
 use Rattle.wb_runs.specs.Progress.{CanBegin}
+use Rattle.wb_runs.proofs.Imaged.{begun_root}
 use Rattle.wb_runs.proofs.Images.{Images}
 use Rattle.wb_runs.proofs.Metadata.{AtDesk, unknowing}
 use Rattle.wb_runs.proofs.Spelled.{IsSmall}
@@ -104,29 +108,11 @@ changes_new m = both_of (IsBelow (levels m) 0 1) (λ (n : NodeName). place_of m 
 
 -- ---- each image can be spelled
 
--- that of a tree with so many cache blocks, of the next generation
-small_of : {P : Type 0} (desk : DeskState P) (imaged tree : Mapping) (flag : Bool) (c : RunningCommit) → MayBegin desk → length imaged.entries ≡ desk.geometry.cache_blocks → IsImage imaged tree (next_plan desk imaged flag) c.image → AreWhole c.image → IsSmall c.image
-small_of desk imaged tree flag c may size is whole = record {
-  root = omega (arith, is.root_generation, may.next);
-  nodes = λ k node e.
-      let new = named_at (IsNew imaged) c.image.nodes.items k node (subst (AllByRecursion (IsNew imaged)) (ap (λ (n : ℕ). changed imaged (depth_of n)) size ∙ sym is.nodes_are) (changes_new imaged)) e in
-      let written = all_at (λ (n : Place × Node). n.1.generation ≡ desk.generation + 1) c.image.nodes.items k node (recursion_from_All (λ (n : Place × Node). n.1.generation ≡ desk.generation + 1) c.image.nodes.items is.generations) e in
-      let words = all_at (λ (n : Place × Node). length n.1.words ≡ 32) c.image.nodes.items k node (recursion_from_All (λ (n : Place × Node). length n.1.words ≡ 32) c.image.nodes.items whole) e in
-      let mapping = all_at (λ (n : Place × Node). n.1.dirty ≡ false) c.image.nodes.items k node (recursion_from_All (λ (n : Place × Node). n.1.dirty ≡ false) c.image.nodes.items is.mappings) e in
-      record { mapping = mapping; words = words; generation = omega (arith, written, may.next); index = new.few };
+pub image_small : {P : Type 0} (desk : DeskState P) (tree : Mapping) (c : RunningCommit) (hint_of : P → ℕ → ℕ) (seen : Option (List Bool)) → HasBegun hint_of seen desk c.image (commit_begun desk tree c.image) → AreWhole c.image → IsSmall c.image
+image_small desk tree c hint_of seen begun whole = record {
+  root = let next = (begun_root hint_of seen desk tree c.image begun).0 in omega (arith, next, begun.may.next);
+  nodes = λ k node e. all_at (λ (n : Place × Node). IsWholeNode n.1) c.image.nodes.items k node (recursion_from_All (λ (n : Place × Node). IsWholeNode n.1) c.image.nodes.items whole) e;
 }
-
-pub image_small : {P : Type 0} (g : Geometry) (desk : DeskState P) (tree : Mapping) (c : RunningCommit) → desk.geometry ≡ g → IsMapping desk.geometry.cache_blocks desk.geometry.origin_blocks desk.tree.entries
-    → (hint_of : P → ℕ → ℕ) (seen : Option (List Bool)) → HasBegun hint_of seen desk c.image (commit_begun desk tree) → AreWhole c.image → IsSmall c.image
-image_small g desk tree c same mapping hint_of None begun whole = small_of desk desk.tree tree false c begun.may mapping.size begun.image_is whole
-image_small g desk tree c same mapping hint_of (Some seen) begun whole =
-    let i = begun.image_is in
-    small_of desk i.0 tree true c begun.may (ap (λ (es : List (Option Entry)). length es) i.1.entries ∙ length_marked (hint_of desk.policy) seen desk.tree.entries ∙ mapping.size) i.2 whole
-  where
-    length_marked : (hint : ℕ → ℕ) (dirty : List Bool) (es : List (Option Entry)) → length (Rattle.wb_desk.specs.Marks.marked_entries hint dirty es) ≡ length es
-    length_marked hint dirty [] = refl
-    length_marked hint [] (e ∷ es) = ap suc (length_marked hint [] es)
-    length_marked hint (bit ∷ dirty) (e ∷ es) = ap suc (length_marked hint dirty es)
 
 -- so can that of an opening, which has no node
 pub small_opening : (image : Image) → image.nodes.items ≡ [] → image.root.generation < 2 ^ 64 → IsSmall image
@@ -161,9 +147,16 @@ kept_entry One o each entry e = each entry e
 kept_entry Two None each entry e = absurd (cc)
 kept_entry Two (Some was) each entry e = let is = each was refl in let same : record was { dirty = false } ≡ entry = cc in subst IsEntry same (record { origin = is.origin; hint = is.hint })
 
+-- a word of a node of the mapping fits eight bytes
+word_fits : (level word : ℕ) → IsNodeWord false level word → word < 2 ^ 64
+word_fits level word is = elim (cases_eq level 1) [
+  | inl leaf ↦ let none = (is.leaf refl leaf).bits_from_36 in omega (arith, none)
+  | inr inner ↦ let few = (is.inner inner).place in omega (arith, few)
+]
+
 -- ---- an image of a tree
 
-module _ (heap : Global) (m : Mapping) (geometry : Geometry) (free : List Place) (generation : ℕ) (can : CanPlace m geometry free) (mapping : IsMapping geometry.cache_blocks geometry.origin_blocks m.entries) where
+module _ (heap : Global) (m : Mapping) (geometry : Geometry) (free : List Place) (generation : ℕ) (can : CanPlace m geometry free) (mapping : IsMapping geometry.cache_blocks geometry.origin_blocks m.entries) (fits : generation < 2 ^ 64) where
   abbrev n : Mapping
   n = planned m free
 
@@ -214,8 +207,16 @@ module _ (heap : Global) (m : Mapping) (geometry : Geometry) (free : List Place)
     spelled = λ j. (IsWord-everywhere One false name.level (words_of name) (λ k below. subst (IsNodeWordOf One false name.level) (sym (words_there name k (omega (arith, below, length-words_from (word_at kn name.level name.index) 32 0)))) (word_is name.level name.index k from)) j).any;
   }
 
+  node_whole : (name : NodeName) (new : IsNew m name) → IsWholeNode (node_for name new.from new.to)
+  node_whole name new = record {
+    words = length-words_from (word_at kn name.level name.index) 32 0;
+    each_word = λ j. word_fits name.level (slice_index (words_of name) j) ((node_for name new.from new.to).spelled j);
+    index = new.few;
+    generation = fits;
+  }
+
   abbrev Whole : Place × Node → Type 0
-  Whole node = length node.1.words ≡ 32
+  Whole node = IsWholeNode node.1
 
   record Made : Type 0 where
     nodes : List (Place × Node)
@@ -237,7 +238,7 @@ module _ (heap : Global) (m : Mapping) (geometry : Geometry) (free : List Place)
       let one : IsWritten geometry.version n generation node = record { stands = stands; written_in = refl; mapping = refl; words = λ j l. words_there name j l } in
       makes (front ++ name ∷ []) rest (nodes ++ node ∷ []) (e ∙ sym (append_assoc front (name ∷ []) rest)) new.1
       (map-append (λ (k : Place × Node). name_of k.1) nodes (node ∷ []) ∙ ap (λ (xs : List NodeName). xs ++ name ∷ []) is)
-      (written-more geometry.version n generation free nodes node written (omega (arith, less, long)) there one) (All-push Whole nodes node whole (length-words_from (word_at kn name.level name.index) 32 0))
+      (written-more geometry.version n generation free nodes node written (omega (arith, less, long)) there one) (All-push Whole nodes node whole (node_whole name new.0))
 
   made : Made
   made = makes [] (changed m (levels m)) [] refl (changes_new m) refl (record { places = refl; each = All-nil _ }) (All-nil _)
@@ -255,21 +256,26 @@ module _ (heap : Global) (m : Mapping) (geometry : Geometry) (free : List Place)
   image_is : IsImage m n (record { geometry = geometry; generation = generation; clean = false; free = free }) image
   image_is = let complete = planned-complete m geometry free can in
       image-is m n geometry generation false free image (written_is m geometry generation free made.nodes can made.named made.written) complete.all
-      (used-places n geometry.cache_blocks (planned-sound m geometry free can) complete.once complete.few) (planned-comes m free made.nodes made.named made.written.places) (planned-more geometry.version m generation free made.nodes made.named made.written) refl refl refl refl
+      (used-places n geometry.cache_blocks (planned-sound m geometry free can) complete.once complete.few) (planned-comes m free made.nodes made.named made.written.places) (planned-more geometry.version m generation free made.nodes made.named made.written) refl refl refl refl refl
+
+-- an image of a tree alone is that of a commit without dirty bits, in metadata of either version
+pub as_alone : (version : Version) (es : List (Option Entry)) (m n : Mapping) (plan : ImagePlan) (whole : Image) → IsImage m n plan whole → IsImageOf (bits_beside version None es) m n plan whole
+as_alone One es m n plan whole is = is
+as_alone Two es m n plan whole is = is
 
 -- ---- a commit begins
 
 -- where no node of its tree is known twice, and a flush allows as many nodes as a tree of its size can have
-pub desk_begins : (heap : Global) (P A : Type 0) (g : Geometry) (images : Images) (desk : DeskState P) (commit : Option RunningCommit) (device : List History) → AtDesk g images desk commit device → AreApart desk.tree.known → (most : ℕ) → node_count g.cache_blocks ≤ most → MayBegin desk → CanBegin P A most desk
+pub desk_begins : (heap : Global) (P A : Type 0) (g : Geometry) (images : Images) (desk : DeskState P) (commit : Option RunningCommit) (device : List History) → AtDesk g images desk commit device → AreApart desk.tree.known → (most : ℕ) → most_for g false ≤ most → MayBegin desk → CanBegin P A most desk
 desk_begins heap P A g images desk commit device known once most enough may =
     let kept = known.is.kept in
     let plan = next_plan desk desk.tree false in
-    let are : AreFree desk.tree desk.geometry plan.free = free_for unknowing desk kept may.idle desk.tree (edited-none desk.tree) kept.mapping.size in
+    let are : AreFree desk.tree desk.geometry plan.free = free_for unknowing desk false kept may.idle (λ e. absurd (cc)) desk.tree (edited-none desk.tree) kept.mapping.size in
     let can : CanPlace desk.tree desk.geometry plan.free = record { size = kept.mapping.size; sound = known.is.sound; once = once; inside = kept.places.inside; are = are } in
-    let im = image heap desk.tree desk.geometry plan.free plan.generation can kept.mapping in
-    let is = image_is heap desk.tree desk.geometry plan.free plan.generation can kept.mapping in
+    let im = image heap desk.tree desk.geometry plan.free plan.generation can kept.mapping may.next in
+    let is = image_is heap desk.tree desk.geometry plan.free plan.generation can kept.mapping may.next in
     let tree = planned desk.tree plan.free in
-    let few = many heap desk.tree desk.geometry plan.free plan.generation can kept.mapping in
+    let few = many heap desk.tree desk.geometry plan.free plan.generation can kept.mapping may.next in
     let sized = ap (λ (x : Geometry). node_count x.cache_blocks) known.is.geometry in (
       length im.nodes.items,
       (
@@ -280,11 +286,11 @@ desk_begins heap P A g images desk commit device known once most enough may =
           refl,
           (
             (λ policy block. 0),
-            has_begun unknowing (λ (bits : List Bool). bits) desk (λ policy block. 0) None tree plan.generation im kept may refl have_places is
+            has_begun unknowing (λ (bits : List Bool). bits) desk (λ policy block. 0) None tree plan.generation im kept may refl (λ e. absurd (cc)) image_places (as_alone desk.geometry.version desk.tree.entries desk.tree tree plan im is)
                 (subst (λ (es : List (Option Entry)). IsMapping desk.geometry.cache_blocks desk.geometry.origin_blocks es) (sym is.same_entries) kept.mapping)
                 (planned-sound desk.tree desk.geometry plan.free can) (planned-inside desk.tree desk.geometry plan.free can),
           ),
-          (made heap desk.tree desk.geometry plan.free plan.generation can kept.mapping).whole,
+          (made heap desk.tree desk.geometry plan.free plan.generation can kept.mapping may.next).whole,
         ),
       ),
     )

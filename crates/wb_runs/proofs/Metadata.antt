@@ -8,7 +8,8 @@ use Rattle.wb_types.specs.declared.number.Place.{Place}
 use Rattle.wb_disk.specs.Device.{History, newest}
 use Rattle.std.specs.List.{count_by}
 use Rattle.std.specs.Prelude.{is_some}
-use Rattle.wb_tree.specs.Mapping.{Mapping, IsMapping, IsSound, AreInside, used_places}
+use Rattle.wb_tree.specs.Mapping.{Mapping, IsSound, AreInside}
+use Rattle.wb_dirty.specs.ImageReading.{with_bits}
 use Rattle.wb_tree.specs.Edits.{IsEdited}
 use Rattle.wb_tree.proofs.Stored.Edited.{edited-none}
 use Rattle.wb_space.specs.Places.{noted, unused, place_count}
@@ -25,13 +26,13 @@ use Rattle.wb_meta.proofs.Round.{stored_edited}
 use Rattle.wb_orders.specs.Orders.{AreOrders}
 use Rattle.wb_orders.proofs.Kept.{none_kept}
 use Rattle.wb_meta.specs.Openings.{IsOpening}
-use Rattle.wb_meta.specs.Imaging.{DeviceStores, IsPlanned}
-use Rattle.wb_policy.specs.Law.{Holdings, origins}
+use Rattle.wb_meta.specs.Imaging.{DeviceStores, IsPlanned, IsAllUsed}
+use Rattle.wb_policy.specs.Law.{Holdings}
 use Rattle.wb_desk.specs.Desks.{DeskState, DeskInvariant}
-use Rattle.wb_desk.proofs.Committing.{begun_kept, ended_kept}
+use Rattle.wb_desk.proofs.Committing.{ended_kept}
 use Rattle.wb_desk.proofs.Opened.{opened_kept}
-use Rattle.wb_desk.specs.Commits.{HasBegun, MayBegin, commit_begun, commit_broken, next_plan}
-use Rattle.wb_desk.proofs.Marking.{origins-marked}
+use Rattle.wb_desk.specs.Commits.{HasBegun, beside, commit_begun, commit_broken, next_plan, places_with}
+use Rattle.wb_desk.specs.Marks.{entries_shown}
 use Rattle.wb_desk.specs.Opening.{opened}
 use Rattle.wb_devices.specs.declared.running.RunningCommit.{RunningCommit}
 use Rattle.wb_stage.specs.Asking.{ended}
@@ -41,6 +42,7 @@ use Rattle.wb_meta.specs.Roots.{MayBeReadAs, Commit, commit_of, opening_of}
 use Rattle.wb_meta.proofs.Leading.{commit_begins, opening_begins}
 use Rattle.wb_meta.proofs.Deciding.{stored_is_read, read_is_committed}
 use Rattle.wb_promise.specs.States.{Phase, Stands, Gone, Opens}
+use Rattle.wb_runs.proofs.Imaged.{begun_desk, root_of_image, entries_read}
 use Rattle.wb_runs.proofs.Images.{Images, one_image, Begins, Ends, Turns}
 use Rattle.wb_runs.proofs.Underway.{Readable, Underway, Found, underway_readable, found_readable, all_done}
 
@@ -54,7 +56,9 @@ pub record Quiet {P : Type 0} (g : Geometry) (images : Images) (desk : DeskState
   pub are : images ≡ one_image stored
   pub used : List Place
   pub stores : DeviceStores desk.tree device stored used
-  pub places : desk.space.places.committed ≡ noted used (unused (place_count g.cache_blocks))
+  -- what is read of it stands on them, dirty bits too
+  pub all_used : IsAllUsed stored used
+  pub places : desk.space.places.committed ≡ noted used (unused (place_count g))
   pub generation : desk.generation ≡ stored.root.generation
   pub same : stored.root.geometry ≡ g
   pub idle : desk.space.committing ≡ false
@@ -64,8 +68,7 @@ pub record Leading {P : Type 0} (g : Geometry) (images : Images) (desk : DeskSta
   pub of : Commit
   pub under : Underway g images commit of device
   pub edited : IsEdited of.tree desk.tree
-  pub entries : of.new.found.entries ≡ of.tree.entries
-  pub places : desk.space.places.running ≡ noted of.used (unused (place_count g.cache_blocks))
+  pub places : desk.space.places.running ≡ noted of.used (unused (place_count g))
   pub generation : of.new.root.generation ≡ desk.generation + 1
   pub busy : desk.space.committing ≡ true
 
@@ -153,32 +156,32 @@ module _ (g : Geometry) (images : Images) (device : List History) where
 -- commits are broken: nothing that is stored changes
 module _ (P : Type 0) (g : Geometry) (images : Images) (desk : DeskState P) where
   pub broken_over : (commit : Option RunningCommit) (device : List History) → AtDesk g images desk commit device → AtDesk g images (commit_broken desk) commit device
-  broken_over commit device k = record { is = record { geometry = k.is.geometry; kept = let d = k.is.kept in record { mapping = d.mapping; blocks = d.blocks; slots = d.slots; busy = d.busy; places = d.places; next = d.next; each = d.each; counted = d.counted; numbered = d.numbered; known = d.known }; orders = k.is.orders; sound = k.is.sound }; stands = by_commit commit k.stands }
+  broken_over commit device k = record { is = record { geometry = k.is.geometry; kept = let d = k.is.kept in record { mapping = d.mapping; keeps = d.keeps; blocks = d.blocks; slots = d.slots; busy = d.busy; places = d.places; next = d.next; each = d.each; counted = d.counted; numbered = d.numbered; known = d.known }; orders = k.is.orders; sound = k.is.sound }; stands = by_commit commit k.stands }
     where
       by_commit : (commit : Option RunningCommit) → Standing g images desk commit device → Standing g images (commit_broken desk) commit device
-      by_commit None (inl q) = inl (record { stored = q.stored; are = q.are; used = q.used; stores = q.stores; places = q.places; generation = q.generation; same = q.same; idle = q.idle })
+      by_commit None (inl q) = inl (record { stored = q.stored; are = q.are; used = q.used; stores = q.stores; all_used = q.all_used; places = q.places; generation = q.generation; same = q.same; idle = q.idle })
       by_commit None (inr b) = inr (record { readable = b.readable; busy = b.busy })
-      by_commit (Some c) l = record { of = l.of; under = l.under; edited = l.edited; entries = l.entries; places = l.places; generation = l.generation; busy = l.busy }
+      by_commit (Some c) l = record { of = l.of; under = l.under; edited = l.edited; places = l.places; generation = l.generation; busy = l.busy }
 
 -- ---- a commit begins and ends
 
 module _ (P : Type 0) (g : Geometry) (images : Images) (desk : DeskState P) (device : List History) where
-  abbrev places_used : IsDesk g desk → (q : Quiet g images desk device) → desk.space.places.committed ≡ noted q.used (unused (place_count desk.geometry.cache_blocks))
-  places_used k q = subst (λ (x : Geometry). desk.space.places.committed ≡ noted q.used (unused (place_count x.cache_blocks))) (sym k.geometry) q.places
+  abbrev places_used : IsDesk g desk → (q : Quiet g images desk device) → desk.space.places.committed ≡ noted q.used (unused (place_count desk.geometry))
+  places_used k q = subst (λ (x : Geometry). desk.space.places.committed ≡ noted q.used (unused (place_count x))) (sym k.geometry) q.places
 
-  -- the images, with a commit of this tree's entries
-  abbrev LeadsTo : RunningCommit → Mapping → Images → Type 0
-  LeadsTo commit tree now = AtDesk g now (commit_begun desk tree) (Some commit) device × ((state : Stored) × (now.running ≡ Some state) × (state.found.entries ≡ tree.entries))
+  -- the images, with a commit of which these entries are read
+  abbrev LeadsTo : RunningCommit → Mapping → List (Option Entry) → Images → Type 0
+  LeadsTo commit tree entries now = AtDesk g now (commit_begun desk tree commit.image) (Some commit) device × ((state : Stored) × (now.running ≡ Some state) × (state.found.entries ≡ entries))
 
-  -- One begins whose image is made of this tree, which the device stores too, with the same blocks.
-  begins_on : (imaged : Mapping) (flag : Bool) (commit : RunningCommit) (tree : Mapping) → IsDesk g desk → (q : Quiet g images desk device) → commit.steps ≡ NodesWritten 0 → MayBegin desk
-      → DeviceStores imaged device q.stored q.used → IsPlanned imaged tree (next_plan desk imaged flag) commit.image q.used → origins imaged.entries ≡ origins desk.tree.entries → Turns (LeadsTo commit tree) images
-  begins_on imaged flag commit tree k q steps may stores planned same =
+  -- One begins whose image is made of this tree, which the device stores too, and has these bits beside it.
+  begins_on : (bits : Option (List Bool)) (imaged : Mapping) (flag : Bool) (commit : RunningCommit) (tree : Mapping) → IsDesk g desk → (q : Quiet g images desk device) → commit.steps ≡ NodesWritten 0 → DeskInvariant unknowing (commit_begun desk tree commit.image)
+      → DeviceStores imaged device q.stored q.used → IsPlanned bits imaged tree (next_plan desk imaged flag) commit.image q.used → Turns (LeadsTo commit tree (with_bits bits tree.entries)) images
+  begins_on bits imaged flag commit tree k q steps kept stores planned =
       let image = commit.image in
-      let is = planned.image_is in
-      let both = commit_begins imaged tree (next_plan desk imaged flag) image device q.stored q.used stores planned
-      (record { same_geometry = q.same ∙ sym k.geometry; next = ap (λ n. n + 1) q.generation }) in
-      let of = commit_of image tree q.stored device in
+      let plan = next_plan desk imaged flag in
+      let both = commit_begins bits imaged tree plan image device q.stored q.used stores planned
+      (record { same_geometry = q.same ∙ sym k.geometry; next = ap (λ n. n + 1) q.generation; all_used = q.all_used }) in
+      let of = commit_of bits image tree q.stored device in
       record {
         now = record { committed = of.old; running = Some of.new; written = false };
         turn = Begins of.new;
@@ -187,9 +190,7 @@ module _ (P : Type 0) (g : Geometry) (images : Images) (desk : DeskState P) (dev
           record {
             is = record {
               geometry = k.geometry;
-              kept = begun_kept unknowing desk tree image k.kept may
-                  (record { origins = ap (λ (es : List (Option Entry)). origins es) is.same_entries ∙ same; used = is.used })
-                  (subst (λ (es : List (Option Entry)). IsMapping desk.geometry.cache_blocks desk.geometry.origin_blocks es) (sym is.same_entries) planned.mapping) planned.inside;
+              kept = kept;
               orders = k.orders;
               sound = planned.sound;
             };
@@ -203,24 +204,28 @@ module _ (P : Type 0) (g : Geometry) (images : Images) (desk : DeskState P) (dev
                 same = q.same;
               };
               edited = edited-none tree;
-              entries = refl;
-              places = ap (λ (x : Geometry). noted (used_places tree) (unused (place_count x.cache_blocks))) k.geometry;
-              generation = is.root_generation;
+              places = ap (λ (x : Geometry). noted (places_with tree image) (unused (place_count x))) k.geometry;
+              generation = (root_of_image bits imaged tree plan image planned.image_is).0;
               busy = refl;
             };
           },
-          (of.new, refl, refl),
+          (of.new, refl, entries_read bits image tree),
         );
       }
 
-  -- One begins over a device that stores the desk's tree: of its entries, marked where it is clean.
+  -- One begins over a device that stores the desk's tree: its entries are read of it, marked where it is clean.
   pub begins_over : (hint_of : P → ℕ → ℕ) (seen : Option (List Bool)) (commit : RunningCommit) (tree : Mapping) → IsDesk g desk → Quiet g images desk device → commit.steps ≡ NodesWritten 0
-      → HasBegun hint_of seen desk commit.image (commit_begun desk tree) → Turns (LeadsTo commit tree) images
-  begins_over hint_of None commit tree k q steps begun = begins_on desk.tree false commit tree k q steps begun.may q.stores (begun.unused q.used (places_used k q)) refl
-  begins_over hint_of (Some seen) commit tree k q steps begun =
-      let u = begun.unused in
-      begins_on u.0 true commit tree k q steps begun.may (stored_edited desk.tree u.0 device q.stored q.used q.stores u.1.edited u.1.sound) (u.2 q.used (places_used k q))
-      (ap (λ (es : List (Option Entry)). origins es) u.1.entries ∙ origins-marked (hint_of desk.policy) seen desk.tree.entries)
+      → HasBegun hint_of seen desk commit.image (commit_begun desk tree commit.image) → Turns (LeadsTo commit tree (entries_shown (hint_of desk.policy) seen desk.tree.entries)) images
+  begins_over hint_of seen commit tree k q steps begun = subst (λ (es : List (Option Entry)). Turns (LeadsTo commit tree es) images) begun.shown (by_seen seen begun)
+    where
+      kept : DeskInvariant unknowing (commit_begun desk tree commit.image)
+      kept = begun_desk hint_of seen desk tree commit.image unknowing k.kept begun
+
+      by_seen : (seen : Option (List Bool)) → HasBegun hint_of seen desk commit.image (commit_begun desk tree commit.image) → Turns (LeadsTo commit tree (with_bits (beside desk seen) tree.entries)) images
+      by_seen None b = begins_on (beside desk None) desk.tree false commit tree k q steps kept q.stores (b.unused q.used (places_used k q))
+      by_seen (Some dirty) b =
+          let u = b.unused in
+          begins_on (beside desk (Some dirty)) u.0 true commit tree k q steps kept (stored_edited desk.tree u.0 device q.stored q.used q.stores u.1.edited u.1.sound) (u.2 q.used (places_used k q))
 
   -- one that was done ends, and its state is the one image
   pub ends_over : (commit : RunningCommit) → AtDesk g images desk (Some commit) device → is_committed commit.steps ≡ true →
@@ -242,6 +247,7 @@ module _ (P : Type 0) (g : Geometry) (images : Images) (desk : DeskState P) (dev
               are = refl;
               used = l.of.used;
               stores = stored_edited l.of.tree desk.tree device l.of.new l.of.used stores l.edited k.is.sound;
+              all_used = l.under.can.all_used;
               places = l.places;
               generation = sym l.generation;
               same = l.under.can.same_geometry ∙ l.under.same;
@@ -260,11 +266,11 @@ module _ (A : Type 0) (g : Geometry) (images : Images) (device : List History) w
     where
       over : (stored : Stored_there A) → HasReached g images (AllRead stored) device → (next : HasNextRoot (AllRead stored) commit) → Turns (λ i. Rooting g i (AllRead stored) next.next device) images
       over stored k next =
-          let committed = read_is_committed g k.found.committed device stored.root stored.tree stored.used.items k.found.read k.found.settled k.come k.on in
+          let committed = read_is_committed g k.found.committed device stored.root stored.tree stored.dirty stored.used.items k.found.read k.found.settled k.come k.on.0 in
           let known : stored.root ≡ next.root = cc in
           let image = next.next.image in
           let opens : IsOpening image k.found.committed.root = subst (λ (r : Root). IsOpening image r) (sym known ∙ committed.0) next.opens in
-          let both = opening_begins stored.tree image device k.found.committed stored.used.items committed.2 opens in
+          let both = opening_begins stored.tree image device k.found.committed stored.used.items committed.3 opens in
           let of = opening_of image stored.tree stored.used.items k.found.committed device in
           record {
             now = record { committed = of.old; running = Some of.new; written = false };
@@ -284,9 +290,9 @@ module _ (A : Type 0) (g : Geometry) (images : Images) (device : List History) w
               tree = refl;
               used = refl;
               generation = ap (λ (r : Root). r.generation) opens.root_is ∙ ap (λ (r : Root). r.generation + 1) (sym committed.0);
-              entries = sym committed.1;
+              entries = sym committed.2;
               unmarked = ap (λ (r : Root). r.clean) opens.root_is;
-              fits = subst (λ (n : ℕ). FitsDevice n stored.root stored.tree stored.used.items) k.found.read.size k.on;
+              fits = subst (λ (n : ℕ). FitsDevice n stored.root stored.tree stored.used.items) k.found.read.size k.on.0;
               geometry = ap (λ (r : Root). r.geometry) committed.0 ∙ k.found.read.same_geometry;
             };
           }
@@ -294,7 +300,7 @@ module _ (A : Type 0) (g : Geometry) (images : Images) (device : List History) w
       by_reading : (now : ReadSteps A) → HasReached g images now device → HasNextRoot now commit → Turns (λ i. AtOpening g i (Some now) commit device) images
       by_reading (Begun alloc global) k next = absurd next.is_done
       by_reading (FirstSlotRead alloc global first) k next = absurd next.is_done
-      by_reading (RootFound global root loader) k next = absurd next.is_done
+      by_reading (RootFound global root loader nodes) k next = absurd next.is_done
       by_reading (AllRead stored) k next = subst (λ (c : Option RunningCommit). Turns (λ i. AtOpening g i (Some (AllRead stored)) c device) images) (sym next.commit_is) (over stored k next)
 
   -- the images after it, whose committed state has the desk's entries, and is not marked clean
@@ -316,8 +322,8 @@ module _ (A : Type 0) (g : Geometry) (images : Images) (device : List History) w
               geometry = refl;
               kept = subst (λ (x : Geometry). DeskInvariant unknowing (opened x (stored.root.generation + 1) stored.tree stored.used.items mode policy threshold (count_by is_some stored.tree.entries))) geometry
                   (opened_kept unknowing (record stored.root { generation = stored.root.generation + 1 }) stored.tree stored.used.items mode policy threshold (count_by is_some stored.tree.entries)
-                  (stored.root.geometry.within.meta_from)
-                  (record { size = refl; mapping = fits.mapping; sound = fits.sound; inside = subst (λ (n : ℕ). AreInside n stored.tree) (sym fits.size) fits.inside; known_used = fits.known_used; used_are = subst (λ (n : ℕ). Rattle.wb_meta.specs.Reads.AreApartPlaces n stored.used.items) (sym fits.size) fits.used_are; used_few = fits.used_few })
+                  stored.root.geometry.room
+                  (record { size = refl; mapping = fits.mapping; sound = fits.sound; inside = subst (λ (n : ℕ). AreInside n stored.tree) (sym fits.size) fits.inside; known_used = fits.known_used; used_are = subst (λ (n : ℕ). Rattle.wb_meta.specs.Reads.AreApartPlaces n stored.used.items) (sym fits.size) fits.used_are; used_few = fits.used_few; keeps = fits.keeps })
                   tt refl);
               orders = none_kept g.cache_blocks g.origin_blocks;
               sound = fits.sound;
@@ -328,6 +334,7 @@ module _ (A : Type 0) (g : Geometry) (images : Images) (device : List History) w
               used = stored.used.items;
               stores = subst (λ (s : Stored_there A). DeviceStores s.tree device k.of.new s.used.items) same
                   (subst (λ (us : List Place). DeviceStores k.stored.tree device k.of.new us) k.used (subst (λ (t : Mapping). DeviceStores t device k.of.new k.of.used) k.tree stores));
+              all_used = subst (λ (s : Stored_there A). IsAllUsed k.of.new s.used.items) same (subst (λ (us : List Place). IsAllUsed k.of.new us) k.used k.under.can.all_used);
               places = refl;
               generation = ap (λ (s : Stored_there A). s.root.generation + 1) (sym same) ∙ sym k.generation;
               same = new_root;

@@ -1,8 +1,7 @@
 -- Every run keeps where its flushes and openings stand.
-use Rattle.std.proofs.Common.{◌≡◌, ◌≢◌, ◌∙◌, inl, inr, ℕ, List, [], ◌∷◌, Option, Some, None, refl, sym, ap, subst, arith, length, slice_get, slice_set, map}
+use Rattle.std.proofs.Common.{◌≡◌, ◌≢◌, ◌∙◌, inl, inr, ℕ, List, [], ◌∷◌, Option, Some, None, refl, sym, ap, subst, arith, length, slice_get, slice_set, map, true, false}
 use Rattle.std.proofs.lemmas.Bool.{cases_eq}
 use Rattle.wb_types.specs.declared.mode.Mode.{Mode}
-use Rattle.wb_types.specs.Limits.{node_count}
 use Rattle.wb_disk.specs.Device.{Content as Bytes, History}
 use Rattle.wb_disk.specs.Crash.{Choice}
 use Rattle.wb_disk.specs.Failing.{lands}
@@ -29,7 +28,7 @@ use Rattle.wb_promise.specs.declared.event.Event.TheVariants.{Start, Step, Fault
 use Rattle.wb_promise.specs.declared.event.What.{What}
 use Rattle.wb_promise.specs.declared.event.What.TheVariants.{Skipped, Refused, Started, Stepped, Stopped}
 use Rattle.wb_promise.specs.States.{Shape, State, Actor, Target, Phase, Stands, Gone, Opens, OfTarget, mode_of, resting, start}
-use Rattle.wb_promise.specs.Happenings.{Chosen, Plain, Cut, Orders, Begins, Reaches, Puts, Commits, Asks, Opened, Happening, OfSome, Gives, Falters, MayFailAt, DoesNotApply, MayBe, block_range, invalidated_range, migrated_range, blocks_left, task_job, begun_as, Looks, write_job}
+use Rattle.wb_promise.specs.Happenings.{Chosen, Plain, Cut, Orders, Begins, Reaches, Puts, Commits, Asks, Opened, Happening, OfSome, Gives, Falters, MayFailAt, DoesNotApply, MayBe, block_range, invalidated_range, migrated_range, blocks_left, task_job, begun_as, most_for, Looks, write_job}
 use Rattle.wb_promise.specs.Effects.{device_done, device_failed, commit_then, reading_then, task_then, phase_then, phase_opened, phase_given, actor_then, stepped, with_actor, cleared, given, started, job_of, cut_of, after_what, after_happening, after_all, IsRun, looks_of}
 use Rattle.wb_promise.specs.Clerk.{Notes, formatted}
 use Rattle.wb_promise.specs.Headline.{note_happening}
@@ -444,8 +443,8 @@ module _ (P A : Type 0) (shape : Shape) where
       (k.0, flushes_set actors a x (given {P = P} {A = A} shape t.desk.mode x job chosen) commit commit k.0 k.0 e k.1 (by_job job) (λ Makes b p o f. f))
     where
       by_job : (job : Job) → FlushJob commit (a ≡ k.0) (begun_as job) (table (task_job shape t.desk.mode x.awaiting job (cut_of chosen) (looks_of chosen)))
-      by_job Flush = record { blocks = blocks_left x.awaiting; most = node_count shape.geometry.cache_blocks; answer = Finished; point = ToLook; of = tt; is = refl; at = tt; leads = λ i. absurd i }
-      by_job Suspend = record { blocks = looks_of chosen; most = node_count shape.geometry.cache_blocks; answer = Finished; point = ToLook; of = tt; is = refl; at = tt; leads = λ i. absurd i }
+      by_job Flush = record { blocks = blocks_left x.awaiting; most = most_for shape.geometry false; answer = Finished; point = ToLook; of = tt; is = refl; at = tt; leads = λ i. absurd i }
+      by_job Suspend = record { blocks = looks_of chosen; most = most_for shape.geometry true; answer = Finished; point = ToLook; of = tt; is = refl; at = tt; leads = λ i. absurd i }
       by_job (Read extent) = tt
       by_job (Write extent content) = tt
       by_job (Open mode) = tt

@@ -21,7 +21,7 @@ use Rattle.wb_meta.specs.declared.read_steps.ReadSteps.TheVariants.{Begun, First
 use Rattle.wb_tasks.specs.declared.step.Got.{Got}
 use Rattle.wb_tasks.specs.declared.step.Got.TheVariants.{Refused as GotRefused, More}
 use Rattle.wb_promise.specs.Happenings.{Chosen, Reaches, DoesRead}
-use Rattle.wb_runs.proofs.Spelling.{first_root_or_none}
+use Rattle.wb_runs.proofs.Spelling.{root_or_none}
 use Rattle.wb_runs.proofs.Images.{Images}
 use Rattle.wb_runs.proofs.Metadata.{HasReached}
 
@@ -77,9 +77,9 @@ same_newest s t first f g same r n =
 
 -- what a slot holds is a root or none
 in_slot : (s : List Bytes) (c : Bytes) → slice_get s 0 ≡ Some c → (first : Option Root) × IsInSlot s 0 first
-in_slot s c e = elim (first_root_or_none c) [
+in_slot s c e = elim (root_or_none c) [
   | inl found ↦ elim (cases_eq (found.0.generation % 2) 0) [
-    | inl even ↦ (Some found.0, record { sector = c; there = e; valid = record { spelled = found.1; parity = even; version = found.2 } })
+    | inl even ↦ (Some found.0, record { sector = c; there = e; valid = record { spelled = found.1; parity = even } })
     | inr odd ↦ (
       None,
       λ sector r there v.
@@ -94,7 +94,7 @@ in_slot s c e = elim (first_root_or_none c) [
     λ sector r there v.
         let both : Some sector ≡ Some c = sym there ∙ e in
         let same : sector ≡ c = cc in
-        none r (subst (λ (x : Bytes). SpellsRoot x r) same v.spelled) v.version,
+        none r (subst (λ (x : Bytes). SpellsRoot x r) same v.spelled),
   )
 ]
 
@@ -150,5 +150,5 @@ module _ (P A : Type 0) (mode : Mode) (g : Geometry) (device : List History) whe
   pub can_read : (i : Images) (left : ℕ) (was : ReadSteps A) → HasReached g i was device → (sectors_read was ≡ 0 → 1 ≤ left) → 1 ≤ length device → CanRead P A mode g left was device
   can_read i left (Begun alloc global) k more some = begins alloc global left (more refl) some
   can_read i left (FirstSlotRead alloc global first) k more some = no_memory left (FirstSlotRead alloc global first) (first_stops i alloc global first k)
-  can_read i left (RootFound global root loader) k more some = no_memory left (RootFound global root loader) (λ sectors agree has. record { root = root; newest = has.newest; size = k.on.0.size ∙ sym agree.size })
+  can_read i left (RootFound global root loader nodes) k more some = no_memory left (RootFound global root loader nodes) (λ sectors agree has. record { root = root; newest = has.newest; size = k.on.0.size ∙ sym agree.size })
   can_read i left (AllRead state) k more some = no_memory left (AllRead state) (λ sectors agree has. record { root = state.root; newest = has.represents.newest; size = has.size })

@@ -37,7 +37,7 @@ module _ (P A : Type 0) (g : Geometry) (i : Images) (device : List History) (was
   known_fits : HasReached g i was device → (now : ReadSteps A) → HasRead (map newest device) now → (root : Root) → known_root now ≡ Some root → root.geometry ≡ g
   known_fits k (Begun alloc global) come root e = absurd (cc)
   known_fits k (FirstSlotRead alloc global first) come root e = absurd (cc)
-  known_fits k (RootFound global found loader) come root e =
+  known_fits k (RootFound global found loader nodes) come root e =
       let same : found ≡ root = cc in
       ap (λ (r : Root). r.geometry) (sym same ∙ one_newest (map newest device) found k.found.committed.root come.newest (represents k).newest) ∙ k.found.read.same_geometry
   known_fits k (AllRead state) come root e =

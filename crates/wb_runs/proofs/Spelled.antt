@@ -1,28 +1,20 @@
 -- Every node has a spelling, where its words are 32 and its numbers small enough for their bytes.
-use Rattle.std.proofs.Common.{◌≡◌, ◌∙◌, ◌<◌, ◌+◌, ◌-◌, ◌*◌, ◌^◌, ◌++◌, inl, inr, ℕ, zero, suc, Bool, true, false, List, [], ◌∷◌, Some, refl, sym, ap, arith, length, replicate, slice_get, slice_index}
-use Rattle.std.proofs.lemmas.Bool.{cases_eq}
+use Rattle.std.proofs.Common.{◌≡◌, ◌∙◌, ◌<◌, ◌+◌, ◌-◌, ◌*◌, ◌^◌, ◌++◌, ℕ, zero, suc, Bool, true, false, List, [], ◌∷◌, Some, refl, sym, ap, arith, length, replicate, slice_get, slice_index}
 use Rattle.std.proofs.lemmas.List.{append_assoc, get_or-append_right, get_or_append_left, length-append}
 use Rattle.wb_types.specs.declared.number.Place.{Place}
 use Rattle.wb_format.specs.Bytes.{number_at}
 use Rattle.wb_format.specs.Letters.{node_magic}
 use Rattle.wb_format.specs.Layout.{SpellsNode}
-use Rattle.wb_format.specs.NodeWords.{IsNodeWord}
 use Rattle.wb_format.specs.declared.node.Node.{Node}
 use Rattle.wb_format.proofs.Numbers.{number_at-written, zero-from_bytes, zeros_all, little_bytes-below}
 use Rattle.wb_tree.specs.declared.image.Image.{Image}
+use Rattle.wb_promise.specs.Happenings.{IsWholeNode}
 use Rattle.wb_runs.proofs.Spelling.{below_append, eight, four}
-
--- a node of the mapping that has all its words, with numbers that bytes can hold
-pub record IsSmallNode (node : Node) : Type 0 where
-  pub mapping : node.dirty ≡ false
-  pub words : length node.words ≡ 32
-  pub generation : node.generation < 2 ^ 64
-  pub index : node.index < 2 ^ 32
 
 -- an image whose root and nodes can be spelled
 pub record IsSmall (image : Image) : Type 0 where
   pub root : image.root.generation < 2 ^ 64
-  pub nodes : (k : ℕ) (node : Place × Node) → slice_get image.nodes.items k ≡ Some node → IsSmallNode node.1
+  pub nodes : (k : ℕ) (node : Place × Node) → slice_get image.nodes.items k ≡ Some node → IsWholeNode node.1
 
 -- the bytes of words
 abbrev pub word_bytes : List ℕ → List ℕ
@@ -50,13 +42,6 @@ words_there front (w ∷ ws) rest offset (suc j) e small l =
     ap (λ (o : ℕ). number_at (front ++ (word_bytes (w ∷ ws) ++ rest)) o 8) at
     ∙ ap (λ (xs : List ℕ). number_at xs (offset + 8 + 8 * j) 8) (ap (λ (xs : List ℕ). front ++ xs) (append_assoc (eight w) (word_bytes ws) rest) ∙ sym (append_assoc front (eight w) (word_bytes ws ++ rest)))
     ∙ words_there (front ++ eight w) ws rest (offset + 8) j (length-append front (eight w) ∙ (let s : length (eight w) ≡ 8 = refl in omega (arith, e, s))) (λ i. small (suc i)) (omega (arith, l))
-
--- a word of a node fits eight bytes
-word_fits : (dirty : Bool) (level word : ℕ) → dirty ≡ false → IsNodeWord dirty level word → word < 256 ^ 8
-word_fits dirty level word mapping is = elim (cases_eq level 1) [
-  | inl leaf ↦ let none = (is.leaf mapping leaf).bits_from_36 in omega (arith, none)
-  | inr inner ↦ let few = (is.inner inner).place in omega (arith, few)
-]
 
 -- the letters of a node fit eight bytes
 small_magic : (dirty : Bool) → node_magic dirty < 256 ^ 8
@@ -94,10 +79,10 @@ module _ (n : Node) where
   parted : node_spelling ≡ before_words ++ from_words
   parted = refl
 
-  words_end : IsSmallNode n → length (before_words ++ word_bytes n.words) ≡ 288
+  words_end : IsWholeNode n → length (before_words ++ word_bytes n.words) ≡ 288
   words_end small = let b : length before_words ≡ 32 = refl in omega (arith, b, length-append before_words (word_bytes n.words), length-words n.words, small.words)
 
-  pub spelled_node : IsSmallNode n → SpellsNode node_spelling n
+  pub spelled_node : IsWholeNode n → SpellsNode node_spelling n
   spelled_node small = record {
     bytes = record {
       size = ap (λ (xs : List ℕ). length xs) parted ∙ length-append before_words from_words ∙ (let b : length before_words ≡ 32 = refl in omega (arith, b, length-append (word_bytes n.words) zeros, length-words n.words, small.words, (let z : length zeros ≡ 224 = refl in z)));
@@ -110,6 +95,6 @@ module _ (n : Node) where
     level = number_at-written (eight (node_magic n.dirty) ++ eight n.generation) from_index 16 4 n.level refl (omega (arith, n.level_to));
     index = number_at-written (eight (node_magic n.dirty) ++ (eight n.generation ++ four n.level)) from_gap 20 4 n.index refl (omega (arith, small.index));
     gap = zero-from_bytes node_spelling 24 32 (λ k from to. get_or-append_right before_gap from_gap 24 k 0 refl from ∙ (get_or_append_left (replicate 8 0) from_words 0 (k - 24) (let e : length (replicate {A = ℕ} 8 0) ≡ 8 = refl in omega (arith, e, from, to)) ∙ zeros_all 8 (k - 24)));
-    words = record { size = small.words; each = λ j l. words_there before_words n.words zeros 32 j refl (λ i. word_fits n.dirty n.level (slice_index n.words i) small.mapping (n.spelled i)) (omega (arith, l, small.words)) };
+    words = record { size = small.words; each = λ j l. words_there before_words n.words zeros 32 j refl (λ i. let fits = small.each_word i in omega (arith, fits)) (omega (arith, l, small.words)) };
     rest = zero-from_bytes node_spelling 288 512 (λ k from to. ap (λ (xs : List ℕ). slice_index xs k) (sym (append_assoc before_words (word_bytes n.words) zeros)) ∙ get_or-append_right (before_words ++ word_bytes n.words) zeros 288 k 0 (words_end small) from ∙ zeros_all 224 (k - 288));
   }

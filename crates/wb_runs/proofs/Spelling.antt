@@ -1,11 +1,11 @@
--- Every root has a spelling, and a sector spells a root of the first version or none.
+-- Every root has a spelling, and a sector spells a root or none.
 use Rattle.std.proofs.Common.{◌≡◌, ◌∙◌, ◌≤◌, ◌<◌, ◌+◌, ◌-◌, ◌*◌, ◌%◌, ◌^◌, ◌++◌, ◌⊎◌, inl, inr, ℕ, zero, suc, Bool, true, false, cond, List, [], ◌∷◌, Option, Some, None, refl, sym, ap, subst, arith, length, replicate, slice_index}
 use Rattle.std.specs.Prelude.{slice_range, All}
-use Rattle.std.proofs.lemmas.Bool.{cases_eq, cases_lt}
+use Rattle.std.proofs.lemmas.Bool.{cases_eq, cases_lt, false≢true}
 use Rattle.std.proofs.lemmas.List.{get_or-append_right}
 use Rattle.std.proofs.lemmas.List.Elements.{All-cons, All-nil, All-from_recursion, recursion_from_All}
 use Rattle.std.specs.Int.{bytes_low_first}
-use Rattle.wb_types.specs.Limits.{IsWithinLimits, HasRoom, node_count}
+use Rattle.wb_types.specs.Limits.{IsWithinLimits, HasRoom, dirty_nodes, node_count}
 use Rattle.wb_types.specs.declared.geometry.Geometry.{Geometry}
 use Rattle.wb_types.specs.declared.number.Place.{Place}
 use Rattle.wb_format.specs.Bytes.{IsSector, number_at}
@@ -16,6 +16,7 @@ use Rattle.wb_format.specs.Layout.{SpellsRoot}
 use Rattle.wb_format.specs.declared.root.Root.{Root}
 use Rattle.wb_types.specs.declared.version.Version.{Version}
 use Rattle.wb_types.specs.declared.version.Version.TheVariants.{One, Two}
+use Rattle.wb_format.proofs.Values.{one_version}
 use Rattle.wb_format.proofs.Numbers.{number_at-written, zero-from_bytes, zeros_all, little_bytes-below}
 
 -- ---- a root is spelled
@@ -203,48 +204,147 @@ flag_in (suc (suc n)) = inr (λ x. bad x.0 x.1)
     bad true e = omega (arith, e)
     bad false e = omega (arith, e)
 
--- so has a mapping room that is within limits, in the first version
-room_first : (b c o m : ℕ) → IsWithinLimits b c o m → HasRoom One c m
-room_first b c o m within = let least = within.meta_from in omega (arith, least)
+-- a version's room
+room_of : (v : Version) (c m : ℕ) → Decided (HasRoom v c m)
+room_of One c m = at_most (2 + 2 * node_count c + dirty_nodes One c) m
+room_of Two c m = at_most (2 + 2 * node_count c + dirty_nodes Two c) m
 
--- a root of the first version names no dirty bits
-none_dirty : (version : Version) (clean : Bool) (top_dirty : Option Place) → MayNameDirty version clean top_dirty → version ≡ One → ◌≡◌ {A = ℕ} (top_number top_dirty) 0
-none_dirty version clean None may first = refl
-none_dirty version clean (Some p) may first = let two = (may p refl).0 in let one : version_number version ≡ version_number One = ap version_number first in absurd (omega (arith, two, one))
+is_true : (b : Bool) → Decided (b ≡ true)
+is_true true = inl refl
+is_true false = inr (λ e. false≢true e)
 
--- a sector spells a root of the first version or none
-pub first_root_or_none : (s : List ℕ) → ((r : Root) × SpellsRoot s r × (r.version ≡ One)) ⊎ ((r : Root) → SpellsRoot s r → ¬ (r.version ≡ One))
-first_root_or_none s = elim (two_of (two_of (is_sector s) (two_of (cases_eq (number_at s 0 8) root_magic) (two_of (cases_eq (number_at s 16 4) 1) (cases_eq (number_at s 44 4) 0)))) (two_of (all_zero (slice_range s 48 512)) (two_of (flag_in (number_at s 20 4))
-    (two_of (within_limits (number_at s 24 4) (number_at s 28 4) (number_at s 32 4) (number_at s 36 4)) (top_in (number_at s 36 4) (number_at s 40 4)))))) [
-      | inl d ↦ inl (
-        record {
-          generation = number_at s 8 8;
-          version = One;
-          clean = d.1.1.0.0;
-          geometry = record {
-            block = number_at s 24 4;
-            cache_blocks = number_at s 28 4;
-            origin_blocks = number_at s 32 4;
-            meta_sectors = number_at s 36 4;
-            version = One;
-            within = d.1.1.1.0;
-            room = room_first (number_at s 24 4) (number_at s 28 4) (number_at s 32 4) (number_at s 36 4) d.1.1.1.0;
-          };
-          top = d.1.1.1.1.0;
-          top_dirty = None;
-          same_version = refl;
-          top_inside = d.1.1.1.1.1;
-          dirty_inside = λ p e. absurd (cc);
-          dirty_clean = λ p e. absurd (cc);
-        },
-        record { bytes = d.0.0; magic = d.0.1.0; generation = refl; version = d.0.1.1.0; flags = d.1.1.0.1; geometry = record { block = refl; cache_blocks = refl; origin_blocks = refl; meta_sectors = refl; version = d.0.1.1.0 }; top = d.1.1.1.1.2; top_dirty = d.0.1.1.1; rest = d.1.0 },
-        refl,
-      )
-      | inr none ↦ inr (λ r p first. none ((p.bytes, (p.magic, (p.version ∙ ap version_number first, p.top_dirty ∙ none_dirty r.version r.clean r.top_dirty r.dirty_clean first))), (p.rest, ((r.clean, p.flags), (fits r p, (r.top, top_fits r p, p.top))))))
+-- a root of this version with this flag may name this top of dirty bits
+may_name : (v : Version) (clean : Bool) (top : Option Place) → Decided (MayNameDirty v clean top)
+may_name v clean None = inl (λ p e. absurd cc)
+may_name v clean (Some place) = elim (two_of (cases_eq (version_number v) 2) (is_true clean)) [
+  | inl d ↦ inl (λ p e. d)
+  | inr n ↦ inr (λ f. n (f place refl))
+]
+
+-- the number of a top says which it is
+same_top : (a b : Option Place) (m : ℕ) → IsTop m a → IsTop m b → ◌≡◌ {A = ℕ} (top_number a) (top_number b) → a ≡ b
+same_top None None m i k e = refl
+same_top None (Some p) m i k e = absurd (let low = (k p refl).0 in omega (arith, e, low))
+same_top (Some p) None m i k e = absurd (let low = (i p refl).0 in omega (arith, e, low))
+same_top (Some p) (Some q) m i k e = ap (λ (n : ℕ). Some (record { 0 = n })) e
+
+same_flag : (a b : Bool) → ◌≡◌ {A = ℕ} (cond a 1 0) (cond b 1 0) → a ≡ b
+same_flag true true e = refl
+same_flag true false e = absurd (omega (arith, e))
+same_flag false true e = absurd (omega (arith, e))
+same_flag false false e = refl
+
+-- What the numbers of a sector say of a root of a version: the flag, the sizes and the two tops, and what a root of them keeps to.
+record HasFields (v : Version) (s : List ℕ) : Type 0 where
+  clean : Bool
+  top : Option Place
+  top_dirty : Option Place
+  bytes : IsSector s
+  magic : number_at s 0 8 ≡ root_magic
+  version : number_at s 16 4 ≡ version_number v
+  rest : All (λ (byte : ℕ). byte ≡ 0) (slice_range s 48 512)
+  flag : number_at s 20 4 ≡ cond clean 1 0
+  within : IsWithinLimits (number_at s 24 4) (number_at s 28 4) (number_at s 32 4) (number_at s 36 4)
+  room : HasRoom v (number_at s 28 4) (number_at s 36 4)
+  top_inside : IsTop (number_at s 36 4) top
+  top_is : number_at s 40 4 ≡ top_number top
+  dirty_inside : IsTop (number_at s 36 4) top_dirty
+  dirty_is : number_at s 44 4 ≡ top_number top_dirty
+  may : MayNameDirty v clean top_dirty
+
+fields_in : (v : Version) (s : List ℕ) → Decided (HasFields v s)
+fields_in v s = elim (two_of (two_of (two_of (is_sector s) (cases_eq (number_at s 0 8) root_magic)) (two_of (cases_eq (number_at s 16 4) (version_number v)) (all_zero (slice_range s 48 512))))
+    (two_of (two_of (flag_in (number_at s 20 4)) (within_limits (number_at s 24 4) (number_at s 28 4) (number_at s 32 4) (number_at s 36 4)))
+    (two_of (room_of v (number_at s 28 4) (number_at s 36 4)) (two_of (top_in (number_at s 36 4) (number_at s 40 4)) (top_in (number_at s 36 4) (number_at s 44 4)))))) [
+      | inl d ↦ elim (may_name v d.1.0.0.0 d.1.1.1.1.0) [
+        | inl may ↦ inl (record {
+          clean = d.1.0.0.0;
+          top = d.1.1.1.0.0;
+          top_dirty = d.1.1.1.1.0;
+          bytes = d.0.0.0;
+          magic = d.0.0.1;
+          version = d.0.1.0;
+          rest = d.0.1.1;
+          flag = d.1.0.0.1;
+          within = d.1.0.1;
+          room = d.1.1.0;
+          top_inside = d.1.1.1.0.1;
+          top_is = d.1.1.1.0.2;
+          dirty_inside = d.1.1.1.1.1;
+          dirty_is = d.1.1.1.1.2;
+          may = may;
+        })
+        | inr none ↦ inr (λ h. none (subst (λ (c : Bool). MayNameDirty v c d.1.1.1.1.0) (same_flag h.clean d.1.0.0.0 (sym h.flag ∙ d.1.0.0.1))
+            (subst (λ (t : Option Place). MayNameDirty v h.clean t) (same_top h.top_dirty d.1.1.1.1.0 (number_at s 36 4) h.dirty_inside d.1.1.1.1.1 (sym h.dirty_is ∙ d.1.1.1.1.2)) h.may)))
+      ]
+      | inr none ↦ inr (λ h. none (((h.bytes, h.magic), (h.version, h.rest)), (((h.clean, h.flag), h.within), (h.room, ((h.top, h.top_inside, h.top_is), (h.top_dirty, h.dirty_inside, h.dirty_is))))))
     ]
-  where
-    fits : (r : Root) → SpellsRoot s r → IsWithinLimits (number_at s 24 4) (number_at s 28 4) (number_at s 32 4) (number_at s 36 4)
-    fits r p = rw (p.geometry.block, p.geometry.cache_blocks, p.geometry.origin_blocks, p.geometry.meta_sectors) r.geometry.within
 
-    top_fits : (r : Root) → SpellsRoot s r → IsTop (number_at s 36 4) r.top
-    top_fits r p = subst (λ (m : ℕ). IsTop m r.top) (sym p.geometry.meta_sectors) r.top_inside
+-- a sector with such numbers spells a root of this version, and what spells one has them
+root_with : (v : Version) (s : List ℕ) → HasFields v s → (r : Root) × SpellsRoot s r
+root_with v s h = (
+  record {
+    generation = number_at s 8 8;
+    version = v;
+    clean = h.clean;
+    geometry = record {
+      block = number_at s 24 4;
+      cache_blocks = number_at s 28 4;
+      origin_blocks = number_at s 32 4;
+      meta_sectors = number_at s 36 4;
+      version = v;
+      within = h.within;
+      room = h.room;
+    };
+    top = h.top;
+    top_dirty = h.top_dirty;
+    same_version = refl;
+    top_inside = h.top_inside;
+    dirty_inside = h.dirty_inside;
+    dirty_clean = h.may;
+  },
+  record {
+    bytes = h.bytes;
+    magic = h.magic;
+    generation = refl;
+    version = h.version;
+    flags = h.flag;
+    geometry = record { block = refl; cache_blocks = refl; origin_blocks = refl; meta_sectors = refl; version = h.version };
+    top = h.top_is;
+    top_dirty = h.dirty_is;
+    rest = h.rest;
+  },
+)
+
+has_fields : (s : List ℕ) (r : Root) → SpellsRoot s r → HasFields r.version s
+has_fields s r p = record {
+  clean = r.clean;
+  top = r.top;
+  top_dirty = r.top_dirty;
+  bytes = p.bytes;
+  magic = p.magic;
+  version = p.version;
+  rest = p.rest;
+  flag = p.flags;
+  within = rw (p.geometry.block, p.geometry.cache_blocks, p.geometry.origin_blocks, p.geometry.meta_sectors) r.geometry.within;
+  room = rw (p.geometry.cache_blocks, p.geometry.meta_sectors) (subst (λ (v : Version). HasRoom v r.geometry.cache_blocks r.geometry.meta_sectors) (sym (one_version r.version r.geometry.version r.same_version)) r.geometry.room);
+  top_inside = subst (λ (m : ℕ). IsTop m r.top) (sym p.geometry.meta_sectors) r.top_inside;
+  top_is = p.top;
+  dirty_inside = subst (λ (m : ℕ). IsTop m r.top_dirty) (sym p.geometry.meta_sectors) r.dirty_inside;
+  dirty_is = p.top_dirty;
+  may = r.dirty_clean;
+}
+
+-- a sector spells a root or none
+pub root_or_none : (s : List ℕ) → ((r : Root) × SpellsRoot s r) ⊎ ((r : Root) → ¬ SpellsRoot s r)
+root_or_none s = elim (fields_in One s) [
+  | inl first ↦ inl (root_with One s first)
+  | inr no_first ↦ elim (fields_in Two s) [
+    | inl second ↦ inl (root_with Two s second)
+    | inr no_second ↦ inr (λ r p. neither r.version no_first no_second (has_fields s r p))
+  ]
+]
+  where
+    neither : (v : Version) → (¬ HasFields One s) → (¬ HasFields Two s) → HasFields v s → ⊥
+    neither One a b h = a h
+    neither Two a b h = b h

@@ -98,7 +98,7 @@ module _ (P A : Type 0) (shape : Shape) where
     turned = u.turned;
     kept = record {
       is = k.is;
-      stands = record { of = l.of; under = u.kept; edited = l.edited; entries = l.entries; places = l.places; generation = l.generation; busy = l.busy };
+      stands = record { of = l.of; under = u.kept; edited = l.edited; places = l.places; generation = l.generation; busy = l.busy };
     };
   }
 
@@ -145,7 +145,7 @@ module _ (P A : Type 0) (shape : Shape) where
       begun : (now : ReadSteps A) → sectors_read now ≡ 0 → Turns (λ j. HasReached shape.geometry j now (synced m)) i
       begun (Begun alloc global) e = by (Begun alloc global) (record { found = base.kept; come = tt; on = tt })
       begun (FirstSlotRead alloc global first) e = absurd (omega (arith, e))
-      begun (RootFound global root loader) e = absurd (omega (arith, e))
+      begun (RootFound global root loader nodes) e = absurd (omega (arith, e))
       begun (AllRead state) e = absurd (omega (arith, e))
   sync_metadata i (Opens mode reading) None m chosen k s = absurd s
 
@@ -207,7 +207,7 @@ module _ (P A : Type 0) (shape : Shape) where
       idle : t.desk.space.committing ≡ false
       idle = s.3.1.may.idle
 
-      by_commit : (commit : Option RunningCommit) → AtDesk shape.geometry i t.desk commit m → Turns (λ j. AtDesk shape.geometry j (Rattle.wb_desk.specs.Commits.commit_begun t.desk tree) (Some c) m) i
+      by_commit : (commit : Option RunningCommit) → AtDesk shape.geometry i t.desk commit m → Turns (λ j. AtDesk shape.geometry j (Rattle.wb_desk.specs.Commits.commit_begun t.desk tree c.image) (Some c) m) i
       by_commit (Some d) k = absurd (let a = k.stands.busy in let b = idle in cc)
       by_commit None k = elim k.stands [
         | inl q ↦ let b = begins_over P shape.geometry i t.desk m s.3.0 seen c tree k.is q s.2 s.3.1 in record { now = b.now; turn = b.turn; turned = b.turned; kept = b.kept.0 }
@@ -302,7 +302,7 @@ module _ (P A : Type 0) (shape : Shape) where
       by_reading : (reading : ReadSteps A) → Rooting shape.geometry i reading c m → IsDone reading → T i (phase_then shape (Opens mode (Some reading)) (End Finished) got (Opened policy)) None m
       by_reading (Begun alloc global) k d = absurd d
       by_reading (FirstSlotRead alloc global first) k d = absurd d
-      by_reading (RootFound global root loader) k d = absurd d
+      by_reading (RootFound global root loader nodes) k d = absurd d
       by_reading (AllRead stored) k d = let t = target_stands A shape.geometry i m P mode policy shape.threshold stored c k s.1 in record { now = t.now; turn = t.turn; turned = t.turned; kept = t.kept.0 }
   answer_opens i (Opens mode (Some reading)) None m got (Opened policy) k s = absurd (let e = s.1 in cc)
   answer_opens i (Opens mode None) commit m got (Opened policy) k s = absurd s.0

@@ -1,5 +1,5 @@
 -- In every run each actor has what its task needs, and the words of the target that stands keep their rule.
-use Rattle.std.proofs.Common.{◌≡◌, ◌<◌, ◌*◌, ◌/◌, inr, ℕ, List, [], ◌∷◌, Option, Some, None, refl, sym, ap, subst, slice_get, slice_set, arith, mul_comm, ◌++◌, inl}
+use Rattle.std.proofs.Common.{◌≡◌, ◌<◌, ◌*◌, ◌/◌, inr, ℕ, List, [], ◌∷◌, Option, Some, None, refl, sym, ap, subst, slice_get, slice_set, arith, mul_comm, ◌++◌, inl, true, false}
 use mathlib.Core.Option.{some}
 use lib.ListN.{get_elem?}
 use Rattle.wb_types.specs.declared.mode.Mode.{Mode}
@@ -48,6 +48,8 @@ use Rattle.wb_types.specs.declared.number.OBlock.{OBlock}
 use Rattle.wb_tasks.specs.declared.step.Migration.{Migration}
 use Rattle.wb_tasks.specs.declared.step.Migration.TheVariants.{Promote, Demote, Clean}
 use Rattle.wb_policy.specs.declared.order.Order.{Order}
+use Rattle.wb_devices.specs.Clean.{entries_of}
+use Rattle.wb_devices.proofs.BitEntries.{origin-with_bits}
 use Rattle.wb_devices.specs.declared.devices.Devices.{Devices}
 use Rattle.wb_contents.proofs.Lists.{replicated}
 use Rattle.wb_runs.proofs.Lists.{free, first_or}
@@ -212,7 +214,7 @@ module _ (P A : Type 0) (shape : Shape) where
     }
 
     -- and one that is done
-    opened_answer : (mode : Mode) (stored : Stored A) (policy : P) (got : Got) → AllBlank actors → EntriesInside blocks stored.tree.entries →
+    opened_answer : (mode : Mode) (stored : Stored A) (policy : P) (got : Got) → AllBlank actors → EntriesInside blocks (entries_of stored) →
         UsedRightly (Stands (target_over shape mode policy stored)) (slice_set actors a (actor_then {P = P} {A = A} shape (Opens mode (Some (AllRead stored))) devices x (End Finished) got))
     opened_answer mode stored policy got b inside = record {
       suited = set_suited _ (subst (λ (o : Option (Job × Plan)). TaskSuits blocks (card_over shape x.card (Some (AllRead stored))) (task_then o (End Finished) got)) (sym xt) done.nothing);
@@ -221,7 +223,7 @@ module _ (P A : Type 0) (shape : Shape) where
     }
       where
         done : Sealed blocks stored.root.clean a (words_by (fresh_words blocks) (seals_of stored)) (cards_of actors) (card_by (fresh_words blocks) blank_card (seals_of stored))
-        done = all_sealed blocks stored.root.clean a 0 stored.tree.entries (fresh_words blocks) (cards_of actors) blank_card inside (fresh_ruled blocks actors b)
+        done = all_sealed blocks stored.root.clean a 0 (entries_of stored) (fresh_words blocks) (cards_of actors) blank_card inside (fresh_ruled blocks actors b)
             (subst (λ (c : Card). get_elem? (cards_of actors) a ≡ some c) (b a x e) (card_at actors a x e)) refl (fresh_taken blocks)
 
   -- ---- each step
@@ -255,10 +257,13 @@ module _ (P A : Type 0) (shape : Shape) where
         by_reading : (r : Option (ReadSteps A)) (c : Chosen P A) → DoesOpen (Opens mode r) w.commit c →
             Turns (λ now. Rattle.wb_runs.proofs.Metadata.MetadataKept shape.geometry now (phase_then shape (Opens mode r) (End Finished) got c) (Rattle.wb_promise.specs.Effects.commit_then (Opens mode r) w.commit (End Finished) got c) w.devices.metadata) known.images →
             UsedRightly (phase_then shape (Opens mode r) (End Finished) got c) (slice_set w.actors a (actor_then {P = P} {A = A} shape (Opens mode r) w.devices x (End Finished) got))
-        by_reading (Some (AllRead stored)) (Opened policy) d k = opened_answer w.devices w.actors a x e job plan xt all ords mode stored policy got i.0 (λ at entry f. (k.kept.is.kept.mapping.within at entry f).0)
+        by_reading (Some (AllRead stored)) (Opened policy) d k = opened_answer w.devices w.actors a x e job plan xt all ords mode stored policy got i.0
+            (λ at entry f.
+            let o = origin-with_bits stored.dirty stored.tree.entries at entry f in
+            subst (λ (b : OBlock). b.0 < blocks) o.same (k.kept.is.kept.mapping.within at o.was o.there).0)
         by_reading (Some (Begun alloc global)) (Opened policy) d k = absurd d.0
         by_reading (Some (FirstSlotRead alloc global first)) (Opened policy) d k = absurd d.0
-        by_reading (Some (RootFound global root loader)) (Opened policy) d k = absurd d.0
+        by_reading (Some (RootFound global root loader nodes)) (Opened policy) d k = absurd d.0
         by_reading None (Opened policy) d k = absurd d.0
         by_reading r c d k = absurd d
 
@@ -430,14 +435,14 @@ module _ (P A : Type 0) (shape : Shape) where
   starts w a Flush chosen k u applies gives =
       let f = free P A w a Flush applies in
       subst (λ (o : Option Actor). Started_so w a Flush chosen o) (sym f.1)
-      (over Flush chosen w.phase w.actors (given shape (mode_of w.phase) f.0 Flush chosen) a (starts_task w.phase w.actors a f.0 (given shape (mode_of w.phase) f.0 Flush chosen) f.1 refl (flush_begins blocks (blocks_left f.0.awaiting) (Rattle.wb_types.specs.Limits.node_count shape.geometry.cache_blocks) f.0.card (holds_nothing w f.0 a u f.1 f.2)) (u.orders a f.0 f.1) (λ m. applies (inr (inr (inr m)))) u))
+      (over Flush chosen w.phase w.actors (given shape (mode_of w.phase) f.0 Flush chosen) a (starts_task w.phase w.actors a f.0 (given shape (mode_of w.phase) f.0 Flush chosen) f.1 refl (flush_begins blocks (blocks_left f.0.awaiting) (Rattle.wb_promise.specs.Happenings.most_for shape.geometry false) f.0.card (holds_nothing w f.0 a u f.1 f.2)) (u.orders a f.0 f.1) (λ m. applies (inr (inr (inr m)))) u))
     where
       over : (job : Job) (chosen : Chosen P A) (phase : Phase P A) (actors : List Actor) (y : Actor) (a : ℕ) → UsedRightly phase (slice_set actors a y) → UsedRightly (phase_given phase job chosen) (slice_set actors a y)
       over job chosen phase actors y a u = record { suited = u.suited; here = same_here phase job chosen (slice_set actors a y) u.here; orders = u.orders }
   starts w a Suspend (Looks looks) k u applies gives =
       let f = free P A w a Suspend applies in
       subst (λ (o : Option Actor). Started_so w a Suspend (Looks looks) o) (sym f.1)
-      (over Suspend (Looks looks) w.phase w.actors (given {P = P} {A = A} shape (mode_of w.phase) f.0 Suspend (Looks looks)) a (starts_task w.phase w.actors a f.0 (given {P = P} {A = A} shape (mode_of w.phase) f.0 Suspend (Looks looks)) f.1 refl (suspend_begins blocks looks (Rattle.wb_types.specs.Limits.node_count shape.geometry.cache_blocks) f.0.card (looks_below w looks k gives.1) (holds_nothing w f.0 a u f.1 f.2)) (u.orders a f.0 f.1) (λ m. applies (inr (inr (inr m)))) u))
+      (over Suspend (Looks looks) w.phase w.actors (given {P = P} {A = A} shape (mode_of w.phase) f.0 Suspend (Looks looks)) a (starts_task w.phase w.actors a f.0 (given {P = P} {A = A} shape (mode_of w.phase) f.0 Suspend (Looks looks)) f.1 refl (suspend_begins blocks looks (Rattle.wb_promise.specs.Happenings.most_for shape.geometry true) f.0.card (looks_below w looks k gives.1) (holds_nothing w f.0 a u f.1 f.2)) (u.orders a f.0 f.1) (λ m. applies (inr (inr (inr m)))) u))
     where
       over : (job : Job) (chosen : Chosen P A) (phase : Phase P A) (actors : List Actor) (y : Actor) (a : ℕ) → UsedRightly phase (slice_set actors a y) → UsedRightly (phase_given phase job chosen) (slice_set actors a y)
       over job chosen phase actors y a u = record { suited = u.suited; here = same_here phase job chosen (slice_set actors a y) u.here; orders = u.orders }

@@ -1,6 +1,5 @@
 -- That no run is ever stuck.
-use Rattle.std.specs.Prelude.{◌≡◌, ◌≤◌, ℕ, List, None}
-use Rattle.wb_types.specs.Limits.{node_count}
+use Rattle.std.specs.Prelude.{◌≡◌, ◌≤◌, ℕ, false, List, None}
 use Rattle.wb_disk.specs.Device.{Content as Bytes}
 use Rattle.wb_tree.specs.Fields.{AreApart}
 use Rattle.wb_meta.specs.Reads.{sectors_read}
@@ -15,7 +14,7 @@ use Rattle.wb_promise.specs.declared.event.Event.TheVariants.{Step}
 use Rattle.wb_promise.specs.declared.event.What.{What}
 use Rattle.wb_promise.specs.declared.event.What.TheVariants.{Stepped}
 use Rattle.wb_promise.specs.States.{Shape, State, Target, Stands, start}
-use Rattle.wb_promise.specs.Happenings.{Chosen, HasTask, WaitsForCommit, DoesBegin, MayBe}
+use Rattle.wb_promise.specs.Happenings.{Chosen, HasTask, WaitsForCommit, DoesBegin, MayBe, most_for}
 use Rattle.wb_promise.specs.Effects.{after_all}
 use Rattle.wb_promise.specs.Headline.{InEveryRun}
 
@@ -39,11 +38,11 @@ pub record GivesSomething {P A : Type 0} (shape : Shape) (w : State P A) (a : �
   pub may : MayBe shape w (Step a) (Stepped next got) read chosen
 
 -- Every event has a happening, and whoever has a task, and has not to wait for a commit of another, may do its next step. Where a commit may begin, one can, by each flush that
--- allows as many nodes as a tree of this size may have, as all of a run do, if no node of the tree is known twice.
+-- allows as many nodes as an image of this geometry may have that is not clean, as all of a run do, if no node of the tree is known twice.
 pub record IsFree {P A : Type 0} (shape : Shape) (w : State P A) : Type 0 where
   pub events : (event : Event) → HasHappening shape w event
   pub steps : (a : ℕ) → HasTask w a → ¬ WaitsForCommit w a → GivesSomething shape w a
-  pub commits : (target : Target P) (most : ℕ) → w.phase ≡ Stands target → AreApart target.desk.tree.known → node_count shape.geometry.cache_blocks ≤ most → MayBegin target.desk → CanBegin P A most target.desk
+  pub commits : (target : Target P) (most : ℕ) → w.phase ≡ Stands target → AreApart target.desk.tree.known → most_for shape.geometry false ≤ most → MayBegin target.desk → CanBegin P A most target.desk
 
 -- So it is after every run, where there is a policy to open with, and a reading that has read nothing.
 abbrev pub NeverStuck : (P A : Type 0) → Type 0

@@ -124,7 +124,7 @@ module _ (size : ℕ) (orders : List (Option Order)) (migration : Migration) (bl
   carried_task = subst (λ (v : AbstractActor). HasTask v.task) (sym k.at.is) tt
 
 module _ (size : ℕ) (orders : List (Option Order)) (migration : Migration) (block : OBlock) (part : BlockRange) (plan : Plan) (x : Actor) (y : AbstractActor) (k : IsCarried size orders migration block part plan.steps plan.answer x y) (words : Words) (task : x.task ≡ Some (Migrate migration block, plan)) where
-  pub carried_stands : (most : ℕ) → StandsFor size most words x y
+  pub carried_stands : (most : Bool → ℕ) → StandsFor size most words x y
   carried_stands most = record {
     failed = false;
     has_failed = λ e. absurd (cc);

@@ -46,7 +46,7 @@ module _ (clean : Bool) (now : Situation) (a : ℕ) (x : Actor) (plan : Plan) (s
   abbrev y : AbstractActor
   y = its.0
 
-  f : IsCommitAt now.size now.most its.2.failed clean plan x.share its.0
+  f : IsCommitAt now.size (now.most clean) its.2.failed clean plan x.share its.0
   f = doing_as clean now.size now.most its.2.failed plan x.card x.share its.0 (doing_of now.size now.most now.words x its.0 (flush_or_suspend clean) plan its.2 wants.task)
 
   abbrev blocks : List OBlock
@@ -54,28 +54,28 @@ module _ (clean : Bool) (now : Situation) (a : ℕ) (x : Actor) (plan : Plan) (s
 
   -- what is left of it
   abbrev left : List Want → Plan
-  left steps = committing clean blocks now.most steps plan.answer
+  left steps = committing clean blocks (now.most clean) steps plan.answer
 
   -- what holds of what is left, with this step next, holds of it
-  at_commit : IsWithin next → (P : Plan → Type 0) → ((later : List Want) (leads : Bool) → LeadsAt leads (next ∷ later) → IsOfCommit clean now.most (next ∷ later) → IsCommitting now.size [] (left (next ∷ later)) (ticket_in next x.share) leads y → P (left (next ∷ later))) → P plan
-  at_commit within P h = by_commit now.size now.most its.2.failed clean plan next x.share y wants.asks within f P h
+  at_commit : IsWithin next → (P : Plan → Type 0) → ((later : List Want) (leads : Bool) → LeadsAt leads (next ∷ later) → IsOfCommit clean (now.most clean) (next ∷ later) → IsCommitting now.size [] (left (next ∷ later)) (ticket_in next x.share) leads y → P (left (next ∷ later))) → P plan
+  at_commit within P h = by_commit now.size (now.most clean) its.2.failed clean plan next x.share y wants.asks within f P h
 
   -- where it leads no commit
   not_leading : (next : Want) (later : List Want) (ticket : Option ℕ) (leads : Bool) → leads ≡ false → IsCommitting now.size [] (left (next ∷ later)) ticket leads y → IsCommitting now.size [] (left (next ∷ later)) ticket false y
   not_leading next later ticket leads l is = subst (λ (b : Bool). IsCommitting now.size [] (left (next ∷ later)) ticket b y) l is
 
   -- it has this alone to do before it answers
-  at_last : (step : Want) (rest : List Want) → want plan ≡ step → IsWithin step → ((later : List Want) → IsOfCommit clean now.most (step ∷ later) → later ≡ rest) → (P : Plan → Type 0) → ((leads : Bool) → LeadsAt leads (step ∷ rest) → IsCommitting now.size [] (left (step ∷ rest)) (ticket_in step x.share) leads y → P (left (step ∷ rest))) → P plan
-  at_last step rest e within last P h = by_commit now.size now.most its.2.failed clean plan step x.share y e within f P (λ later leads l o is.
+  at_last : (step : Want) (rest : List Want) → want plan ≡ step → IsWithin step → ((later : List Want) → IsOfCommit clean (now.most clean) (step ∷ later) → later ≡ rest) → (P : Plan → Type 0) → ((leads : Bool) → LeadsAt leads (step ∷ rest) → IsCommitting now.size [] (left (step ∷ rest)) (ticket_in step x.share) leads y → P (left (step ∷ rest))) → P plan
+  at_last step rest e within last P h = by_commit now.size (now.most clean) its.2.failed clean plan step x.share y e within f P (λ later leads l o is.
       subst (λ (ws : List Want). LeadsAt leads (step ∷ ws) → IsCommitting now.size [] (left (step ∷ ws)) (ticket_in step x.share) leads y → P (left (step ∷ ws))) (sym (last later o)) (h leads) l is)
 
   look : want plan ≡ Cell (Look Fail) → WorldFollows Quietly a s now (stepped_actor now.words (flush_or_suspend clean) plan (Look Fail) x)
-  look e = first plan (commit_task clean blocks now.most) (Cell (Look Fail)) f.job e (λ p. IsOfCommit clean now.most p.steps → At p → WorldFollows Quietly a s now (stepped_actor now.words (flush_or_suspend clean) p (Look Fail) x)) (λ later k o at. by later o at) (λ k q. absurd (cc)) f.steps f.at
+  look e = first plan (commit_task clean blocks (now.most clean)) (Cell (Look Fail)) f.job e (λ p. IsOfCommit clean (now.most clean) p.steps → At p → WorldFollows Quietly a s now (stepped_actor now.words (flush_or_suspend clean) p (Look Fail) x)) (λ later k o at. by later o at) (λ k q. absurd (cc)) f.steps f.at
     where
       At : Plan → Type 0
       At p = IsLeading now.size its.2.failed p (ticket_in (want p) x.share) y ⊎ IsLate its.2.failed p y
 
-      by : (later : List Want) → IsToBegin clean now.most later → At (left (Cell (Look Fail) ∷ later)) → WorldFollows Quietly a s now (stepped_actor now.words (flush_or_suspend clean) (left (Cell (Look Fail) ∷ later)) (Look Fail) x)
+      by : (later : List Want) → IsToBegin clean (now.most clean) later → At (left (Cell (Look Fail) ∷ later)) → WorldFollows Quietly a s now (stepped_actor now.words (flush_or_suspend clean) (left (Cell (Look Fail) ∷ later)) (Look Fail) x)
       by later o (inl l) = looks now clean blocks a x s y wants.here its.1 wants.agrees later plan.answer o (not_leading (Cell (Look Fail)) later None l.leads l.at l.is)
       by later o (inr l) = late_looks now clean blocks a x s y wants.here its.1 wants.agrees later plan.answer its.2 l
 
@@ -92,23 +92,23 @@ module _ (clean : Bool) (now : Situation) (a : ℕ) (x : Actor) (plan : Plan) (s
 
   -- it answers; one that leads a commit still has failed
   answered : (orders' awaiting' : List Order) → ((o : Order) → Contains (held x) o → Contains (orders' ++ awaiting') o) → (answer : Answer) → want plan ≡ End answer → WorldFollows (Answers (commit_there clean) answer) a s now (record x { task = None; orders = orders'; awaiting = awaiting' })
-  answered orders' awaiting' keeps answer e = answers_by plan (commit_task clean blocks now.most) answer f.job e (λ later k. no_end clean later (subst (λ (us : List Want). IsOfCommit clean now.most us) k f.steps)) (λ p. IsLeading now.size its.2.failed p (ticket_in (want p) x.share) y ⊎ IsLate its.2.failed p y → Goal) by f.at
+  answered orders' awaiting' keeps answer e = answers_by plan (commit_task clean blocks (now.most clean)) answer f.job e (λ later k. no_end clean later (subst (λ (us : List Want). IsOfCommit clean (now.most clean) us) k f.steps)) (λ p. IsLeading now.size its.2.failed p (ticket_in (want p) x.share) y ⊎ IsLate its.2.failed p y → Goal) by f.at
     where
       p : Plan
-      p = committing clean blocks now.most [] answer
+      p = committing clean blocks (now.most clean) [] answer
 
-      no_end : (clean : Bool) (later : List Want) → IsOfCommit clean now.most (End answer ∷ later) → ⊥
+      no_end : (clean : Bool) (later : List Want) → IsOfCommit clean (now.most clean) (End answer ∷ later) → ⊥
       no_end true later o = o
       no_end false later o = o
 
       Goal : Type 0
       Goal = WorldFollows (Answers (commit_there clean) answer) a s now (record x { task = None; orders = orders'; awaiting = awaiting' })
 
-      told_so : AnswersSo (job_for now.size [] (commit_task clean blocks now.most)) answer y.task → AnswersSo (commit_there clean) answer y.task
-      told_so t = subst (λ (j : AbstractJob). AnswersSo j answer y.task) (job_is now.size [] clean blocks now.most) t
+      told_so : AnswersSo (job_for now.size [] (commit_task clean blocks (now.most clean))) answer y.task → AnswersSo (commit_there clean) answer y.task
+      told_so t = subst (λ (j : AbstractJob). AnswersSo j answer y.task) (job_is now.size [] clean blocks (now.most clean)) t
 
       by : IsLeading now.size its.2.failed p None y ⊎ IsLate its.2.failed p y → Goal
-      by (inl l) = answers now a x s y wants.here its.1 wants.agrees its.2 orders' awaiting' keeps (Answers (commit_there clean) answer) (told_so (answers_at now.size [] None (commit_task clean blocks now.most) answer y (ap (λ (v : AbstractActor). v.task) l.is.is)), refl)
+      by (inl l) = answers now a x s y wants.here its.1 wants.agrees its.2 orders' awaiting' keeps (Answers (commit_there clean) answer) (told_so (answers_at now.size [] None (commit_task clean blocks (now.most clean)) answer y (ap (λ (v : AbstractActor). v.task) l.is.is)), refl)
           (record { steps = subst (λ (v : AbstractActor). IsNothingLeft v.task) (sym l.is.is) refl; free = by_lead l.leads refl })
         where
           by_lead : (b : Bool) → l.leads ≡ b → ((y.held ≡ Nothing) × (y.leads ≡ false)) ⊎ (flag now.words.fail ≡ true)
@@ -116,16 +116,16 @@ module _ (clean : Bool) (now : Situation) (a : ℕ) (x : Actor) (plan : Plan) (s
           by_lead true k = inr (its.2.has_failed (l.has_failed k tt))
       by (inr l) = answers now a x s y wants.here its.1 wants.agrees its.2 orders' awaiting' keeps (Answers (commit_there clean) answer) (late_answers_so (commit_there clean) its.2.failed p answer y refl (λ t. never_begun clean (ap (λ (q : Plan). q.steps) t)) l, refl) (late_over now.words its.2.failed its.2.has_failed p y l)
         where
-          never_begun : (clean : Bool) → [] ≡ (table (commit_task clean blocks now.most)).steps → ⊥
+          never_begun : (clean : Bool) → [] ≡ (table (commit_task clean blocks (now.most clean))).steps → ⊥
           never_begun true t = absurd (cc)
           never_begun false t = absurd (cc)
 
 -- a flush asks to lead a commit
 asked : (now : Situation) (a : ℕ) (x : Actor) (plan : Plan) (s : World) (step : DeskStep) (wants : WantsNext now a x s Flush plan (Desk step)) → AsksToLead step → (P : Plan → Type 0) →
-    (IsToLead now.most step → IsCommitting now.size [] (committing false (blocks false now a x plan s _ wants) now.most (Desk step ∷ []) plan.answer) (ticket_in (Desk step) x.share) false (its false now a x plan s _ wants).0 → P (committing false (blocks false now a x plan s _ wants) now.most (Desk step ∷ []) plan.answer)) → P plan
-asked now a x plan s (Arrive nodes) wants asks P h = at_commit false now a x plan s _ wants tt P (λ later leads l o is. subst (λ (ws : List Want). IsCommitting now.size [] (committing false (blocks false now a x plan s _ wants) now.most (Desk (Arrive nodes) ∷ ws) plan.answer) None leads (its false now a x plan s _ wants).0 → P (committing false (blocks false now a x plan s _ wants) now.most (Desk (Arrive nodes) ∷ ws) plan.answer)) (sym o.2)
+    (IsToLead (now.most false) step → IsCommitting now.size [] (committing false (blocks false now a x plan s _ wants) (now.most false) (Desk step ∷ []) plan.answer) (ticket_in (Desk step) x.share) false (its false now a x plan s _ wants).0 → P (committing false (blocks false now a x plan s _ wants) (now.most false) (Desk step ∷ []) plan.answer)) → P plan
+asked now a x plan s (Arrive nodes) wants asks P h = at_commit false now a x plan s _ wants tt P (λ later leads l o is. subst (λ (ws : List Want). IsCommitting now.size [] (committing false (blocks false now a x plan s _ wants) (now.most false) (Desk (Arrive nodes) ∷ ws) plan.answer) None leads (its false now a x plan s _ wants).0 → P (committing false (blocks false now a x plan s _ wants) (now.most false) (Desk (Arrive nodes) ∷ ws) plan.answer)) (sym o.2)
     (λ is. h o.1 (not_leading false now a x plan s _ wants (Desk (Arrive nodes)) [] None leads l is)) is)
-asked now a x plan s (Ask nodes) wants asks P h = at_commit false now a x plan s _ wants tt P (λ later leads l o is. subst (λ (ws : List Want). IsCommitting now.size [] (committing false (blocks false now a x plan s _ wants) now.most (Desk (Ask nodes) ∷ ws) plan.answer) (ticket_in (Desk (Ask nodes)) x.share) leads (its false now a x plan s _ wants).0 → P (committing false (blocks false now a x plan s _ wants) now.most (Desk (Ask nodes) ∷ ws) plan.answer)) (sym o.2)
+asked now a x plan s (Ask nodes) wants asks P h = at_commit false now a x plan s _ wants tt P (λ later leads l o is. subst (λ (ws : List Want). IsCommitting now.size [] (committing false (blocks false now a x plan s _ wants) (now.most false) (Desk (Ask nodes) ∷ ws) plan.answer) (ticket_in (Desk (Ask nodes)) x.share) leads (its false now a x plan s _ wants).0 → P (committing false (blocks false now a x plan s _ wants) (now.most false) (Desk (Ask nodes) ∷ ws) plan.answer)) (sym o.2)
     (λ is. h o.1 (not_leading false now a x plan s _ wants (Desk (Ask nodes)) [] (ticket_in (Desk (Ask nodes)) x.share) leads l is)) is)
 asked now a x plan s step wants asks P h = absurd asks
 
@@ -160,7 +160,7 @@ commit_steps_followed = record {
       let u = its false now a x plan s _ wants in let n = blocks false now a x plan s _ wants in
       at_commit false now a x plan s _ wants tt (λ p. WorldFollows Quietly a s now (record (after_step Flush p Ticket x) { share = Waiting (now.commits.ended + 2) }))
       (λ later leads l o is.
-      let same : committing false n now.most (Desk (Arrive now.most) ∷ []) plan.answer ≡ committing false n now.most (Desk (Arrive allowed) ∷ later) plan.answer = (λ i. committing false n now.most (Desk (Arrive (sym o.1 i)) ∷ sym o.2 i) plan.answer) in
+      let same : committing false n (now.most false) (Desk (Arrive (now.most false)) ∷ []) plan.answer ≡ committing false n (now.most false) (Desk (Arrive allowed) ∷ later) plan.answer = (λ i. committing false n (now.most false) (Desk (Arrive (sym o.1 i)) ∷ sym o.2 i) plan.answer) in
       subst (λ (p : Plan). WorldFollows Quietly a s now (record (after_step Flush p Ticket x) { share = Waiting (now.commits.ended + 2) })) same
       (gets_ticket now n a x s u.0 wants.here u.1 wants.agrees plan.answer busy whole (subst (λ (p : Plan). IsCommitting now.size [] p None false u.0) (sym same) (not_leading false now a x plan s _ wants (Desk (Arrive allowed)) later None leads l is))));
   syncs = λ clean now device a x plan s h wants.

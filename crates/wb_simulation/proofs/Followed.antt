@@ -46,7 +46,7 @@ use Rattle.wb_simulation.proofs.Orders.{MigratesNot, IsDone, does_none}
 use Rattle.wb_simulation.proofs.Among.{card_there, own_there, takes, failed_stays, goes_on}
 
 -- who does a read or write is at it
-pub doing_of : (size most : ℕ) (words : Words) (x : Actor) (y : AbstractActor) (job : Job) (plan : Plan) (st : StandsFor size most words x y) → x.task ≡ Some (job, plan) → IsDoing size most st.failed job plan x.card x.share y
+pub doing_of : (size : ℕ) (most : Bool → ℕ) (words : Words) (x : Actor) (y : AbstractActor) (job : Job) (plan : Plan) (st : StandsFor size most words x y) → x.task ≡ Some (job, plan) → IsDoing size most st.failed job plan x.card x.share y
 doing_of size most words x y job plan st e = subst (λ (t : Option (Job × Plan)). IsBusyAt size most st.failed t x.card x.share y) e st.at
 
 -- What holds of a plan of this job: with its next step first, for whatever comes after it; or with nothing left, where that is its answer.

@@ -86,11 +86,11 @@ pub is_no_migration : (clean : Bool) → MigratesNot (flush_or_suspend clean)
 is_no_migration true = tt
 is_no_migration false = tt
 
-pub as_doing : (clean : Bool) (size most : ℕ) (failed : Bool) (plan : Plan) (card : Card) (share : Share) (y : AbstractActor) → IsCommitAt size most failed clean plan share y → IsDoing size most failed (flush_or_suspend clean) plan card share y
+pub as_doing : (clean : Bool) (size : ℕ) (most : Bool → ℕ) (failed : Bool) (plan : Plan) (card : Card) (share : Share) (y : AbstractActor) → IsCommitAt size (most clean) failed clean plan share y → IsDoing size most failed (flush_or_suspend clean) plan card share y
 as_doing true size most failed plan card share y at = at
 as_doing false size most failed plan card share y at = at
 
-pub doing_as : (clean : Bool) (size most : ℕ) (failed : Bool) (plan : Plan) (card : Card) (share : Share) (y : AbstractActor) → IsDoing size most failed (flush_or_suspend clean) plan card share y → IsCommitAt size most failed clean plan share y
+pub doing_as : (clean : Bool) (size : ℕ) (most : Bool → ℕ) (failed : Bool) (plan : Plan) (card : Card) (share : Share) (y : AbstractActor) → IsDoing size most failed (flush_or_suspend clean) plan card share y → IsCommitAt size (most clean) failed clean plan share y
 doing_as true size most failed plan card share y at = at
 doing_as false size most failed plan card share y at = at
 
@@ -134,14 +134,14 @@ no_ticket plan share l = by_steps plan.steps l
 
 module _ (now : Situation) (clean : Bool) (blocks : List OBlock) (a : ℕ) (x : Actor) (s : World) (y : AbstractActor) (ex : slice_get now.actors a ≡ Some x) (ey : slice_get s.actors a ≡ Some y) (g : Agrees now s) where
   -- who stands there now
-  pub stands : (words' : Words) (plan' : Plan) (card' : Card) (seen' : List Bool) (share' : Share) (leads' : Bool) (z : AbstractActor) → plan'.job ≡ commit_task clean blocks now.most → IsOfCommit clean now.most plan'.steps → LeadsAt leads' plan'.steps → (leads' ≡ true → IsEnding plan'.steps → flag words'.fail ≡ true) → IsCommitting now.size [] plan' (ticket_in (want plan') share') leads' z →
+  pub stands : (words' : Words) (plan' : Plan) (card' : Card) (seen' : List Bool) (share' : Share) (leads' : Bool) (z : AbstractActor) → plan'.job ≡ commit_task clean blocks (now.most clean) → IsOfCommit clean (now.most clean) plan'.steps → LeadsAt leads' plan'.steps → (leads' ≡ true → IsEnding plan'.steps → flag words'.fail ≡ true) → IsCommitting now.size [] plan' (ticket_in (want plan') share') leads' z →
       StandsFor now.size now.most words' (record x { task = Some (flush_or_suspend clean, plan'); card = card'; seen = seen'; share = share' }) z
   stands words' plan' card' seen' share' leads' z j o l f is = record {
     failed = flag words'.fail;
     has_failed = λ e. e;
     at = as_doing clean now.size now.most (flag words'.fail) plan' card' share' z (record { blocks = blocks; job = j; steps = o; at = inl (record { leads = leads'; at = l; has_failed = f; is = is }) });
     below = holds_nothing z card' (ap (λ (v : AbstractActor). v.held) is.is);
-    among_others = λ among. ap (λ (v : AbstractActor). is_alone v.task) is.is ∙ ap job_alone (same_job (ticket_in (want plan') share') (script_for now.size [] None plan')) ∙ ap (λ k. job_alone (job_for now.size [] k)) j ∙ flushes_among clean now.size blocks now.most among;
+    among_others = λ among. ap (λ (v : AbstractActor). is_alone v.task) is.is ∙ ap job_alone (same_job (ticket_in (want plan') share') (script_for now.size [] None plan')) ∙ ap (λ k. job_alone (job_for now.size [] k)) j ∙ flushes_among clean now.size blocks (now.most clean) among;
   }
 
   -- nobody else leads a commit
@@ -149,8 +149,8 @@ module _ (now : Situation) (clean : Bool) (blocks : List OBlock) (a : ℕ) (x : 
   leads_alone lead b v n ev l = n (g.one_leads b a v y ev ey l lead)
 
   -- one that leads goes on by a step on a device, and its commit stays whole
-  pub goes : (turn : Turn) (devices' : Devices (List History)) (next : Want) (later : List Want) (answer : Answer) (plan' : Plan) (t : Shared) → IsCommitting now.size [] (committing clean blocks now.most (next ∷ later) answer) None true y → wants_of now.size None (job_for now.size [] (commit_task clean blocks now.most)) (next ∷ later) ≢ [] → CanGoOn now.size [] s.actors a s.shared y t plan' None true →
-      plan'.job ≡ commit_task clean blocks now.most → IsOfCommit clean now.most plan'.steps → LeadsAt true plan'.steps → (¬ IsEnding plan'.steps) → WordsAgree now.words t → t.origin ≡ by_block now.size zeros devices'.origin → t.cache ≡ by_block now.size zeros devices'.cache → t.mode ≡ s.shared.mode → t.committing ≡ s.shared.committing → KeepsNumbers s.shared t → TurnedTo turn s.shared t → DeskTurnedTo turn s.shared t → t.mapping ≡ s.shared.mapping →
+  pub goes : (turn : Turn) (devices' : Devices (List History)) (next : Want) (later : List Want) (answer : Answer) (plan' : Plan) (t : Shared) → IsCommitting now.size [] (committing clean blocks (now.most clean) (next ∷ later) answer) None true y → wants_of now.size None (job_for now.size [] (commit_task clean blocks (now.most clean))) (next ∷ later) ≢ [] → CanGoOn now.size [] s.actors a s.shared y t plan' None true →
+      plan'.job ≡ commit_task clean blocks (now.most clean) → IsOfCommit clean (now.most clean) plan'.steps → LeadsAt true plan'.steps → (¬ IsEnding plan'.steps) → WordsAgree now.words t → t.origin ≡ by_block now.size zeros devices'.origin → t.cache ≡ by_block now.size zeros devices'.cache → t.mode ≡ s.shared.mode → t.committing ≡ s.shared.committing → KeepsNumbers s.shared t → TurnedTo turn s.shared t → DeskTurnedTo turn s.shared t → t.mapping ≡ s.shared.mapping →
       WorldFollowsBy turn Quietly a s (record now { devices = devices' }) (record x { task = Some (flush_or_suspend clean, plan') })
   goes turn devices' next later answer plan' t is some l j o at unfinished w og ca mo co br turned desk same_map = goes_by now now.words (λ f. f) a x (record x { task = Some (flush_or_suspend clean, plan') }) s y g ex ey turn Quietly devices' l.results t (l.results, quiet_are_unnoted y.task l.results l.quiet, refl) l.may l.shared
       (stands now.words plan' x.card x.seen x.share true (gone y y.task l.results) j o at (λ e n. absurd (unfinished n)) (subst (λ (ticket : Option ℕ). IsCommitting now.size [] plan' ticket true (gone y y.task l.results)) (sym (no_ticket plan' x.share at)) l.at)) (λ k. (ap (λ (v : AbstractActor). v.leads) is.is, λ more. subst (λ (v : AbstractActor). IsUnfinished v.task) (sym is.is) some)) w og ca mo co br turned desk

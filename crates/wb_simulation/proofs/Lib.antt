@@ -23,6 +23,7 @@ pub mod Written
 pub mod Unmapping
 pub mod Migrations
 pub mod Possible
+pub mod BitLocations
 pub mod Opening
 pub mod Noted
 pub mod Opened

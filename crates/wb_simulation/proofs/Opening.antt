@@ -20,8 +20,9 @@ use Rattle.wb_link.specs.World.{Shared}
 use Rattle.wb_link.specs.Openings.{Site, AbstractPhase, Gone, Opens, Learnt, Stage, Settling, Caching, Basing, Looking, Rooting, Renewing, Answering, Stopping, Outcome, Settled, Fine, Learns, Refused, Broke, Shown, Stopped, Begins, Advances, Admitted, Yields, advance, advanced, next_phase, abstract_decided}
 use Rattle.wb_types.specs.declared.entry.Entry.{Entry}
 use Rattle.wb_format.specs.declared.root.Root.{Root}
-use Rattle.wb_tree.specs.Mapping.{Mapping}
+use Rattle.wb_dirty.specs.ImageReading.{with_bits}
 use Rattle.wb_simulation.specs.Opened.{TakesClean, is_clean_in}
+use Rattle.wb_simulation.proofs.BitLocations.{located-with_bits}
 use Rattle.wb_simulation.specs.Sites.{IsRunning, ImagesAgree, DevicesAgree, LeadsTo, LeadsToOne, OpeningsFollowed, ImagesFollowed, StateTakesClean}
 use Rattle.wb_simulation.specs.Worlds.{zeros}
 
@@ -100,8 +101,8 @@ module _ (geometry : Geometry) (size : ℕ) (committed : Stored) (later : Option
       stopping = record { origin = λ b i. newest (by_block size zeros devices'.origin b i); cache = λ b i. newest (by_block size zeros devices'.cache b i); new_root = d.new_root }
 
 -- what was read is taken as clean as what is stored
-pub read_clean : (root : Root) (tree : Mapping) (committed : Stored) (clean : ℕ → Bool) → root ≡ committed.root → tree.entries ≡ committed.found.entries → StateTakesClean committed clean → TakesClean root.clean tree.entries clean
-read_clean root tree committed clean same entries takes = subst (λ (r : Root). TakesClean r.clean tree.entries clean) (sym same) (subst (λ (es : List (Option Entry)). TakesClean committed.root.clean es clean) (sym entries) takes)
+pub read_clean : (root : Root) (read : List (Option Entry)) (committed : Stored) (clean : ℕ → Bool) → root ≡ committed.root → read ≡ committed.found.entries → StateTakesClean committed clean → TakesClean root.clean read clean
+read_clean root read committed clean same entries takes = subst (λ (r : Root). TakesClean r.clean read clean) (sym same) (subst (λ (es : List (Option Entry)). TakesClean committed.root.clean es clean) (sym entries) takes)
 
 -- where no entry is dirty, that of each block that has one is clean
 clean_there : (entries : List (Option Entry)) (c block k : ℕ) → ((i : ℕ) → i < length entries → is_mapped_dirty (slice_index_or entries i None) ≡ false) → cached_from block c entries ≡ Some k → is_clean_in entries block ≡ true
@@ -114,12 +115,12 @@ clean_there (Some entry ∷ entries) c block k clean e = by (entry.origin.0 == b
     by false e later = later e
 
 -- a mode that caches takes what was read as it is, and passthrough what was left clean
-pub admitted : (mode : Mode) (root : Root) (tree : Mapping) (learnt : Learnt) → (mode ≡ Passthrough → (root.clean ≡ true) × AreAllClean tree) → learnt.locations ≡ (λ b. place_of tree.entries b) → TakesClean root.clean tree.entries learnt.clean → Admitted mode learnt
-admitted Writeback root tree learnt clean located takes = tt
-admitted Writethrough root tree learnt clean located takes = tt
-admitted Passthrough root tree learnt clean located takes = λ b k e.
-    let there : place_of tree.entries b ≡ Some k = sym (ap (λ (f : ℕ → Option ℕ). f b) located) ∙ e in
-    takes b k there ∙ ap (λ (t : Bool). cond t (is_clean_in tree.entries b) false) (clean refl).0 ∙ clean_there tree.entries 0 b k (clean refl).1 there
+pub admitted : (mode : Mode) (root : Root) (read : List (Option Entry)) (learnt : Learnt) → (mode ≡ Passthrough → (root.clean ≡ true) × AreAllClean read) → learnt.locations ≡ (λ b. place_of read b) → TakesClean root.clean read learnt.clean → Admitted mode learnt
+admitted Writeback root read learnt clean located takes = tt
+admitted Writethrough root read learnt clean located takes = tt
+admitted Passthrough root read learnt clean located takes = λ b k e.
+    let there : place_of read b ≡ Some k = sym (ap (λ (f : ℕ → Option ℕ). f b) located) ∙ e in
+    takes b k there ∙ ap (λ (t : Bool). cond t (is_clean_in read b) false) (clean refl).0 ∙ clean_there read 0 b k (clean refl).1 there
 
 pub openings_followed : OpeningsFollowed
 openings_followed = record {
@@ -139,12 +140,13 @@ openings_followed = record {
       (record { origin = ap all_synced g.origin ∙ sym (sync_is_act size zeros devices.origin); cache = g.cache; images = same_images geometry committed later devices.metadata w.world.shared _ refl refl refl refl refl g.images });
   origin_fails = λ geometry size committed later mode w devices at g lands. advances geometry size committed later mode Basing (Broke (λ b o. lands (b * size + o))) w (record devices { origin = synced_where lands devices.origin }) at tt
       (record { origin = ap (partly_synced (λ b o. lands (b * size + o))) g.origin ∙ sym (failed_sync_is_act size zeros lands devices.origin); cache = g.cache; images = same_images geometry committed later devices.metadata w.world.shared _ refl refl refl refl refl g.images });
-  learns = λ geometry size committed mode w devices root tree used clean at g settled represents fits.
+  learns = λ geometry size committed mode w devices root tree dirty used clean at g settled represents fits.
       let learnt : Learnt = record { locations = w.world.shared.committed; clean = w.world.shared.committed_clean } in
-      let is = read_is_committed geometry committed devices.metadata root tree used g.images.read settled represents fits in
-      let located : learnt.locations ≡ (λ b. place_of tree.entries b) = g.images.committed_is ∙ (λ i b. place_of (sym is.1 i) b) in
-      let takes = read_clean root tree committed learnt.clean is.0 is.1 g.images.clean_is in
-      (learnt, located, takes, advances geometry size committed None mode Looking (Learns learnt) w devices at (refl, refl, admitted mode root tree learnt clean located takes) g);
+      let is = read_is_committed geometry committed devices.metadata root tree dirty used g.images.read settled represents fits in
+      let read : List (Option Entry) = with_bits dirty tree.entries in
+      let there : learnt.locations ≡ (λ b. place_of read b) = g.images.committed_is ∙ (λ i b. place_of (sym is.1 i) b) in
+      let takes = read_clean root read committed learnt.clean is.0 is.1 g.images.clean_is in
+      (learnt, there ∙ located-with_bits dirty tree.entries, takes, advances geometry size committed None mode Looking (Learns learnt) w devices at (refl, refl, admitted mode root read learnt clean there takes) g);
   look_stops = λ geometry size committed later mode w devices at g. advances geometry size committed later mode Looking Refused w devices at tt g;
   roots = λ learnt new metadata same none geometry size committed later mode w devices at g read. advances geometry size committed (Some new) mode (Rooting learnt) Fine w (record devices { metadata = metadata }) at tt
       (record { origin = g.origin; cache = g.cache; images = record { read = read; committed_is = g.images.committed_is; clean_is = g.images.clean_is; later_is = (refl, same, none) } });

@@ -27,7 +27,7 @@ empty_device c size count = λ i b o. here (nat_lt o size) (b * size + o) i
     here true at = sym (empty_at c count at)
     here false at = refl
 
-rests : (size most blocks : ℕ) → StandsFor size most (fresh_words blocks) resting idle
+rests : (size : ℕ) (most : Bool → ℕ) (blocks : ℕ) → StandsFor size most (fresh_words blocks) resting idle
 rests size most blocks = record { failed = false; has_failed = λ e. absurd (cc); at = (refl, inl (record { task = refl; held = refl; leads = refl })); below = holds_nothing idle resting.card refl; among_others = λ among. refl }
 
 pub can_agree : CanAgree

@@ -58,7 +58,7 @@ module _ (now : Situation) (a : ℕ) (x x' : Actor) (s : World) (y : AbstractAct
   begins turn telling orders' rs waiting t y' run is told i leading st ordered = follows_by now now.words (λ f. f) a x x' s y g ex ey turn telling now.commits orders' now.devices rs _ run is told
       (agrees_on now now.words (λ f. f) a x x' s y g ex ey orders' now.devices waiting t y' leading st i.words_agree (i.origin ∙ g.origin) (i.cache ∙ g.cache) i.mode i.commits i.broken ordered) i.turned i.desk
 
-pub rests : (size most : ℕ) (words : Words) (x : Actor) (y : AbstractActor) → StandsFor size most words x y → x.task ≡ None → (y.task ≡ None) × (IsResting y ⊎ (flag words.fail ≡ true))
+pub rests : (size : ℕ) (most : Bool → ℕ) (words : Words) (x : Actor) (y : AbstractActor) → StandsFor size most words x y → x.task ≡ None → (y.task ≡ None) × (IsResting y ⊎ (flag words.fail ≡ true))
 rests size most words x y st e = let r = subst (λ t. IsBusyAt size most st.failed t x.card x.share y) e st.at in (r.0, elim r.1 [ inl i ↦ inl i | inr f ↦ inr (st.has_failed f) ])
 
 module _ (now : Situation) (a : ℕ) (x : Actor) (s : World) (ex : slice_get now.actors a ≡ Some x) (none : x.task ≡ None) (g : Agrees now s) where
@@ -94,7 +94,7 @@ starts_followed = record {
       let u = y now a x s ex none g in
       let b = part.block.0 in
       let os = offsets now.size part.extents in
-      let tables = tables_agree now.size now.most [] None part [] in
+      let tables = tables_agree now.size (now.most false) [] None part [] in
       starts now a x s ex none g (Read extent) plan x.seen (job_for now.size [] (OnBlock (Reading part))) tt among (read_starts b os part.mode now.size s (g.mode ∙ sym mode) (within_offsets now.size part.extents (all_inside now.size part is)))
       (read_reserves b os part.mode s.shared) (read_order b os part.mode) (λ k. read_among b os part.mode) refl
       (λ idle. record { part = part; job = refl; is_part = is; of_block = tt; at = inl (record { place = None; buffer = u.buffer; is = λ i. record { task = Some (sym tables.0 i); held = (idle.held ∙ ap held_of (sym hold)) i; order = read_order b os part.mode i; leads = idle.leads i; buffer = u.buffer }; saw = tt; unmaps = tt }) })
@@ -107,7 +107,7 @@ starts_followed = record {
       let j = job_written now.size content part in
       starts now a x s ex none g (Write extent content) plan x.seen (job_for now.size content (OnBlock (write_of part))) tt among (subst (MayStart now.size s) (sym j) (starts_in b os content part.mode now.size s (g.mode ∙ sym mode) (within_offsets now.size part.extents (all_inside now.size part is)) (distinct_offsets now.size part.extents)))
       (ap (abstract_reserved s.shared) j ∙ reserves_in b os content part.mode s.shared) (ap abstract_order_of j ∙ order_in b os content part.mode) (λ k. ap job_alone j ∙ among_in b os content part.mode) refl
-      (λ idle. record { part = part; job = refl; is_part = is; of_block = tt; at = inl (record { place = None; buffer = u.buffer; is = λ i. record { task = Some (sym (write_agrees now.size now.most content part) i); held = (idle.held ∙ ap held_of (sym hold)) i; order = (ap abstract_order_of j ∙ order_in b os content part.mode) i; leads = idle.leads i; buffer = u.buffer }; saw = tt; unmaps = tt }) })
+      (λ idle. record { part = part; job = refl; is_part = is; of_block = tt; at = inl (record { place = None; buffer = u.buffer; is = λ i. record { task = Some (sym (write_agrees now.size (now.most false) content part) i); held = (idle.held ∙ ap held_of (sym hold)) i; order = (ap abstract_order_of j ∙ order_in b os content part.mode) i; leads = idle.leads i; buffer = u.buffer }; saw = tt; unmaps = tt }) })
       (λ l. record { part = part; job = refl; is_part = is; of_block = tt; at = inr (inr l) });
   invalidate = λ now a x block part s ex none hold is mode among g.
       let plan = table (OnBlock (Invalidating part)) in
@@ -116,19 +116,19 @@ starts_followed = record {
       (λ idle. record { part = part; job = refl; is_part = is; of_block = tt; at = inl (record { place = None; buffer = u.buffer; is = λ i. record { task = Some (script_for now.size [] None plan); held = (idle.held ∙ ap held_of (sym hold)) i; order = None; leads = idle.leads i; buffer = u.buffer }; saw = tt; unmaps = tt }) })
       (λ l. record { part = part; job = refl; is_part = is; of_block = tt; at = inr (inr l) });
   flush = λ now a x serves s ex none among g.
-      let plan = table (Flushing serves now.most) in
+      let plan = table (Flushing serves (now.most false)) in
       let u = y now a x s ex none g in
       starts now a x s ex none g Flush plan x.seen (commit_there false) tt among refl refl refl (λ k. refl) refl
       (λ idle. record { blocks = serves; job = refl; steps = (refl, refl); at = inl (record { leads = false; at = refl; has_failed = λ e n. absurd (cc); is = record { buffer = u.buffer; is = λ i. record { task = Some (script_for now.size [] None plan); held = idle.held i; order = None; leads = idle.leads i; buffer = u.buffer } } }) })
       (λ l. record { blocks = serves; job = refl; steps = (refl, refl); at = inr l });
   suspend = λ now a x looks seen' s ex rest g.
-      let plan = table (Suspending looks now.most) in
+      let plan = table (Suspending looks (now.most true)) in
       let none = rest a x ex in
       let u = y now a x s ex none g in
-      let same = looks_first now.size looks now.most in
+      let same = looks_first now.size looks (now.most true) in
       starts now a x s ex none g Suspend plan seen' (commit_there true) tt (λ b z e. subst IsAmongOthers (sym (rest b z e)) tt) (nobody_at now s g rest) refl refl (λ k. absurd k) refl
-      (λ idle. record { blocks = looks; job = refl; steps = to_look now.most looks; at = inl (record { leads = false; at = refl; has_failed = λ e n. absurd (cc); is = record { buffer = u.buffer; is = λ i. record { task = Some (sym same i); held = idle.held i; order = None; leads = idle.leads i; buffer = u.buffer } } }) })
-      (λ l. record { blocks = looks; job = refl; steps = to_look now.most looks; at = inr l });
+      (λ idle. record { blocks = looks; job = refl; steps = to_look (now.most true) looks; at = inl (record { leads = false; at = refl; has_failed = λ e n. absurd (cc); is = record { buffer = u.buffer; is = λ i. record { task = Some (sym same i); held = idle.held i; order = None; leads = idle.leads i; buffer = u.buffer } } }) })
+      (λ l. record { blocks = looks; job = refl; steps = to_look (now.most true) looks; at = inr l });
 }
   where
     -- a write begins as its table does, in its mode

@@ -102,18 +102,18 @@ abbrev pub write_of : BlockRange → BlockJob
 write_of part = write_job part.mode part
 
 -- what an actor with this job is there; of a migration `Carried` speaks
-abbrev pub IsDoing : (size most : ℕ) → Bool → Job → Plan → Card → Share → AbstractActor → Type 0
+abbrev pub IsDoing : (size : ℕ) (most : Bool → ℕ) → Bool → Job → Plan → Card → Share → AbstractActor → Type 0
 IsDoing size most failed (Read extent) plan card share y = IsRequestAt size [] failed Reading plan card y
 IsDoing size most failed (Write extent content) plan card share y = IsRequestAt size content failed write_of plan card y
-IsDoing size most failed Flush plan card share y = IsCommitAt size most failed false plan share y
-IsDoing size most failed Suspend plan card share y = IsCommitAt size most failed true plan share y
+IsDoing size most failed Flush plan card share y = IsCommitAt size (most false) failed false plan share y
+IsDoing size most failed Suspend plan card share y = IsCommitAt size (most true) failed true plan share y
 IsDoing size most failed (Invalidate block) plan card share y = IsRequestAt size [] failed Invalidating plan card y
 IsDoing size most failed (Open mode) plan card share y = ⊥
 IsDoing size most failed (Migrate migration block) plan card share y = Unit {0}
 IsDoing size most failed (Replace old new) plan card share y = ⊥
 
 -- one without a task is idle, or has kept something at a failure
-abbrev pub IsBusyAt : (size most : ℕ) → Bool → Option (Job × Plan) → Card → Share → AbstractActor → Type 0
+abbrev pub IsBusyAt : (size : ℕ) (most : Bool → ℕ) → Bool → Option (Job × Plan) → Card → Share → AbstractActor → Type 0
 IsBusyAt size most failed None card share y = (y.task ≡ None) × (IsResting y ⊎ (failed ≡ true))
 IsBusyAt size most failed (Some doing) card share y = IsDoing size most failed doing.0 doing.1 card share y
 
@@ -132,7 +132,7 @@ AreAmongOthers actors = (b : ℕ) (z : Actor) → slice_get actors b ≡ Some z 
 
 -- An actor of a run is this one there, which has no block that the card does not count, and no task that has to be alone but a suspend. What it is
 -- at may rest on it that the target has failed, which it has then, and for good.
-pub record StandsFor (size most : ℕ) (words : Words) (x : Actor) (y : AbstractActor) : Type 0 where
+pub record StandsFor (size : ℕ) (most : Bool → ℕ) (words : Words) (x : Actor) (y : AbstractActor) : Type 0 where
   pub failed : Bool
   pub has_failed : failed ≡ true → flag words.fail ≡ true
   pub at : IsBusyAt size most failed x.task x.card x.share y

@@ -114,10 +114,10 @@ pub record StartsFollowed : Type 0 where
       Begun (job_for now.size [] (OnBlock (Invalidating part))) a s now (record x { task = Some (Invalidate block, table (OnBlock (Invalidating part))) })
   pub flush : (now : Situation) (a : ℕ) (x : Actor) (serves : List OBlock) (s : World) →
       slice_get now.actors a ≡ Some x → x.task ≡ None → AreAmongOthers now.actors → Agrees now s →
-      Begun (commit_there false) a s now (record x { task = Some (Flush, table (Flushing serves now.most)) })
+      Begun (commit_there false) a s now (record x { task = Some (Flush, table (Flushing serves (now.most false))) })
   pub suspend : (now : Situation) (a : ℕ) (x : Actor) (looks : List OBlock) (seen' : List Bool) (s : World) →
       slice_get now.actors a ≡ Some x → AreAtRest now.actors → Agrees now s →
-      Begun (commit_there true) a s now (record x { task = Some (Suspend, table (Suspending looks now.most)); seen = seen' })
+      Begun (commit_there true) a s now (record x { task = Some (Suspend, table (Suspending looks (now.most true))); seen = seen' })
 
 -- nobody has an order, nor is one aside
 pub record HasNoOrder (s : World) : Type 0 where
@@ -239,7 +239,7 @@ pub record CommitStepsFollowed : Type 0 where
 
 -- a target that was just made over empty devices of these sizes, with so many actors who have nothing to do, and no order
 abbrev pub CanAgree : Type 0
-CanAgree = (size most blocks caches cache origin many : ℕ) → Agrees (record {
+CanAgree = (size : ℕ) (most : Bool → ℕ) (blocks caches cache origin many : ℕ) → Agrees (record {
   mode = Writeback;
   size = size;
   most = most;

@@ -35,7 +35,7 @@ AreAtRest actors = (a : ℕ) (x : Actor) → slice_get actors a ≡ Some x → x
 -- Once each mapped block of a tree that was read is sealed, words, devices and actors are those of the target that the abstract opening, in the same mode,
 -- makes of what it has learnt: where the tree has each block, and which are clean.
 abbrev pub OpenedFollowed : Type 0
-OpenedFollowed = (mode : Mode) (size most origin_blocks cache_blocks : ℕ) (clean : Bool) (entries : List (Option Entry)) (learnt : Learnt) (blocks : ℕ → Block) (s : Shared) (devices : Devices (List History)) (actors : List Actor) →
+OpenedFollowed = (mode : Mode) (size : ℕ) (most : Bool → ℕ) (origin_blocks cache_blocks : ℕ) (clean : Bool) (entries : List (Option Entry)) (learnt : Learnt) (blocks : ℕ → Block) (s : Shared) (devices : Devices (List History)) (actors : List Actor) →
     IsMapping cache_blocks origin_blocks entries → cache_blocks ≤ 2 ^ 32 → learnt.locations ≡ located entries → TakesClean clean entries learnt.clean →
     s.origin ≡ by_block size zeros devices.origin → s.cache ≡ by_block size zeros devices.cache → AreAtRest actors →
     Agrees (record {

@@ -11,6 +11,7 @@ use Rattle.wb_disk.specs.Device.{History, Crashed, PartlySynced, newest, synced}
 use Rattle.wb_disk.specs.Failing.{synced_where}
 use Rattle.wb_contents.specs.Devices.{by_block}
 use Rattle.wb_contents.specs.Volume.{Locations}
+use Rattle.wb_dirty.specs.ImageReading.{with_bits}
 use Rattle.wb_meta.specs.Reads.{FitsDevice}
 use Rattle.wb_meta.specs.Representing.{Stored}
 use Rattle.wb_meta.specs.States.{RepresentsState}
@@ -81,10 +82,10 @@ pub record OpeningsFollowed : Type 0 where
   pub cache_fails : Stages (λ geometry size committed later mode w devices. (lands : ℕ → Bool) → LeadsTo geometry size committed later w Gone (record devices { cache = synced_where lands devices.cache })) Caching
   pub syncs_origin : Stages (λ geometry size committed later mode w devices. LeadsTo geometry size committed later w (Opens mode Looking) (record devices { origin = synced devices.origin })) Basing
   pub origin_fails : Stages (λ geometry size committed later mode w devices. (lands : ℕ → Bool) → LeadsTo geometry size committed later w Gone (record devices { origin = synced_where lands devices.origin })) Basing
-  -- the tree that was read is that of the one image; passthrough takes it where it was left clean
-  pub learns : (geometry : Geometry) (size : ℕ) (committed : Stored) (mode : Mode) (w : Site) (devices : Devices (List History)) (root : Root) (tree : Mapping) (used : List Place) → (mode ≡ Passthrough → (root.clean ≡ true) × AreAllClean tree) → w.phase ≡ Opens mode Looking → DevicesAgree geometry size committed None devices w.world.shared → IsSettled devices.metadata →
-      RepresentsState (map newest devices.metadata) root tree used → FitsDevice (length devices.metadata) root tree used →
-      (learnt : Learnt) × (learnt.locations ≡ (λ b. place_of tree.entries b)) × TakesClean root.clean tree.entries learnt.clean × LeadsTo geometry size committed None w (Opens mode (Rooting learnt)) devices
+  -- the tree that was read, with the dirty bits beside it, is that of the one image; passthrough takes it where it was left clean
+  pub learns : (geometry : Geometry) (size : ℕ) (committed : Stored) (mode : Mode) (w : Site) (devices : Devices (List History)) (root : Root) (tree : Mapping) (dirty : Option (List Bool)) (used : List Place) → (mode ≡ Passthrough → (root.clean ≡ true) × AreAllClean (with_bits dirty tree.entries)) → w.phase ≡ Opens mode Looking → DevicesAgree geometry size committed None devices w.world.shared → IsSettled devices.metadata →
+      RepresentsState (map newest devices.metadata) root tree dirty used → FitsDevice (length devices.metadata) root tree used →
+      (learnt : Learnt) × (learnt.locations ≡ (λ b. place_of tree.entries b)) × TakesClean root.clean (with_bits dirty tree.entries) learnt.clean × LeadsTo geometry size committed None w (Opens mode (Rooting learnt)) devices
   pub look_stops : Stages (λ geometry size committed later mode w devices. LeadsTo geometry size committed later w Gone devices) Looking
   -- its root leads to a state that has the same blocks
   pub roots : (learnt : Learnt) (new : Stored) (metadata : List History) → learnt.locations ≡ locations new → StateTakesClean new (λ block. false) →

@@ -86,12 +86,12 @@ IsLeftOut commits (Some number) = commits.ended < number
 abbrev pub KeepsNumbers : (s t : Shared) → Type 0
 KeepsNumbers s t = (t.broken ≡ s.broken) × (t.began ≡ s.began) × (t.ended ≡ s.ended)
 
--- Where a run stands, with a target: the target's mode; how many sectors blocks have, and how many nodes an image has at most; the target's words, the
+-- Where a run stands, with a target: the target's mode; how many sectors blocks have, and how many nodes an image has at most that is not clean, or is; the target's words, the
 -- commits of its desk, and the orders that live there, by cache block; the devices, and the actors.
 pub record Situation : Type 0 where
   pub mode : Mode
   pub size : ℕ
-  pub most : ℕ
+  pub most : Bool → ℕ
   pub words : Words
   pub commits : Commits
   pub orders : List (Option Order)

@@ -2,7 +2,6 @@
 
 ghost use Rattle.std.specs.Prelude.{◌≡◌, ◌++◌, IfOk, IfErr, OnOk, reverse};
 ghost use Rattle.wb_types.specs.declared.refusal.Refusal.TheVariants.{Memory};
-ghost use Rattle.wb_types.specs.declared.version.Version.TheVariants.{One};
 ghost use Rattle.wb_machine.specs.declared.machine.TheConstants.{ACTORS};
 ghost use Rattle.wb_machine.specs.Life.{shape_of};
 ghost use Rattle.wb_world.specs.Running.{IsRightRun, events_of};
@@ -16,7 +15,6 @@ use wb_types::{Geometry, Refusal};
 /// Events one after the other on a new world of this geometry, and its trace: a record for each of them, in order. `Memory` where
 /// there is none for it.
 pub fn run(alloc: Global, geometry: Geometry, events: Vec<Event>) -> Result<Trace, Refusal>
-    requires version { geometry.version ≡ One }
     ensures right { IfOk result (λ trace. IsRightRun (shape_of geometry ACTORS) events.items trace.records) }
     ensures refusal { IfErr result (λ refusal. refusal ≡ Memory) }
 {

@@ -6,7 +6,7 @@ use Rattle.wb_machine.proofs.Doing.{asked_plainly, served, suspend_begins}
 use Rattle.wb_machine.proofs.asking.ask_for.Goals as goal
 
 pub begin_commit-requires : goal.begin_commit-requires
-begin_commit-requires c = (subst (λ (step : DeskStep). Allows c.args.desk.now.geometry.cache_blocks c.args.seen.now (OnDesk step)) c.in-BeginCommit.is c.requires.enough).1
+begin_commit-requires c = (subst (λ (step : DeskStep). Allows c.args.desk.now.geometry c.args.seen.now (OnDesk step)) c.in-BeginCommit.is c.requires.enough).1
 
 pub returns-in-BeginCommit-clause-did : goal.returns-in-BeginCommit-clause-did
 returns-in-BeginCommit-clause-did c =

@@ -20,7 +20,7 @@ seal_all-requires-clause-free c = λ block. ap (λ (w : Words). word_at w.cells 
 pub new-requires-2-clause-fits : goal.new-requires-2-clause-fits
 new-requires-2-clause-fits c =
     let fits = c.requires.fits in
-    rw (c.requires.next, c.in_ok-places.ensures) (record { size = fits.size; mapping = fits.mapping; sound = fits.sound; inside = fits.inside; known_used = fits.known_used; used_are = fits.used_are; used_few = fits.used_few })
+    rw (c.requires.next, c.in_ok-places.ensures) (record { size = fits.size; mapping = fits.mapping; sound = fits.sound; inside = fits.inside; known_used = fits.known_used; used_are = fits.used_are; used_few = fits.used_few; keeps = fits.keeps })
 
 pub returns-clause-made : goal.returns-clause-made
 returns-clause-made c =

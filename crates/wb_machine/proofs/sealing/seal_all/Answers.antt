@@ -1,5 +1,7 @@
 use Rattle.std.proofs.Common.{◌≡◌, ◌<◌, ◌∙◌, suc, None, Some, add-one, ap, arith, cond, drop, length, refl, subst, sym, true}
 use Rattle.wb_cells.specs.Crews.{CrewState}
+use Rattle.wb_devices.specs.Clean.{entries_of}
+use Rattle.wb_devices.proofs.BitEntries.{length-with_bits, mapping-with_bits}
 use Rattle.wb_promise.specs.Effects.{sealing_steps}
 use Rattle.wb_machine.specs.Making.{AllFree, block_seals, crew_by}
 use Rattle.wb_machine.proofs.Seals.{as_many, blocks_stay, free_again, none_left, seals_more}
@@ -16,7 +18,11 @@ pub seal-requires-clause-idle : goal.seal-requires-clause-idle
 seal-requires-clause-idle c = c.loop-c.invariant.idle
 
 pub seal-requires-clause-block : goal.seal-requires-clause-block
-seal-requires-clause-block c = subst (λ n. c.in-Some.entry.origin.0 < n) (sym c.loop-c.invariant.blocks) (c.requires.mapping.within c.loop-c.c c.in-Some.entry (sym c.get.ensures.entry ∙ c.in-Some.is)).0
+seal-requires-clause-block c =
+    let state = c.args.state.now in
+    let geometry = state.root.geometry in
+    let mapping = mapping-with_bits state.dirty geometry.cache_blocks geometry.origin_blocks state.tree.entries c.requires.mapping in
+    subst (λ n. c.in-Some.entry.origin.0 < n) (sym c.loop-c.invariant.blocks) (mapping.within c.loop-c.c c.in-Some.entry (sym c.stored_entry.ensures ∙ c.in-Some.is)).0
 
 pub seal-requires-clause-free : goal.seal-requires-clause-free
 seal-requires-clause-free c = c.loop-c.invariant.free c.in-Some.entry.origin
@@ -26,13 +32,14 @@ loop-c-preserved c =
     let at = c.loop-c.c in
     let actor = c.args.actor in
     let old = c.loop-c.crew in
-    let entries = c.args.tree.now.entries in
-    let clean = c.args.clean in
-    let inside : at < length entries = omega (arith, c.requires.mapping.size, c.loop-c-test.true) in
-    elim c.match-get.branch [
+    let state = c.args.state.now in
+    let entries = entries_of state in
+    let clean = state.root.clean in
+    let inside : at < length entries = omega (arith, length-with_bits state.dirty state.tree.entries, c.requires.mapping.size, c.loop-c-test.true) in
+    elim c.match-stored_entry.branch [
       | in-Some w ↦
           let entry = w.in-Some.entry in
-          let here = sym c.get.ensures.entry ∙ w.in-Some.is in
+          let here = sym c.stored_entry.ensures ∙ w.in-Some.is in
           let seals = block_seals entry.origin (record { 0 = at }) (cond clean entry.dirty true) in
           let sealed : w.seal.new.crew ≡ crew_by old actor seals = w.seal.ensures.crew ∙ ap (λ d. crew_by old actor (block_seals entry.origin (record { 0 = at }) d)) w.counts_as_dirty-dirty.ensures in
           rw (w.crew-is, add-one) (record {
@@ -48,9 +55,13 @@ loop-c-preserved c =
             idle = c.loop-c.invariant.idle;
             blocks = c.loop-c.invariant.blocks;
             free = c.loop-c.invariant.free;
-            left = sym (ap (λ steps. crew_by old actor steps) (seals_more clean entries at inside None (sym c.get.ensures.entry ∙ w.in_default.is))) ∙ c.loop-c.invariant.left;
+            left = sym (ap (λ steps. crew_by old actor steps) (seals_more clean entries at inside None (sym c.stored_entry.ensures ∙ w.in_default.is))) ∙ c.loop-c.invariant.left;
           })
     ]
 
 pub returns : goal.returns
-returns c = sym (ap (λ es. crew_by c.loop-c.crew c.args.actor (sealing_steps c.args.clean c.loop-c.c es)) (none_left c.loop-c.c c.args.tree.now.entries (omega (arith, c.requires.mapping.size, c.loop-c-test.false)))) ∙ c.loop-c.invariant.left
+returns c =
+    let state = c.args.state.now in
+    let entries = entries_of state in
+    sym (ap (λ es. crew_by c.loop-c.crew c.args.actor (sealing_steps state.root.clean c.loop-c.c es))
+    (none_left c.loop-c.c entries (omega (arith, length-with_bits state.dirty state.tree.entries, c.requires.mapping.size, c.loop-c-test.false)))) ∙ c.loop-c.invariant.left

@@ -45,7 +45,7 @@ returns-clause-sound c =
     let members = c.args.members.now in
     let target = c.args.target.now in
     let m = c.index_mut-member.result.now in
-    let cache_blocks = c.args.geometry.now.cache_blocks in
+    let g = c.args.geometry.now in
     let here = slice_get_read members.items c.len.result c.args.actor m (omega (arith, members.ok)) (omega arith) c.index_mut-member.ensures.value in
     let stands = c.requires.sound.stands in
     record {
@@ -54,8 +54,8 @@ returns-clause-sound c =
         blocks = stands.blocks;
         failed = stands.failed;
         sizes = stands.sizes;
-        roomy = roomy_set cache_blocks members.items c.args.actor c.falter.new.self stands.roomy
-            (fault_roomy cache_blocks c.args.choice.now (contents_of c.args.devices.now) target.commit m c.in_ok-what.what (contents_of c.falter.new.devices) c.falter.new.commit c.falter.new.self (stands.roomy c.args.actor m here) c.in_ok-what.ensures.ok);
+        roomy = roomy_set g members.items c.args.actor c.falter.new.self stands.roomy
+            (fault_roomy g c.args.choice.now (contents_of c.args.devices.now) target.commit m c.in_ok-what.what (contents_of c.falter.new.devices) c.falter.new.commit c.falter.new.self (stands.roomy c.args.actor m here) c.in_ok-what.ensures.ok);
       };
     }
 

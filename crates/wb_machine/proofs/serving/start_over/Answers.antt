@@ -69,9 +69,9 @@ returns-then-not-starts_beside-clause-sound c =
         blocks = stands.blocks;
         failed = stands.failed;
         sizes = stands.sizes;
-        roomy = either c.suspend.result _ _ (AllRoomy g.cache_blocks c.suspend.new.members.items)
+        roomy = either c.suspend.result _ _ (AllRoomy g c.suspend.new.members.items)
             (λ what s. suspend_roomy (shape_of g ACTORS) target.desk members.items c.args.actor what c.suspend.new.members.items stands.roomy s)
-            (λ same. subst (λ (ms : List Member). AllRoomy g.cache_blocks ms) (sym same) stands.roomy) c.suspend.ensures.ok c.suspend.ensures.err;
+            (λ same. subst (λ (ms : List Member). AllRoomy g ms) (sym same) stands.roomy) c.suspend.ensures.ok c.suspend.ensures.err;
       };
     }
 
@@ -101,7 +101,7 @@ returns-clause-sound c =
         blocks = stands.blocks;
         failed = stands.failed;
         sizes = start_sizes (shape_of g ACTORS) target.desk m c.args.job.now c.in_ok-what.what c.start.new.desk c.start.new.self c.in_ok-what.ensures.ok ∙ stands.sizes;
-        roomy = roomy_set g.cache_blocks members.items c.args.actor c.start.new.self stands.roomy
+        roomy = roomy_set g members.items c.args.actor c.start.new.self stands.roomy
             (start_roomy (shape_of g ACTORS) target.desk m c.args.job.now c.in_ok-what.what c.start.new.desk c.start.new.self (stands.roomy c.args.actor m here) c.in_ok-what.ensures.ok);
       };
     }

@@ -42,7 +42,7 @@ step-requires-clause-roomy c =
     let members = c.args.members.now in
     let m = c.index_mut-member.result.now in
     let here = slice_get_read members.items c.len.result c.args.actor m (omega (arith, members.ok)) (omega arith) c.index_mut-member.ensures.value in
-    subst (λ (g : Geometry). IsRoomy g.cache_blocks m) (sym c.requires.sound.stands.sizes) (c.requires.sound.stands.roomy c.args.actor m here)
+    subst (λ (g : Geometry). IsRoomy g m) (sym c.requires.sound.stands.sizes) (c.requires.sound.stands.roomy c.args.actor m here)
 
 pub returns-clause-ok : goal.returns-clause-ok
 returns-clause-ok c =
@@ -66,7 +66,7 @@ returns-clause-sound c =
     let members = c.args.members.now in
     let target = c.args.target.now in
     let m = c.index_mut-member.result.now in
-    let cache_blocks = c.args.geometry.now.cache_blocks in
+    let g = c.args.geometry.now in
     let here = slice_get_read members.items c.len.result c.args.actor m (omega (arith, members.ok)) (omega arith) c.index_mut-member.ensures.value in
     let stands = c.requires.sound.stands in
     let keeps = step_keeps (contents_of c.args.devices.now) target c.args.actor m c.in_ok-done.done.what c.in_ok-done.done.read.items (contents_of c.step.new.devices) c.step.new.target c.step.new.self stands.failed c.in_ok-done.ensures.ok in
@@ -76,8 +76,8 @@ returns-clause-sound c =
         blocks = keeps.blocks ∙ stands.blocks;
         failed = keeps.failed;
         sizes = keeps.sizes ∙ stands.sizes;
-        roomy = roomy_set cache_blocks members.items c.args.actor c.step.new.self stands.roomy
-            (step_roomy cache_blocks (contents_of c.args.devices.now) target c.args.actor m c.in_ok-done.done.what c.in_ok-done.done.read.items (contents_of c.step.new.devices) c.step.new.target c.step.new.self (stands.roomy c.args.actor m here) c.in_ok-done.ensures.ok);
+        roomy = roomy_set g members.items c.args.actor c.step.new.self stands.roomy
+            (step_roomy g (contents_of c.args.devices.now) target c.args.actor m c.in_ok-done.done.what c.in_ok-done.done.read.items (contents_of c.step.new.devices) c.step.new.target c.step.new.self (stands.roomy c.args.actor m here) c.in_ok-done.ensures.ok);
       };
     }
 

@@ -27,13 +27,13 @@ perform-requires-clause-ready c =
 pub perform-requires-clause-enough : goal.perform-requires-clause-enough
 perform-requires-clause-enough c =
     let crew = c.args.target.now.crew in
-    let cache_blocks = c.args.target.now.desk.geometry.cache_blocks in
+    let g = c.args.target.now.desk.geometry in
     let at : c.args.self.now.task ≡ Some (c.in-Some.job, c.in-Some.task) = ap (λ (v : Member). v.task) (sym c.self.view_is) ∙ c.in-Some.is in
-    let room = subst (λ (t : Option (Job × Plan)). IsTaskRoomy cache_blocks c.args.self.now.seen t) at c.requires.roomy in
+    let room = subst (λ (t : Option (Job × Plan)). IsTaskRoomy g c.args.self.now.seen t) at c.requires.roomy in
     let suits = subst (λ (t : Option (Job × Plan)). TaskSuits crew.blocks (card_of crew c.args.number) t) at c.requires.suits in
     let bits = c.as_slice-seen.ensures.value ∙ ap (λ (v : Member). v.seen) c.self.view_is in
-    subst (λ (b : List Bool). Allows cache_blocks b c.want-want.result) (sym bits)
-    (subst (λ (w : Want). Allows cache_blocks c.args.self.now.seen w) (sym c.want-want.ensures) (allows crew.blocks cache_blocks c.args.self.now.seen c.in-Some.task (card_of crew c.args.number) suits room))
+    subst (λ (b : List Bool). Allows g b c.want-want.result) (sym bits)
+    (subst (λ (w : Want). Allows g c.args.self.now.seen w) (sym c.want-want.ensures) (allows crew.blocks g c.args.self.now.seen c.in-Some.task (card_of crew c.args.number) suits room))
 
 pub returns-then-copies-clause-ok : goal.returns-then-copies-clause-ok
 returns-then-copies-clause-ok c =
