@@ -1,2 +1,3 @@
 pub mod Blocks
+pub mod Numbers
 pub mod Syncing

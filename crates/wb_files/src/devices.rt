@@ -1,11 +1,11 @@
 //! The devices of a target, as files.
 
 ghost use Rattle.std.specs.Prelude.{◌≡◌, ◌<◌, ◌*◌, ◌^◌, ℕ, IfOk, IfErr};
-ghost use Rattle.wb_types.specs.Limits.{IsWithinLimits};
-ghost use Rattle.wb_types.specs.declared.version.Version.TheVariants.{One};
+ghost use Rattle.wb_types.specs.Limits.{HasRoom, IsWithinLimits};
+ghost use Rattle.wb_table.specs.Table.{version_asked};
 
 use crate::patience::Patience;
-use crate::sizes::find_size_fault;
+use crate::sizes::{find_size_fault, number_asked};
 use crate::unopened::{Trouble, Unopened};
 use crate::watched::{Watch, Watched, WatchedDisk};
 use std::fs::{File, OpenOptions, TryLockError};
@@ -56,14 +56,14 @@ impl<'w, N: Watch> Disks<WatchedDisk<'w, N>> {
 }
 
 /// Reads a table, opens its files and measures them: `BadTable`, `Io` for the first that cannot be opened, `Geometry`. What the table says,
-/// the files, and the sizes, with metadata of the first version.
+/// the files, and the sizes, with metadata of the version that it asks for.
 pub fn open_table<'a, 'w, R: Files<File = File>, P: Patience, N: Watch>(
     rt: &R,
     text: &'a str,
     patience: &mut P,
     watch: &'w N,
 ) -> Result<(Table<'a>, Disks<WatchedDisk<'w, N>>, Geometry), Unopened<'a>>
-    ensures { IfOk result (λ opened. opened.2.version ≡ One) }
+    ensures { IfOk result (λ opened. opened.2.version ≡ version_asked opened.0.metadata2) }
 {
     let Ok(table) = read_table(text) else {
         return Err(Unopened::Table(find_table_fault(text)));
@@ -74,9 +74,15 @@ pub fn open_table<'a, 'w, R: Files<File = File>, P: Patience, N: Watch>(
         disks.cache.sectors(),
         disks.origin.sectors(),
     );
-    match measure(table.block, metadata, cache, origin) {
+    match measure(table.block, metadata, cache, origin, table.metadata2) {
         Ok(geometry) => Ok((table, disks, geometry)),
-        Err(_) => Err(Unopened::Size(find_size_fault(table.block, metadata, cache, origin))),
+        Err(_) => Err(Unopened::Size(find_size_fault(
+            table.block,
+            metadata,
+            cache,
+            origin,
+            table.metadata2,
+        ))),
     }
 }
 
@@ -166,21 +172,33 @@ fn lock<P: Patience>(file: &File, patience: &mut P) -> Result<(), Trouble> {
     Err(Trouble::Locked)
 }
 
-/// The geometry of a target over devices of these sizes in sectors; `Geometry` where they lie outside the limits,
-/// or the cache or the origin is not of whole blocks.
-pub fn measure(block: u64, metadata: u64, cache: u64, origin: u64) -> Result<Geometry, Refusal>
+/// The geometry of a target over devices of these sizes in sectors, with metadata of version 2 or of the first; `Geometry` where
+/// they lie outside the limits, give that version too little room, or the cache or the origin is not of whole blocks.
+pub fn measure(
+    block: u64,
+    metadata: u64,
+    cache: u64,
+    origin: u64,
+    metadata2: bool,
+) -> Result<Geometry, Refusal>
     requires { 0 < block }
     ensures block { IfOk result (λ geometry. geometry.block ≡ block) }
     ensures metadata { IfOk result (λ geometry. geometry.meta_sectors ≡ metadata) }
     ensures cache { IfOk result (λ geometry. geometry.cache_blocks * block ≡ cache) }
     ensures origin { IfOk result (λ geometry. geometry.origin_blocks * block ≡ origin) }
-    ensures version { IfOk result (λ geometry. geometry.version ≡ One) }
+    ensures version { IfOk result (λ geometry. geometry.version ≡ version_asked metadata2) }
     ensures refused { IfErr result (λ refusal. refusal ≡ Refusal.Geometry) }
     ensures outside { IfErr result (λ _. (cache_blocks origin_blocks : ℕ) → cache_blocks * block ≡ cache
-        → origin_blocks * block ≡ origin → ¬ IsWithinLimits block cache_blocks origin_blocks metadata) }
+        → origin_blocks * block ≡ origin → IsWithinLimits block cache_blocks origin_blocks metadata → ¬ HasRoom (version_asked metadata2) cache_blocks metadata) }
 {
     if cache % block != 0 || origin % block != 0 {
         return Err(Refusal::Geometry);
     }
-    Geometry::new(block, cache / block, origin / block, metadata)
+    Geometry::with_version(
+        block,
+        cache / block,
+        origin / block,
+        metadata,
+        number_asked(metadata2),
+    )
 }

@@ -1,6 +1,8 @@
 //! Which size of a target is outside its limits.
 
-ghost use Rattle.std.specs.Prelude.{◌<◌};
+ghost use Rattle.std.specs.Prelude.{◌≡◌, ◌<◌};
+ghost use Rattle.wb_table.specs.Table.{version_asked};
+ghost use Rattle.wb_types.specs.Versions.{version_number};
 
 use std::fmt;
 use std::fmt::{Display, Formatter};
@@ -32,7 +34,13 @@ pub enum SizeFault {
 }
 
 /// The first size of these, in sectors, for which a target is refused: the cache, the origin, the metadata.
-pub fn find_size_fault(block: u64, metadata: u64, cache: u64, origin: u64) -> SizeFault
+pub fn find_size_fault(
+    block: u64,
+    metadata: u64,
+    cache: u64,
+    origin: u64,
+    metadata2: bool,
+) -> SizeFault
     requires { 0 < block }
 {
     for (device, sectors, most) in [
@@ -57,16 +65,24 @@ pub fn find_size_fault(block: u64, metadata: u64, cache: u64, origin: u64) -> Si
     }
     SizeFault::Metadata {
         sectors: metadata,
-        least: least_metadata(block, cache / block),
+        least: least_metadata(block, cache / block, metadata2),
     }
 }
 
-/// The least sectors of metadata for so many cache blocks.
-fn least_metadata(block: u64, cache_blocks: u64) -> u64 {
-    match Geometry::new(block, cache_blocks, 1, MOST_METADATA) {
-        Ok(geometry) => 2 + 2 * u64::from(geometry.node_count()),
-        Err(_) => 4,
+/// The least sectors of metadata of this version for so many cache blocks.
+fn least_metadata(block: u64, cache_blocks: u64, metadata2: bool) -> u64 {
+    let version = number_asked(metadata2);
+    match Geometry::with_version(block, cache_blocks, 1, MOST_METADATA, version) {
+        Ok(geometry) => 2 + u64::from(geometry.node_count()) + u64::from(geometry.most_nodes(true)),
+        Err(_) => 4 + u64::from(metadata2),
     }
+}
+
+/// The number of the version that is asked for.
+pub(crate) fn number_asked(metadata2: bool) -> u32
+    ensures { result ≡ version_number (version_asked metadata2) }
+{
+    if metadata2 { 2 } else { 1 }
 }
 
 impl Display for SizeFault {

@@ -9,51 +9,61 @@ use wb_disk::Disk;
 use wb_format::Root;
 use wb_types::{Content, SECTOR_BYTES};
 
-/// A size that differs, in sectors: what it was when the metadata were formatted, and what it is.
+/// A size that differs, in sectors, or the version of the metadata: what it was when they were formatted, and what it is.
 #[derive(Clone, Copy)]
 pub struct Difference {
-    size: Size,
+    part: Part,
     formatted: u64,
     found: u64,
 }
 
-/// Which size it is.
+/// Which of them it is.
 #[derive(Clone, Copy)]
-enum Size {
+enum Part {
     Block,
     Cache,
     Origin,
     Metadata,
+    Version,
 }
 
-/// The first size of these by which the newest root is none of the devices: the block's, the cache's, the origin's, the metadata's. None where
-/// there is no root, or it differs in none of them.
-pub(crate) fn find_difference<D: Disk>(devices: &mut Devices<D>, block: u64) -> Option<Difference> {
+/// The first of these by which the newest root is none of the devices: the sizes of the block, the cache, the origin and the metadata, and the
+/// version that is asked for. None where there is no root, or it differs in none of them.
+pub(crate) fn find_difference<D: Disk>(
+    devices: &mut Devices<D>,
+    block: u64,
+    metadata2: bool,
+) -> Option<Difference> {
     let root = newest_root(&mut devices.metadata)?;
     let formatted = root.geometry;
     let of_block = u64::from(formatted.block);
-    let sizes = [
-        (Size::Block, of_block, block),
+    let parts = [
+        (Part::Block, of_block, block),
         (
-            Size::Cache,
+            Part::Cache,
             of_block * u64::from(formatted.cache_blocks),
             devices.cache.sectors(),
         ),
         (
-            Size::Origin,
+            Part::Origin,
             formatted.origin_sectors(),
             devices.origin.sectors(),
         ),
         (
-            Size::Metadata,
+            Part::Metadata,
             u64::from(formatted.meta_sectors),
             devices.metadata.sectors(),
         ),
+        (
+            Part::Version,
+            u64::from(formatted.version.number()),
+            1 + u64::from(metadata2),
+        ),
     ];
-    for (size, formatted, found) in sizes {
+    for (part, formatted, found) in parts {
         if formatted != found {
             return Some(Difference {
-                size,
+                part,
                 formatted,
                 found,
             });
@@ -86,22 +96,26 @@ fn root_at<D: Disk>(metadata: &mut D, slot: u64) -> Option<Root> {
 impl Display for Difference {
     fn fmt<W: fmt::Write>(&self, f: &mut Formatter<W>) -> fmt::Result {
         let (formatted, found) = (self.formatted, self.found);
-        match self.size {
-            Size::Block => write!(
+        match self.part {
+            Part::Block => write!(
                 f,
                 "the metadata were formatted for blocks of {formatted} sectors, and not of {found}"
             ),
-            Size::Cache => write!(
+            Part::Cache => write!(
                 f,
                 "the metadata were formatted for a cache of {formatted} sectors, and it has {found}"
             ),
-            Size::Origin => write!(
+            Part::Origin => write!(
                 f,
                 "the metadata were formatted for an origin of {formatted} sectors, and it has {found}"
             ),
-            Size::Metadata => write!(
+            Part::Metadata => write!(
                 f,
                 "the metadata were formatted on {formatted} sectors, and have {found}"
+            ),
+            Part::Version => write!(
+                f,
+                "the metadata were formatted in version {formatted}, and the table asks for version {found}"
             ),
         }
     }

@@ -90,10 +90,11 @@ pub(crate) fn open_target<'a, P: Policy, D: Disk + Drop>(
         table.block,
         table.mode,
         keys.as_slice(),
+        table.metadata2,
     );
     match opened {
         Ok(target) => Ok((devices, target)),
-        Err(refusal) => Err(unserved_of(&mut devices, table.block, refusal)),
+        Err(refusal) => Err(unserved_of(&mut devices, table, refusal)),
     }
 }
 
@@ -112,14 +113,14 @@ fn listed(alloc: Global, keys: &Keys) -> Result<Vec<(Key, u64)>, Refusal>
     Ok(list)
 }
 
-/// Why a target was not opened, with the size that differs where one does.
+/// Why a target was not opened, with what differs from its table where something does.
 fn unserved_of<'a, D: Disk>(
     devices: &mut Devices<D>,
-    block: u64,
+    table: &Table<'a>,
     refusal: Refusal,
 ) -> Unserved<'a> {
     if refusal == Refusal::Mismatch {
-        if let Some(difference) = find_difference(devices, block) {
+        if let Some(difference) = find_difference(devices, table.block, table.metadata2) {
             return Unserved::Differs(difference);
         }
     }

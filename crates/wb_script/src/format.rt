@@ -1,8 +1,5 @@
 //! Formatting of a target's metadata.
 
-ghost use Rattle.std.specs.Prelude.{◌≡◌};
-ghost use Rattle.wb_types.specs.declared.version.Version.TheVariants.{One};
-
 use crate::ended::{Ended, refused};
 use crate::given_up::{Consent, find_given_up};
 use crate::output::{StreamFailed, print, refuse, see_out};
@@ -17,7 +14,7 @@ use wb_files::{Hurry, Watch, open_table};
 use wb_opened::Unserved;
 use wb_types::{Geometry, Refusal};
 
-/// Formats the metadata over the files of a table, prints `formatted <cache blocks> <origin blocks>` or the refusal,
+/// Formats the metadata over the files of a table, in the version that it asks for, prints `formatted <cache blocks> <origin blocks>` or the refusal,
 /// and gives the exit status with the reason of a refusal. The cache and the origin are opened, locked and measured,
 /// and left alone.
 ///
@@ -48,9 +45,7 @@ fn format_disk<'a, D: Disk, C: Consent, W: Write>(
     geometry: &Geometry,
     consent: &mut C,
     writer: &mut W,
-) -> Ended<'a>
-    requires { geometry.now.version ≡ One }
-{
+) -> Ended<'a> {
     if let Some(given_up) = find_given_up(alloc, metadata) {
         if !consent.may_give_up(given_up) {
             return Ended::new(Ok(Status::Refused), None);

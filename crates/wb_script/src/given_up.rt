@@ -5,6 +5,7 @@ ghost use Rattle.std.specs.Prelude.{◌≡◌};
 use std::alloc::Global;
 use std::fmt;
 use std::fmt::{Display, Formatter};
+use wb_devices::stored_entry;
 use wb_disk::Disk;
 use wb_meta::read_state;
 use wb_types::CBlock;
@@ -31,7 +32,7 @@ pub fn find_given_up<D: Disk>(alloc: Global, metadata: &mut D) -> Option<GivenUp
     let cache_blocks = state.root.geometry.cache_blocks;
     let (mut mapped, mut dirty) = (0u32, 0u32);
     for number in 0..cache_blocks {
-        if let Some(entry) = state.tree.get(CBlock(number)) {
+        if let Some(entry) = stored_entry(&state, CBlock(number)) {
             mapped = mapped.saturating_add(1);
             if entry.dirty || !state.root.clean {
                 dirty = dirty.saturating_add(1);

@@ -1,5 +1,5 @@
 -- The status line, field by field.
-use Rattle.std.specs.Prelude.{◌++◌, ℕ, List, [], ◌∷◌, Option, Some, None, codes, decimal, if◌then◌else◌}
+use Rattle.std.specs.Prelude.{◌++◌, ℕ, Bool, true, false, List, [], ◌∷◌, Option, Some, None, codes, decimal, if◌then◌else◌}
 use Rattle.wb_types.specs.declared.mode.Mode.{Mode}
 use Rattle.wb_types.specs.declared.mode.Mode.TheVariants.{Writeback, Writethrough, Passthrough}
 use Rattle.wb_table.specs.declared.status.Fields.{Fields}
@@ -8,6 +8,11 @@ abbrev pub mode_name : Mode → List ℕ
 mode_name Writeback = codes "writeback"
 mode_name Writethrough = codes "writethrough"
 mode_name Passthrough = codes "passthrough"
+
+-- how many features there are, and each: `metadata2` where the metadata are of version 2, and the mode
+abbrev pub features : Mode → Bool → List ℕ
+features mode false = codes "1 " ++ mode_name mode
+features mode true = codes "2 metadata2 " ++ mode_name mode
 
 -- how many arguments a policy has, and each by its key and value
 abbrev pub arguments : Option ℕ → List ℕ
@@ -38,7 +43,7 @@ moves told = joined_texts (decimal told.demotions ∷ codes " " ∷ decimal told
 -- features, and the arguments of the target and of its policy
 abbrev pub settings : Fields → List ℕ
 settings told = joined_texts (
-    codes "1 " ∷ mode_name told.mode ∷ codes " 2 migration_threshold " ∷ decimal told.threshold
+    features told.mode told.metadata2 ∷ codes " 2 migration_threshold " ∷ decimal told.threshold
     ∷ codes " " ∷ told.policy.now ∷ codes " " ∷ arguments told.promote_min ∷ [])
 
 -- what is told of a target that works

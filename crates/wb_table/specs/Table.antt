@@ -1,9 +1,11 @@
 -- The grammar of a constructor line.
-use Rattle.std.specs.Prelude.{◌≡◌, ◌≤◌, ◌%◌, ◌++◌, ◌⊎◌, ℕ, List, [], ◌∷◌, Some, None, length, codes}
+use Rattle.std.specs.Prelude.{◌≡◌, ◌≤◌, ◌%◌, ◌++◌, ◌⊎◌, ℕ, Bool, true, false, List, [], ◌∷◌, Some, None, length, codes}
 use Rattle.wb_types.specs.declared.message.Key.{Key}
 use Rattle.wb_types.specs.declared.message.Key.TheVariants.{MigrationThreshold, PromoteMin}
 use Rattle.wb_types.specs.declared.mode.Mode.{Mode}
 use Rattle.wb_types.specs.declared.mode.Mode.TheVariants.{Writeback}
+use Rattle.wb_types.specs.declared.version.Version.{Version}
+use Rattle.wb_types.specs.declared.version.Version.TheVariants.{One, Two}
 use Rattle.wb_table.specs.Numbers.{SpellsNumber}
 use Rattle.wb_table.specs.Status.{mode_name}
 use Rattle.wb_table.specs.declared.table.Table.{Table}
@@ -18,16 +20,33 @@ pub record IsBlockSize (word : List ℕ) (block : ℕ) : Type 0 where
   pub most : block ≤ 2097152
   pub step : block % 64 ≡ 0
 
--- Features choose a mode: the one that is named, once; none of them means write-back.
-abbrev pub ChoosesMode : List (List ℕ) → Mode → Type 0
-ChoosesMode [] mode = mode ≡ Writeback
-ChoosesMode (feature ∷ []) mode = feature ≡ mode_name mode
-ChoosesMode features mode = ⊥
+-- A feature alone is `metadata2`, in write-back, or names the mode.
+abbrev pub IsChosenByOne : List ℕ → Mode → Bool → Type 0
+IsChosenByOne feature mode true = (feature ≡ codes "metadata2") × (mode ≡ Writeback)
+IsChosenByOne feature mode false = feature ≡ mode_name mode
 
--- Words are the number of features and then these, which choose a mode.
-abbrev pub SpellsFeatures : List (List ℕ) → Mode → Type 0
-SpellsFeatures [] mode = ⊥
-SpellsFeatures (number ∷ features) mode = SpellsNumber number (length features) × ChoosesMode features mode
+-- Of two features one is `metadata2`, and the other names the mode.
+abbrev pub IsChosenByTwo : List ℕ → List ℕ → Mode → Bool → Type 0
+IsChosenByTwo first second mode true =
+    ((first ≡ codes "metadata2") × (second ≡ mode_name mode)) ⊎ ((second ≡ codes "metadata2") × (first ≡ mode_name mode))
+IsChosenByTwo first second mode false = ⊥
+
+-- Features choose a mode, where none is named write-back, and metadata of version 2 where they are asked for.
+abbrev pub Chooses : List (List ℕ) → Mode → Bool → Type 0
+Chooses [] mode metadata2 = (mode ≡ Writeback) × (metadata2 ≡ false)
+Chooses (feature ∷ []) mode metadata2 = IsChosenByOne feature mode metadata2
+Chooses (first ∷ second ∷ []) mode metadata2 = IsChosenByTwo first second mode metadata2
+Chooses features mode metadata2 = ⊥
+
+-- the version of the metadata, by whether a table asks for `metadata2`
+abbrev pub version_asked : Bool → Version
+version_asked false = One
+version_asked true = Two
+
+-- Words are the number of features and then these, which choose a mode and whether metadata of version 2.
+abbrev pub SpellsFeatures : List (List ℕ) → Mode → Bool → Type 0
+SpellsFeatures [] mode metadata2 = ⊥
+SpellsFeatures (number ∷ features) mode metadata2 = SpellsNumber number (length features) × Chooses features mode metadata2
 
 -- A word names a policy; `default` names TinyLFU, too.
 abbrev pub NamesPolicy : List ℕ → PolicyName → Type 0
@@ -69,6 +88,6 @@ pub record IsTable (words : List (List ℕ)) (table : Table) : Type 0 where
   pub arguments : List (List ℕ)
   pub spelled : words ≡ codes "cache" ∷ table.metadata.now ∷ table.cache.now ∷ table.origin.now ∷ size ∷ (features ++ policy ∷ arguments)
   pub block_size : IsBlockSize size table.block
-  pub mode : SpellsFeatures features table.mode
+  pub chosen : SpellsFeatures features table.mode table.metadata2
   pub named : NamesPolicy policy table.policy
   pub keys : SpellsArguments table.policy arguments table.keys

@@ -1,7 +1,7 @@
 //! The status line of a target.
 
 ghost use Rattle.std.specs.Prelude.{◌≡◌, ◌++◌, Some, OnOk, OnErr, IfErr, string_bytes};
-ghost use Rattle.wb_table.specs.Status.{accesses, arguments, figures, mode_name, moves, settings, sizes, status_line};
+ghost use Rattle.wb_table.specs.Status.{accesses, arguments, features, figures, mode_name, moves, settings, sizes, status_line};
 
 use std::fmt;
 use std::fmt::Display;
@@ -29,6 +29,8 @@ pub struct Fields<'a> {
     /// Mapped blocks whose newest content is in the cache alone.
     pub dirty: u32,
     pub mode: Mode,
+    /// Whether the metadata are of version 2.
+    pub metadata2: bool,
     /// The greatest sum of sectors that live orders may have.
     pub threshold: u64,
     /// The policy's name.
@@ -134,17 +136,35 @@ impl Display for Settings<'_> {
     fn fmt<W: fmt::Write>(&self, f: &mut fmt::Formatter<W>) -> fmt::Result {
         let Fields {
             mode,
+            metadata2,
             threshold,
             policy,
             promote_min,
             ..
         } = self.0;
-        let mode = ModeName(mode);
+        let features = Features(mode, metadata2);
         let arguments = Arguments(promote_min);
         write!(
             f,
-            "1 {mode} 2 migration_threshold {threshold} {policy} {arguments}"
+            "{features} 2 migration_threshold {threshold} {policy} {arguments}"
         )
+    }
+}
+
+/// How many features there are, and each.
+#[derive(Clone, Copy)]
+struct Features(Mode, bool);
+
+impl Display for Features {
+    ghost output = { λ told. Some (features told.0 told.1) };
+
+    fn fmt<W: fmt::Write>(&self, f: &mut fmt::Formatter<W>) -> fmt::Result {
+        let mode = ModeName(self.0);
+        if self.1 {
+            write!(f, "2 metadata2 {mode}")
+        } else {
+            write!(f, "1 {mode}")
+        }
     }
 }
 

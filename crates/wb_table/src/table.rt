@@ -1,9 +1,9 @@
 //! The constructor line of a target.
 
-ghost use Rattle.std.specs.Prelude.{◌≡◌, ◌++◌, ℕ, List, IfOk, IfErr, IfSome, IfNone};
+ghost use Rattle.std.specs.Prelude.{◌≡◌, ◌++◌, ℕ, Bool, List, IfOk, IfErr, IfSome, IfNone};
 ghost use Rattle.wb_types.specs.declared.message.Key.{Key as KeyName};
 ghost use Rattle.wb_types.specs.declared.mode.Mode.{Mode as ModeTerm};
-ghost use Rattle.wb_table.specs.Table.{IsTable, IsBlockSize, SpellsFeatures, SpellsArguments, NamesPolicy, NamesKey, no_keys, with_key};
+ghost use Rattle.wb_table.specs.Table.{IsTable, IsBlockSize, IsChosenByOne, IsChosenByTwo, SpellsFeatures, SpellsArguments, NamesPolicy, NamesKey, no_keys, with_key};
 ghost use Rattle.wb_table.specs.Status.{mode_name};
 ghost use Rattle.wb_table.specs.Words.{words_of};
 ghost use Rattle.wb_table.specs.declared.table.Keys.{Keys as KeysTerm};
@@ -23,6 +23,8 @@ pub struct Table<'a> {
     /// Sectors of a block: 64 to 2,097,152, a multiple of 64.
     pub block: u64,
     pub mode: Mode,
+    /// Whether the metadata are of version 2.
+    pub metadata2: bool,
     pub policy: PolicyName,
     pub keys: Keys,
 }
@@ -72,8 +74,8 @@ impl Keys {
 }
 
 /// Reads `cache <metadata> <cache> <origin> <block size> <#features> <feature>* <policy> <#arguments> [<key> <value>]*` (the
-/// constructor of the kernel's `cache.rst`), with nothing after it: words parted by spaces. The feature is `writeback`,
-/// `writethrough` or `passthrough`, and none means the first; the policy `tinylfu`, `default` (the same) or `cleaner`; a key
+/// constructor of the kernel's `cache.rst`), with nothing after it: words parted by spaces. The features are the mode, `writeback`,
+/// `writethrough` or `passthrough`, where none means the first, and `metadata2`, each at most once, in any order; the policy `tinylfu`, `default` (the same) or `cleaner`; a key
 /// `migration_threshold`, and under TinyLFU `promote_min`. Anything else is `BadTable`. A value that is no value of its key is read.
 pub fn read_table(text: &str) -> Result<Table<'_>, Refusal>
     ensures found { IfOk result (IsTable (words_of text.now)) }
@@ -92,7 +94,7 @@ fn read_words(mut words: SplitSpaces<'_>) -> Option<Table<'_>>
     let cache = words.next()?;
     let origin = words.next()?;
     let block = read_block_size(words.next()?)?;
-    let mode = read_features(&mut words)?;
+    let (mode, metadata2) = read_features(&mut words)?;
     let policy = read_policy(words.next()?)?;
     let keys = read_arguments(words, policy)?;
     Some(Table {
@@ -101,6 +103,7 @@ fn read_words(mut words: SplitSpaces<'_>) -> Option<Table<'_>>
         origin,
         block,
         mode,
+        metadata2,
         policy,
         keys,
     })
@@ -119,17 +122,49 @@ pub(crate) fn read_block_size(word: &str) -> Option<u64>
     }
 }
 
-/// Takes the number of features, and these: which mode they choose.
-fn read_features(words: &mut SplitSpaces<'_>) -> Option<Mode>
-    ensures found { IfSome result (λ mode. (taken : List (List ℕ)) × (words_of words.old.0.now ≡ taken ++ words_of words.new.0.now) × SpellsFeatures taken mode) }
-    ensures only { IfSome result (λ _. (taken rest : List (List ℕ)) (mode : ModeTerm) → words_of words.old.0.now ≡ taken ++ rest → SpellsFeatures taken mode → rest ≡ words_of words.new.0.now) }
-    ensures none { IfNone result ((taken rest : List (List ℕ)) (mode : ModeTerm) → words_of words.old.0.now ≡ taken ++ rest → ¬ SpellsFeatures taken mode) }
+/// Takes the number of features, and these: which mode they choose, and whether metadata of version 2.
+fn read_features(words: &mut SplitSpaces<'_>) -> Option<(Mode, bool)>
+    ensures found { IfSome result (λ read. (taken : List (List ℕ)) × (words_of words.old.0.now ≡ taken ++ words_of words.new.0.now) × SpellsFeatures taken read.0 read.1) }
+    ensures only { IfSome result (λ _. (taken rest : List (List ℕ)) (mode : ModeTerm) (metadata2 : Bool) → words_of words.old.0.now ≡ taken ++ rest → SpellsFeatures taken mode metadata2 → rest ≡ words_of words.new.0.now) }
+    ensures none { IfNone result ((taken rest : List (List ℕ)) (mode : ModeTerm) (metadata2 : Bool) → words_of words.old.0.now ≡ taken ++ rest → ¬ SpellsFeatures taken mode metadata2) }
 {
     match read_number(words.next()?)? {
-        0 => Some(Mode::Writeback),
-        1 => read_mode(words.next()?),
+        0 => Some((Mode::Writeback, false)),
+        1 => read_feature(words.next()?),
+        2 => {
+            let first = words.next()?;
+            let second = words.next()?;
+            read_two_features(first, second)
+        }
         _ => None,
     }
+}
+
+/// Reads a feature that stands alone.
+fn read_feature(word: &str) -> Option<(Mode, bool)>
+    ensures found { IfSome result (λ read. IsChosenByOne word.now read.0 read.1) }
+    ensures none { IfNone result ((mode : ModeTerm) (metadata2 : Bool) → ¬ IsChosenByOne word.now mode metadata2) }
+{
+    match word {
+        "metadata2" => Some((Mode::Writeback, true)),
+        _ => match read_mode(word) {
+            Some(mode) => Some((mode, false)),
+            None => None,
+        },
+    }
+}
+
+/// Reads two features, a mode and `metadata2`.
+fn read_two_features(first: &str, second: &str) -> Option<(Mode, bool)>
+    ensures found { IfSome result (λ read. IsChosenByTwo first.now second.now read.0 read.1) }
+    ensures none { IfNone result ((mode : ModeTerm) (metadata2 : Bool) → ¬ IsChosenByTwo first.now second.now mode metadata2) }
+{
+    let mode = match (first, second) {
+        ("metadata2", _) => read_mode(second)?,
+        (_, "metadata2") => read_mode(first)?,
+        _ => return None,
+    };
+    Some((mode, true))
 }
 
 /// Reads the name of a mode: `writeback`, `writethrough` or `passthrough`. None is any other word.

@@ -36,6 +36,12 @@ enum Wanted {
     BlockSize,
     FeatureCount,
     Feature,
+    /// The first of two.
+    EitherFeature,
+    /// The mode, behind `metadata2`.
+    Mode,
+    /// `metadata2`, behind the mode.
+    Metadata2,
     Policy,
     /// How many arguments the policy has.
     ArgumentCount(PolicyName),
@@ -59,9 +65,14 @@ impl Wanted {
             Wanted::FeatureCount => match read_number(word)? {
                 0 => Some(Wanted::Policy),
                 1 => Some(Wanted::Feature),
+                2 => Some(Wanted::EitherFeature),
                 _ => None,
             },
-            Wanted::Feature => read_mode(word).map(|_| Wanted::Policy),
+            Wanted::Feature if word == "metadata2" => Some(Wanted::Policy),
+            Wanted::EitherFeature if word == "metadata2" => Some(Wanted::Mode),
+            Wanted::EitherFeature => read_mode(word).map(|_| Wanted::Metadata2),
+            Wanted::Metadata2 if word == "metadata2" => Some(Wanted::Policy),
+            Wanted::Feature | Wanted::Mode => read_mode(word).map(|_| Wanted::Policy),
             Wanted::Policy => Some(Wanted::ArgumentCount(read_policy(word)?)),
             Wanted::ArgumentCount(policy) => match read_number(word)? {
                 count if count % 2 == 0 => Some(Wanted::argument(policy, count)),
@@ -94,8 +105,12 @@ impl Wanted {
             Wanted::Cache => "the cache file",
             Wanted::Origin => "the origin file",
             Wanted::BlockSize => "the sectors of a block, 64 to 2097152, a multiple of 64",
-            Wanted::FeatureCount => "the number of features, 0 or 1",
-            Wanted::Feature => "the mode, 'writeback', 'writethrough' or 'passthrough'",
+            Wanted::FeatureCount => "the number of features, 0, 1 or 2",
+            Wanted::Feature | Wanted::EitherFeature => {
+                "a feature, 'metadata2', 'writeback', 'writethrough' or 'passthrough'"
+            }
+            Wanted::Mode => "the mode, 'writeback', 'writethrough' or 'passthrough'",
+            Wanted::Metadata2 => "the other feature, 'metadata2'",
             Wanted::Policy => "the policy, 'tinylfu', 'default' or 'cleaner'",
             Wanted::ArgumentCount(_) => "the number of policy arguments, two for each key",
             Wanted::Key(PolicyName::TinyLfu, _) => {

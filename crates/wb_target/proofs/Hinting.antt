@@ -3,6 +3,7 @@ use Rattle.std.proofs.Common.{arith, ◌≡◌, ◌∙◌, ◌<◌, ◌≤◌, �
 use Rattle.std.proofs.lemmas.List.{ext_get_or, length-map, get_or-map}
 use Rattle.wb_types.specs.declared.entry.Entry.{Entry}
 use Rattle.wb_tree.specs.Mapping.{IsMapping}
+use Rattle.wb_dirty.specs.ImageReading.{entries_with, with_bits}
 use Rattle.wb_policy.specs.Law.{origins}
 use Rattle.wb_target.specs.Opening.{opened_entry, opened_mapping}
 
@@ -17,6 +18,19 @@ same_origins clean [] = refl
 same_origins clean (None ∷ entries) = ap (λ xs. None ∷ xs) (same_origins clean entries)
 same_origins true (Some e ∷ entries) = ap (λ xs. Some e.origin.0 ∷ xs) (same_origins true entries)
 same_origins false (Some e ∷ entries) = ap (λ xs. Some e.origin.0 ∷ xs) (same_origins false entries)
+
+origins_bits : (bits : List Bool) (entries : List (Option Entry)) → origins (entries_with bits entries) ≡ origins entries
+unfolding entries_with
+origins_bits bits [] = refl
+origins_bits [] (None ∷ entries) = ap (λ xs. None ∷ xs) (origins_bits [] entries)
+origins_bits [] (Some e ∷ entries) = ap (λ xs. Some e.origin.0 ∷ xs) (origins_bits [] entries)
+origins_bits (bit ∷ bits) (None ∷ entries) = ap (λ xs. None ∷ xs) (origins_bits bits entries)
+origins_bits (bit ∷ bits) (Some e ∷ entries) = ap (λ xs. Some e.origin.0 ∷ xs) (origins_bits bits entries)
+
+-- and with their dirty bits too
+pub origins-with_bits : (bits : Option (List Bool)) (entries : List (Option Entry)) → origins (with_bits bits entries) ≡ origins entries
+origins-with_bits None entries = refl
+origins-with_bits (Some bits) entries = origins_bits bits entries
 
 abbrev hint_in : Option Entry → ℕ
 hint_in None = 0

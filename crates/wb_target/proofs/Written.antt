@@ -6,6 +6,7 @@ use Rattle.std.specs.Global.{Global}
 use Rattle.wb_types.specs.Limits.{node_count}
 use Rattle.wb_types.specs.declared.geometry.Geometry.{Geometry}
 use Rattle.wb_format.specs.declared.root.Root.{Root}
+use Rattle.wb_tree.specs.Images.{kept_tree}
 use Rattle.wb_tree.specs.Mapping.{IsMapping}
 use Rattle.wb_meta.specs.Reads.{FitsDevice, AreStepsOn}
 use Rattle.wb_meta.specs.declared.read_steps.ReadSteps.{ReadSteps}
@@ -21,7 +22,7 @@ use Rattle.wb_target.specs.declared.making.MakingStage.{MakingStage}
 
 -- by the size that a root of the same geometry has
 same_fits : (sectors : ℕ) (state : State Global) (root : Root) → state.root.geometry ≡ root.geometry → FitsDevice sectors state.root state.tree state.used.items → FitsDevice root.geometry.meta_sectors root state.tree state.used.items
-same_fits sectors state root same fits = subst (λ (n : ℕ). FitsDevice n root state.tree state.used.items) (sym size) (record { size = size; mapping = mapping; sound = fits.sound; inside = fits.inside; known_used = fits.known_used; used_are = fits.used_are; used_few = few })
+same_fits sectors state root same fits = subst (λ (n : ℕ). FitsDevice n root state.tree state.used.items) (sym size) (record { size = size; mapping = mapping; sound = fits.sound; inside = fits.inside; known_used = fits.known_used; used_are = fits.used_are; used_few = few; keeps = keeps })
   where
     size : root.geometry.meta_sectors ≡ sectors
     size = subst (λ (geometry : Geometry). geometry.meta_sectors ≡ sectors) same fits.size
@@ -32,9 +33,12 @@ same_fits sectors state root same fits = subst (λ (n : ℕ). FitsDevice n root 
     few : length state.used.items ≤ node_count root.geometry.cache_blocks
     few = subst (λ (geometry : Geometry). length state.used.items ≤ node_count geometry.cache_blocks) same fits.used_few
 
+    keeps : kept_tree root.geometry.version state.tree ≡ state.tree
+    keeps = subst (λ (geometry : Geometry). kept_tree geometry.version state.tree ≡ state.tree) same fits.keeps
+
 pub fits_written : (sectors : ℕ) (reading : Option (ReadSteps Global)) (state : State Global) (root : Root) → reading ≡ Some (Done state) → IfSome reading (AreStepsOn sectors) → state.root.geometry ≡ root.geometry
     → FitsDevice root.geometry.meta_sectors root state.tree state.used.items
-fits_written sectors reading state root is steps same = same_fits sectors state root same (subst (λ (r : Option (ReadSteps Global)). IfSome r (AreStepsOn sectors)) is steps)
+fits_written sectors reading state root is steps same = same_fits sectors state root same (subst (λ (r : Option (ReadSteps Global)). IfSome r (AreStepsOn sectors)) is steps).0
 
 pub goes_on_making : {D P : Type 0} (tells : Type 0) (size : D → ℕ) (contents : D → List History) (faults : D → ℕ) (with_setting : P → Key → ℕ → Option P) (old : MakingStage D P) (steps : List (Want × Got)) (new : MakingStage D P) → MayGoOn (size old.stage.devices.metadata) old.stage.opening → Leads (MakingGoesOn tells size contents faults with_setting) old steps new
     → MayGoOn (size new.stage.devices.metadata) new.stage.opening

@@ -1,6 +1,6 @@
 -- What a client has done when an order is carried out, or a flush is answered.
-use Rattle.std.specs.Prelude.{◌≡◌, ◌<◌, ℕ, List, [], ◌∷◌, Option, Some, None, length}
-use Rattle.wb_types.specs.Limits.{node_count}
+use Rattle.std.specs.Prelude.{◌≡◌, ◌<◌, ℕ, false, List, [], ◌∷◌, Option, Some, None, length}
+use Rattle.wb_types.specs.Limits.{most_nodes}
 use Rattle.wb_types.specs.Extents.{pieces}
 use Rattle.wb_types.specs.declared.geometry.Geometry.{Geometry}
 use Rattle.wb_types.specs.declared.mode.Mode.TheVariants.{Writeback}
@@ -69,7 +69,7 @@ serving None = []
 serving (Some block) = block ∷ []
 
 abbrev pub flush_of : Geometry → Option OBlock → TaskJob
-flush_of geometry serves = Flushing (serving serves) (node_count geometry.cache_blocks)
+flush_of geometry serves = Flushing (serving serves) (most_nodes geometry.version false geometry.cache_blocks)
 
 -- how a flush was answered done, by what it has of the commits of others at its end
 abbrev pub share_of : Flushed → Share

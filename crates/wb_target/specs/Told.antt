@@ -15,6 +15,7 @@ use Rattle.wb_desk.specs.Desks.{DeskState, mapped_now}
 use Rattle.wb_desk.specs.Messages.{MessageIsTold, IsRefused}
 use Rattle.wb_desk.specs.Settling.{AreSettled, IsTicked}
 use Rattle.wb_stage.specs.Asking.{DidRelease}
+use Rattle.wb_table.specs.Table.{version_asked}
 use Rattle.wb_table.specs.declared.status.Fields.{Fields}
 
 -- its policy was told of these accesses, one after the other, and what it ordered was given
@@ -49,3 +50,4 @@ pub record AreShown {P : Type 0} (d : DeskState P) (told : Fields) : Type 0 wher
   pub promotions : told.promotions ≡ d.promotions
   pub threshold : told.threshold ≡ d.threshold
   pub mode : told.mode ≡ d.mode
+  pub version : d.geometry.version ≡ version_asked told.metadata2

@@ -161,7 +161,7 @@ fn flush<R: Wait, D: Disk + Drop, P: Policy, G: Gate>(
     ensures refused { IfErr result (λ refusal. WasRefused (Runs D.tells D.size D.contents D.faults (AskedSharing P.with_entry P.without_entry) port.old.geometry.origin_blocks held.now) (flush_of port.old.geometry serves) refusal (client_state port.old) (client_state port.new) ⊎ DidNotBegin (Runs D.tells D.size D.contents D.faults (AskedSharing P.with_entry P.without_entry) port.old.geometry.origin_blocks held.now) (flush_of port.old.geometry serves) refusal (client_state port.old) (client_state port.new)) }
     ensures geometry { port.new.geometry ≡ port.old.geometry }
 {
-    let most = port.geometry.node_count();
+    let most = port.geometry.most_nodes(false);
     for _ in rt.forever() {
         let blocks = match served(target.alloc, serves) {
             Ok(blocks) => blocks,

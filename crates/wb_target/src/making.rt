@@ -113,17 +113,22 @@ impl<'k, D: Disk + Drop, P: Policy> MakingStage<'k, D, P> {
         let Some(ReadSteps::Done(state)) = self.stage.opening.reading.take() else {
             return false;
         };
-        let State { root, tree, used } = state;
-        let was_clean = root.clean;
+        let was_clean = state.root.clean;
         let root = Root {
             generation,
-            version: root.version,
+            version: state.root.version,
             clean: false,
-            geometry: root.geometry,
-            top: root.top,
+            geometry: state.root.geometry,
+            top: state.root.top,
             top_dirty: None,
         };
-        let state = State { root, tree, used };
+        let state = State {
+            root,
+            tree: state.tree,
+            dirty: state.dirty,
+            used: state.used,
+            nodes: state.nodes,
+        };
         let made = office_over(self.alloc, state, was_clean, self.stage.mode, self.keys);
         let is_made = made.is_ok();
         self.made = Some(made);

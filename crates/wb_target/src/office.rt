@@ -15,7 +15,7 @@ use wb_desk::Desk;
 use wb_policy::Policy;
 use wb_port::Seat;
 use wb_table::Fields;
-use wb_types::{CBlock, Key, Message, OBlock, Refusal};
+use wb_types::{CBlock, Key, Message, OBlock, Refusal, Version};
 use wb_words::{Kind, Word, is_dirty};
 
 /// The desk, the seats that no client has, and the one by which the office itself looks at the words.
@@ -68,6 +68,7 @@ impl<P: Policy> Office<P> {
             promotions: counts.promotions,
             dirty: self.count_dirty(),
             mode,
+            metadata2: matches!(geometry.version, Version::Two),
             threshold: counts.threshold,
             policy,
             promote_min,

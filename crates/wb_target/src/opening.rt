@@ -6,7 +6,9 @@ ghost use Rattle.wb_target.specs.Making.{IsMade, WasOpened, WasRun};
 ghost use Rattle.wb_words.specs.declared.card.Hold.TheVariants.{Nothing};
 ghost use Rattle.wb_tree.specs.Mapping.{IsMapping};
 ghost use Rattle.wb_meta.specs.Reads.{FitsDevice};
+ghost use Rattle.wb_devices.specs.Clean.{entries_of};
 ghost use Rattle.wb_target.specs.Opening.{opened_mapping, opened_entry};
+ghost use Rattle.wb_table.specs.Table.{version_asked};
 
 use crate::making::MakingStage;
 use crate::office::Office;
@@ -14,14 +16,13 @@ use crate::target::{CLIENTS, Target};
 use std::alloc::Global;
 use wb_cells::{Cells, Pass};
 use wb_desk::Desk;
-use wb_devices::Devices;
+use wb_devices::{Devices, stored_entry};
 use wb_disk::Disk;
 use wb_flow::OpenTask;
 use wb_meta::State;
 use wb_policy::Policy;
 use wb_port::Seat;
 use wb_tasks::Answer;
-use wb_tree::Tree;
 use wb_types::{CBlock, Entry, Geometry, Key, Mode, Refusal};
 
 impl<P: Policy> Target<P> {
@@ -30,23 +31,26 @@ impl<P: Policy> Target<P> {
     /// there. Without the clean flag each mapped block counts as dirty, in every mode (the kernel's device-mapper/cache.rst), so that
     /// passthrough, which reads the origin alone, opens over clean metadata only.
     ///
-    /// `Geometry` for sizes outside the limits; `NotFormatted`, `Mismatch`, `Damaged`, `GenerationEnd` and `Memory` as the
-    /// metadata are read; in passthrough `NotClean` where all was read and the newest root has no clean flag, or a mapped block is dirty,
-    /// before `GenerationEnd`; then `Memory` where there is none for the target, and `BadMessage` for a key's value that is out of its
-    /// range: up to there nothing was written. `Io` where a step failed; after that of the root it may be written.
+    /// `Geometry` for sizes outside the limits, or with too little room for metadata of version 2 where `metadata2` asks for them;
+    /// `NotFormatted`, `Mismatch`, `Damaged`, `GenerationEnd` and `Memory` as the metadata are read, `Mismatch` also where the metadata
+    /// are of the other version: conversion is to come; in passthrough `NotClean` where all was read and the newest root has no clean
+    /// flag, or a mapped block is dirty, before `GenerationEnd`; then `Memory` where there is none for the target, and `BadMessage` for
+    /// a key's value that is out of its range: up to there nothing was written. `Io` where a step failed; after that of the root it may
+    /// be written.
     pub fn open<D: Disk + Drop>(
         alloc: Global,
         devices: Devices<D>,
         block: u64,
         mode: Mode,
         keys: &[(Key, u64)],
+        metadata2: bool,
     ) -> (Devices<D>, Result<Target<P>, Refusal>)
         ensures mode { IfOk result.1 (λ target. target.mode ≡ mode) }
         ensures run { OnOk result.1 (WasRun D.tells D.size D.contents D.faults P.with_setting mode devices Answer.Done result.0) }
         ensures opened { OnOk result.1 (WasOpened D.tells D.size D.contents P.with_setting mode keys.now devices result.0) }
         ensures refused { IfErr result.1 (λ refusal. ((refusal ≡ Refusal.Geometry) × (result.0 ≡ devices)) ⊎ ((answer : AnswerTerm) × WasRun D.tells D.size D.contents D.faults P.with_setting mode devices answer result.0)) }
     {
-        let geometry = match measure(&devices, block) {
+        let geometry = match measure(&devices, block, metadata2) {
             Ok(geometry) => geometry,
             Err(refusal) => return (devices, Err(refusal)),
         };
@@ -57,19 +61,22 @@ impl<P: Policy> Target<P> {
     }
 }
 
-/// The sizes of a cache over these devices: `Geometry` where they are outside the limits, or not of whole blocks.
-fn measure<D: Disk>(devices: &Devices<D>, block: u64) -> Result<Geometry, Refusal>
+/// The sizes of a cache over these devices, with metadata of the version that is asked for: `Geometry` where they are outside the limits, give
+/// that version too little room, or are not of whole blocks.
+fn measure<D: Disk>(devices: &Devices<D>, block: u64, metadata2: bool) -> Result<Geometry, Refusal>
+    ensures version { IfOk result (λ geometry. geometry.version ≡ version_asked metadata2) }
     ensures refused { IfErr result (λ refusal. refusal ≡ Refusal.Geometry) }
 {
     let (cache, origin) = (devices.cache.sectors(), devices.origin.sectors());
     if block == 0 || cache % block != 0 || origin % block != 0 {
         return Err(Refusal::Geometry);
     }
-    Geometry::new(
+    Geometry::with_version(
         block,
         cache / block,
         origin / block,
         devices.metadata.sectors(),
+        if metadata2 { 2 } else { 1 },
     )
 }
 
@@ -85,7 +92,7 @@ pub(crate) fn office_over<P: Policy>(
     ensures made { OnOk result (IsMade P.with_setting state.root.geometry state.root.generation state.tree state.used.items mode keys.now) }
 {
     let geometry = state.root.geometry;
-    let entries = opened_entries(alloc, &state.tree, &geometry, clean)?;
+    let entries = opened_entries(alloc, &state, clean)?;
     let policy = P::new(alloc, &geometry, entries.as_slice())?;
     let mut seat = Seat::new(alloc, geometry)?;
     let lent = &mut seat;
@@ -95,19 +102,18 @@ pub(crate) fn office_over<P: Policy>(
     Ok(Office { desk, seats, watch })
 }
 
-/// The entries of all cache blocks, as an opening goes by them.
+/// The entries of all cache blocks, each with the dirty bit that was read of it, as an opening goes by them.
 fn opened_entries(
     alloc: Global,
-    tree: &Tree<Global>,
-    geometry: &Geometry,
+    state: &State<Global>,
     clean: bool,
 ) -> Result<Vec<Option<Entry>>, Refusal>
-    requires { length tree.now.entries ≡ geometry.now.cache_blocks }
-    ensures { IfOk result (λ v. v.items ≡ opened_mapping clean tree.now.entries) }
+    requires { length state.now.tree.entries ≡ state.now.root.geometry.cache_blocks }
+    ensures { IfOk result (λ v. v.items ≡ opened_mapping clean (entries_of state.now)) }
 {
-    let mut entries = vec![in alloc; None; geometry.cache_blocks as usize]?;
-    for c in 0..geometry.cache_blocks {
-        entries[c as usize] = opened(clean, tree.get(CBlock(c)));
+    let mut entries = vec![in alloc; None; state.root.geometry.cache_blocks as usize]?;
+    for c in 0..state.root.geometry.cache_blocks {
+        entries[c as usize] = opened(clean, stored_entry(state, CBlock(c)));
     }
     Ok(entries)
 }

@@ -170,7 +170,7 @@ impl<P: Policy> Office<P> {
         let Ok(bits) = no_bits(alloc, geometry.cache_blocks) else {
             return (devices, Err(Refusal::Memory));
         };
-        let mut task = CommitTask::suspend(blocks, geometry.node_count());
+        let mut task = CommitTask::suspend(blocks, geometry.most_nodes(true));
         let (devices, answer) = self.run_suspend(alloc, devices, bits, &mut task);
         match answer {
             Answer::Done => (devices, Ok(())),

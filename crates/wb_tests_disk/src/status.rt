@@ -22,6 +22,7 @@ fn opened() -> Fields<'static> {
         promotions: 0,
         dirty: 0,
         mode: Mode::Writeback,
+        metadata2: false,
         threshold: 2048,
         policy: "tinylfu",
         promote_min: Some(2),
@@ -45,6 +46,10 @@ fn each_figure_has_its_place(rt: HostRuntime) -> Result<(), Fail> {
     (told.demotions, told.promotions, told.dirty) = (9, 10, 11);
     let line =
         "1 3/4 64 1/4 5 6 7 8 9 10 11 1 writeback 2 migration_threshold 2048 tinylfu 2 promote_min 2 rw -";
+    assert!(rt; is_told(rt.alloc(), &told, line)?);
+    told.metadata2 = true;
+    let line =
+        "1 3/4 64 1/4 5 6 7 8 9 10 11 2 metadata2 writeback 2 migration_threshold 2048 tinylfu 2 promote_min 2 rw -";
     assert!(rt; is_told(rt.alloc(), &told, line)?);
     told.failed = true;
     assert!(rt; is_told(rt.alloc(), &told, "Fail")?);

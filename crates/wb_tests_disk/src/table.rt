@@ -3,17 +3,22 @@
 use wb_table::{Keys, PolicyName, Table, read_table};
 use wb_types::{Mode, Refusal};
 
-/// Whether a line is a table of the files m, c and o with blocks of 64 sectors, in this mode, with this policy and these keys.
-fn gives(line: &str, mode: Mode, policy: PolicyName, keys: Keys) -> bool {
-    let table = Table {
+/// A table of the files m, c and o with blocks of 64 sectors, in this mode, with metadata of version 2 or not, this policy and these keys.
+fn table_of(mode: Mode, metadata2: bool, policy: PolicyName, keys: Keys) -> Table<'static> {
+    Table {
         metadata: "m",
         cache: "c",
         origin: "o",
         block: 64,
         mode,
+        metadata2,
         policy,
         keys,
-    };
+    }
+}
+
+/// Whether a line is this table.
+fn gives(line: &str, table: Table<'_>) -> bool {
     match read_table(line) {
         Ok(read) => read == table,
         Err(_) => false,
@@ -72,16 +77,41 @@ fn a_line_gives_mode_policy_and_keys(rt: HostRuntime) {
             migration_threshold,
             promote_min,
         };
-        assert!(rt; gives(line, mode, policy, keys));
+        assert!(rt; gives(line, table_of(mode, false, policy, keys)));
     }
 }
 
 #[test]
-fn features_that_are_no_one_mode_are_bad(rt: HostRuntime) {
+fn metadata2_stands_once_before_or_behind_a_mode(rt: HostRuntime) {
+    for (line, mode) in [
+        ("cache m c o 64 1 metadata2 tinylfu 0", Mode::Writeback),
+        (
+            "cache m c o 64 2 metadata2 writeback tinylfu 0",
+            Mode::Writeback,
+        ),
+        (
+            "cache m c o 64 2 metadata2 writethrough tinylfu 0",
+            Mode::Writethrough,
+        ),
+        (
+            "cache m c o 64 2 passthrough metadata2 tinylfu 0",
+            Mode::Passthrough,
+        ),
+    ] {
+        assert!(rt; gives(line, table_of(mode, true, PolicyName::TinyLfu, Keys::new())));
+    }
+}
+
+#[test]
+fn features_that_are_no_mode_and_metadata2_are_bad(rt: HostRuntime) {
     for line in [
         "cache m c o 64 2 writethrough passthrough tinylfu 0",
         "cache m c o 64 2 writeback writeback tinylfu 0",
-        "cache m c o 64 1 metadata2 tinylfu 0",
+        "cache m c o 64 2 metadata2 metadata2 tinylfu 0",
+        "cache m c o 64 3 metadata2 writeback metadata2 tinylfu 0",
+        "cache m c o 64 2 metadata2 tinylfu 0",
+        "cache m c o 64 0 metadata2 tinylfu 0",
+        "cache m c o 64 1 metadata3 tinylfu 0",
         "cache m c o 64 1 tinylfu 0",
         "cache m c o 64 writeback tinylfu 0",
     ] {

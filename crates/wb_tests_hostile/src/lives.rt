@@ -154,7 +154,7 @@ fn lived<D: Disk + Drop>(
         Part::Plays(mode) => mode,
         Part::Looks => Mode::Writeback,
     };
-    let (devices, target) = Target::<TinyLfu>::open(alloc, devices, 64, mode, &[]);
+    let (devices, target) = Target::<TinyLfu>::open(alloc, devices, 64, mode, &[], false);
     match target {
         Ok(target) => by_client(rt, &target, devices, record, part),
         Err(refusal) => {

@@ -65,6 +65,7 @@ fn opened(alloc: Global, devices: Memory) -> (Memory, Option<Refusal>) {
         64,
         Mode::Passthrough,
         &[],
+        false,
     );
     match target {
         Ok(_) => (devices, None),

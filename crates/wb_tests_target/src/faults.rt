@@ -80,7 +80,14 @@ fn lived(rt: &impl Wait, alloc: Global, devices: Failing) -> (Rounds, Memory, bo
         begun: 0,
         flushed: 0,
     };
-    let (devices, target) = Target::<TinyLfu>::open(alloc, devices, 64, Mode::Writeback, &[]);
+    let (devices, target) = Target::<TinyLfu>::open(
+        alloc,
+        devices,
+        64,
+        Mode::Writeback,
+        &[],
+        false,
+    );
     let devices = match target {
         Ok(target) => played(rt, &target, devices, &mut rounds),
         Err(_) => devices,
@@ -226,7 +233,14 @@ fn ordered_again_over(rt: &impl Wait, target: &Target<TinyLfu>, devices: Failing
 /// The same of a target whose origin fails at its call of this number.
 fn ordered_again(rt: &impl Wait, alloc: Global, call: u64) -> Result<Option<bool>, Refusal> {
     let devices = failing(alloc, Dev::Origin, call)?;
-    let (devices, target) = Target::<TinyLfu>::open(alloc, devices, 64, Mode::Writeback, &[]);
+    let (devices, target) = Target::<TinyLfu>::open(
+        alloc,
+        devices,
+        64,
+        Mode::Writeback,
+        &[],
+        false,
+    );
     match target {
         Ok(target) => Ok(ordered_again_over(rt, &target, devices)),
         Err(_) => Ok(None),

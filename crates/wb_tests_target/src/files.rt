@@ -43,7 +43,14 @@ pub fn images(rt: &HostRuntime, names: &Names) -> Result<Images, Fail> {
 /// A target over files that are made for it.
 pub fn target_over(rt: &HostRuntime, names: &Names) -> Result<Target<TinyLfu>, Fail> {
     make(rt, names)?;
-    let (_, target) = Target::open(rt.alloc(), images(rt, names)?, 64, Mode::Writeback, &[]);
+    let (_, target) = Target::open(
+        rt.alloc(),
+        images(rt, names)?,
+        64,
+        Mode::Writeback,
+        &[],
+        false,
+    );
     Ok(target?)
 }
 

@@ -36,19 +36,19 @@ pub fn open_with(
     devices: Memory,
     keys: &[(Key, u64)],
 ) -> Result<(Memory, Target<TinyLfu>), Refusal> {
-    let (devices, target) = Target::open(alloc, devices, 64, Mode::Writeback, keys);
+    let (devices, target) = Target::open(alloc, devices, 64, Mode::Writeback, keys, false);
     Ok((devices, target?))
 }
 
 /// One that writes through.
 pub fn open_through(alloc: Global, devices: Memory) -> Result<(Memory, Target<TinyLfu>), Refusal> {
-    let (devices, target) = Target::open(alloc, devices, 64, Mode::Writethrough, &[]);
+    let (devices, target) = Target::open(alloc, devices, 64, Mode::Writethrough, &[], false);
     Ok((devices, target?))
 }
 
 /// One in passthrough.
 pub fn open_passing(alloc: Global, devices: Memory) -> Result<(Memory, Target<TinyLfu>), Refusal> {
-    let (devices, target) = Target::open(alloc, devices, 64, Mode::Passthrough, &[]);
+    let (devices, target) = Target::open(alloc, devices, 64, Mode::Passthrough, &[], false);
     Ok((devices, target?))
 }
 

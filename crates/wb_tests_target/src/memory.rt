@@ -11,11 +11,11 @@ use wb_types::{Mode, Refusal, SECTOR_BYTES, Sector};
 
 /// Opens a target, once more where there was no memory.
 fn opened(alloc: Global, devices: Memory) -> Result<(Memory, Target<TinyLfu>), Refusal> {
-    let (devices, target) = Target::open(alloc, devices, 64, Mode::Writeback, &[]);
+    let (devices, target) = Target::open(alloc, devices, 64, Mode::Writeback, &[], false);
     match target {
         Ok(target) => Ok((devices, target)),
         Err(Refusal::Memory) => {
-            let (devices, target) = Target::open(alloc, devices, 64, Mode::Writeback, &[]);
+            let (devices, target) = Target::open(alloc, devices, 64, Mode::Writeback, &[], false);
             Ok((devices, target?))
         }
         Err(refusal) => Err(refusal),

@@ -22,6 +22,7 @@ fn refused(alloc: Global, devices: Memory, keys: &[(Key, u64)]) -> (Memory, bool
         64,
         Mode::Writeback,
         keys,
+        false,
     );
     (devices, matches!(refused, Err(Refusal::BadMessage)))
 }

@@ -8,14 +8,21 @@ pub const ABOUT: &str = "A write-back block cache over three files.";
 /// What a table and a script are, for both subcommands.
 pub const TEXTS: &str = "\
 TABLE is one argument, words parted by spaces:
-  cache <metadata> <cache> <origin> <block size> <mode> <policy> <keys>
+  cache <metadata> <cache> <origin> <block size> <features> <policy> <keys>
 Three files that are there, and sectors of 512 bytes in a block: 64 to 2097152,
 a multiple of 64. Cache and origin have whole blocks, 1048575 and 1048576 at
 most. The metadata have 2 sectors and 2 for each node of a tree over the cache
 blocks, 32 a node: 4 sectors serve 32 cache blocks.
-  mode    0, or 1 writeback, the same; 1 writethrough: writes reach the origin,
-          too, before they are answered; 1 passthrough: all goes to the origin,
-          and what is written leaves the cache, which has to be clean
+  features  how many words follow, and these in any order: 0 to 2, of which one
+          may be a mode and one metadata2
+          writeback     the mode where none is named
+          writethrough  writes reach the origin, too, before they are answered
+          passthrough   all goes to the origin, and what is written leaves the
+                        cache, which has to be clean
+          metadata2     metadata of version 2: dirty bits have a tree of their
+                        own, and each of its nodes, of 2048 cache blocks a leaf,
+                        a sector more. Metadata that were formatted with it are
+                        opened with it, and others without it
   policy  tinylfu, or default, the same: caches what is read or written again;
           cleaner: caches nothing more, and writes back what is dirty
   keys    how many words follow, and these: 0, or
@@ -62,8 +69,9 @@ pub const REPLAYS: &str = "\
 A replay runs a cache over three devices in memory, one atomic step at a time.
 It is read from standard input, and its first line is
   setup <mode> <block> <cache blocks> <origin blocks> <metadata sectors>
-with sectors in a block, and sectors of 512 bytes. The mode is writeback or
-writethrough; in passthrough no opening starts. The other lines:
+with sectors in a block, and sectors of 512 bytes; metadata2 behind it asks for
+metadata of version 2. The mode is writeback or writethrough; in passthrough no
+opening starts. The other lines:
   start A r S N, start A w S N hh, start A flush   give actor A, 0 to 63, a task
   start A promote B C   copy block B into the cache's block C and map it there
   start A demote B      copy block B home where it is dirty, and unmap it

@@ -81,13 +81,15 @@ fn work_off<R: Wait, C: Served>(rt: &R, client: &mut C) -> Result<(), Refusal> {
     Ok(())
 }
 
-/// The table of the same files that writes back: with the policy `cleaner`, and room for many blocks on their way.
+/// The table of the same files, and the same version of their metadata, that writes back: with the policy `cleaner`, and room for many blocks on
+/// their way.
 pub fn cleaning(alloc: Global, table: &Table<'_>) -> Result<String, AllocError> {
     let mut text = String::new(alloc);
     let room = table.block.max(AT_ONCE);
+    let features = if table.metadata2 { "1 metadata2" } else { "0" };
     let written = write!(
         text,
-        "cache {} {} {} {} 0 cleaner 2 migration_threshold {room}",
+        "cache {} {} {} {} {features} cleaner 2 migration_threshold {room}",
         table.metadata, table.cache, table.origin, table.block
     );
     match written {

@@ -3,12 +3,13 @@
 ghost use Rattle.std.specs.Prelude.{◌≡◌, length, map, is_some, count_by, IfOk};
 ghost use Rattle.std.specs.Bool.{OnTrue};
 ghost use Rattle.wb_disk.specs.Device.{newest};
+ghost use Rattle.wb_devices.specs.Clean.{entries_of};
 ghost use Rattle.wbmeta.specs.Counted.{AreCounted, IsFound, counts_as_dirty};
 
 use std::alloc::{AllocError, Global};
+use wb_devices::stored_entry;
 use wb_disk::Disk;
-use wb_meta::{ReadSteps, read_state};
-use wb_tree::Tree;
+use wb_meta::{ReadSteps, State, read_state};
 use wb_types::{CBlock, Entry, Geometry, Mode, Refusal};
 
 /// What a metadata device stands for: its newest root's generation and clean flag, and the entry of each cache block.
@@ -28,9 +29,9 @@ pub struct Counted {
     pub dirty: u64,
 }
 
-/// Reads what a metadata device of these sizes stands for, and writes nothing.
+/// Reads what a metadata device of these sizes and this version stands for, and writes nothing.
 ///
-/// The refusals of an opening, in its order: `NotFormatted`; `Mismatch` where the newest root is of other sizes; `Damaged` with the place of
+/// The refusals of an opening, in its order: `NotFormatted`; `Mismatch` where the newest root is of other sizes, or of the other version; `Damaged` with the place of
 /// the first fault; and at any step `Io` where the device fails, and `Memory`.
 pub fn read_metadata<D: Disk>(
     alloc: Global,
@@ -48,7 +49,7 @@ pub fn read_metadata<D: Disk>(
     if !is_same(state.root.geometry, *geometry) {
         return Err(Refusal::Mismatch);
     }
-    let entries = entries_of(alloc, &state.tree, geometry.cache_blocks)?;
+    let entries = stored_entries(alloc, &state)?;
     Ok(Found {
         generation: state.root.generation,
         clean: state.root.clean,
@@ -73,18 +74,14 @@ fn known_geometry<D: Disk>(alloc: Global, disk: &mut D) -> Result<Option<Geometr
     Ok(both.root().map(|root| root.geometry))
 }
 
-/// The entry of each cache block.
-fn entries_of(
-    alloc: Global,
-    tree: &Tree<Global>,
-    cache_blocks: u32,
-) -> Result<Vec<Option<Entry>>, AllocError>
-    requires { length tree.now.entries ≡ cache_blocks }
-    ensures { IfOk result (λ entries. entries.items ≡ tree.now.entries) }
+/// The entry of each cache block, with the dirty bit that was read of it.
+fn stored_entries(alloc: Global, state: &State<Global>) -> Result<Vec<Option<Entry>>, AllocError>
+    requires { length state.now.tree.entries ≡ state.now.root.geometry.cache_blocks }
+    ensures { IfOk result (λ entries. entries.items ≡ entries_of state.now) }
 {
-    let mut entries = vec![in alloc; None; cache_blocks as usize]?;
-    for c in 0..cache_blocks {
-        entries[c as usize] = tree.get(CBlock(c));
+    let mut entries = vec![in alloc; None; state.root.geometry.cache_blocks as usize]?;
+    for c in 0..state.root.geometry.cache_blocks {
+        entries[c as usize] = stored_entry(state, CBlock(c));
     }
     Ok(entries)
 }

@@ -12,7 +12,7 @@ const ABOUT: &str =
 const TEXTS: &str = "\
 TABLE is one argument, words parted by spaces, as 'wbcache format' takes it:
   cache <metadata> <cache> <origin> <block size> 0 tinylfu 0
-with other modes, policies and keys as 'wbcache --help' lists them.
+with other features, policies and keys as 'wbcache --help' lists them.
 The client gets the origin, by whatever name. What it wrote is durable once it
 has flushed, or written with FUA; when the connection ends all is flushed.
 Status: 0 the client ended it, or went between two requests, and all was

@@ -18,14 +18,14 @@ answered-requires g c =
 pub returns-in-Done-clause-done : goal.returns-in-Done-clause-done
 returns-in-Done-clause-done g c =
     let first = c.args.port.now.geometry in
-    let same = ap (λ bs. Flushing bs c.node_count-most.result) c.in-Ok.ensures.blocks ∙ ap (λ n. Flushing (serving c.args.serves) n) c.node_count-most.ensures.value in
+    let same = ap (λ bs. Flushing bs c.most_nodes-most.result) c.in-Ok.ensures.blocks ∙ ap (λ n. Flushing (serving c.args.serves) n) c.most_nodes-most.ensures in
     done_so g.D.Disk.tells g.D.Disk.size g.D.Disk.contents g.D.Disk.faults (AskedSharing g.P.Policy.with_entry g.P.Policy.without_entry) first.origin_blocks c.args.held.now (flush_of first c.args.serves) _ _ (sym c.answered.ensures) (client_state c.args.port.now) (client_state c.loop.port) (client_state c.work-answer.new.port) c.loop.invariant.tried
     (run_with g.D.Disk.tells g.D.Disk.size g.D.Disk.contents g.D.Disk.faults (AskedSharing g.P.Policy.with_entry g.P.Policy.without_entry) c.args.held.now _ _ c.flush-task.result _ _ _ _ c.work-answer.result.0 _ c.work-answer.result.1 c.flush-task.ensures same (ap (λ geometry. geometry.origin_blocks) c.loop.invariant.geometry) c.in-Done.is c.work-answer.ensures.performed)
 
 pub returns-in-Refused-clause-refused : goal.returns-in-Refused-clause-refused
 returns-in-Refused-clause-refused g c =
     let first = c.args.port.now.geometry in
-    let same = ap (λ bs. Flushing bs c.node_count-most.result) c.in-Ok.ensures.blocks ∙ ap (λ n. Flushing (serving c.args.serves) n) c.node_count-most.ensures.value in
+    let same = ap (λ bs. Flushing bs c.most_nodes-most.result) c.in-Ok.ensures.blocks ∙ ap (λ n. Flushing (serving c.args.serves) n) c.most_nodes-most.ensures in
     inl (refused_then (Runs g.D.Disk.tells g.D.Disk.size g.D.Disk.contents g.D.Disk.faults (AskedSharing g.P.Policy.with_entry g.P.Policy.without_entry) first.origin_blocks c.args.held.now) (flush_of first c.args.serves) c.in-Refused.refusal (client_state c.args.port.now) (client_state c.loop.port) (client_state c.work-answer.new.port) (not_busy c.in-Refused.refusal (sym c.if-eq.ensures)) c.loop.invariant.tried
     (run_with g.D.Disk.tells g.D.Disk.size g.D.Disk.contents g.D.Disk.faults (AskedSharing g.P.Policy.with_entry g.P.Policy.without_entry) c.args.held.now _ _ c.flush-task.result _ _ _ _ c.work-answer.result.0 _ c.work-answer.result.1 c.flush-task.ensures same (ap (λ geometry. geometry.origin_blocks) c.loop.invariant.geometry) c.in-Refused.is c.work-answer.ensures.performed).0)
 
@@ -35,7 +35,7 @@ returns-in-Err-clause-refused g c = inr (c.in-Err.ensures.refused, c.loop.invari
 pub loop-preserved : goal.loop-preserved
 loop-preserved g c =
     let first = c.args.port.now.geometry in
-    let same = ap (λ bs. Flushing bs c.node_count-most.result) c.in-Ok.ensures.blocks ∙ ap (λ n. Flushing (serving c.args.serves) n) c.node_count-most.ensures.value in record {
+    let same = ap (λ bs. Flushing bs c.most_nodes-most.result) c.in-Ok.ensures.blocks ∙ ap (λ n. Flushing (serving c.args.serves) n) c.most_nodes-most.ensures in record {
       geometry = c.work-answer.ensures.geometry ∙ c.loop.invariant.geometry;
       tried = again (λ s t. Runs g.D.Disk.tells g.D.Disk.size g.D.Disk.contents g.D.Disk.faults (AskedSharing g.P.Policy.with_entry g.P.Policy.without_entry) first.origin_blocks c.args.held.now (flush_of first c.args.serves) s (Refuses Busy) t) (client_state c.args.port.now) (client_state c.loop.port) (client_state c.work-answer.new.port) c.loop.invariant.tried
           (run_with g.D.Disk.tells g.D.Disk.size g.D.Disk.contents g.D.Disk.faults (AskedSharing g.P.Policy.with_entry g.P.Policy.without_entry) c.args.held.now _ _ c.flush-task.result _ _ _ _ c.work-answer.result.0 _ c.work-answer.result.1 c.flush-task.ensures same (ap (λ geometry. geometry.origin_blocks) c.loop.invariant.geometry) (c.in-Refused.is ∙ ap Refuses (is_busy c.in-Refused.refusal (sym c.if-eq.ensures))) c.work-answer.ensures.performed).0;

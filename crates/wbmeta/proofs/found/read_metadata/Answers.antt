@@ -10,8 +10,9 @@ returns-clause-found g c tells =
     record {
       root = state.root;
       tree = state.tree;
+      dirty = state.dirty;
       used = state.used.items;
-      represents = subst (λ (contents : List History). RepresentsState (map newest contents) state.root state.tree state.used.items) (c.in_ok-known.ensures.same tells) (c.in_ok-state.ensures.read tells);
+      represents = subst (λ (contents : List History). RepresentsState (map newest contents) state.root state.tree state.dirty state.used.items) (c.in_ok-known.ensures.same tells) (c.in_ok-state.ensures.read tells);
       geometry_is = geometry;
       generation_is = refl;
       clean_is = refl;
