@@ -66,7 +66,13 @@ fresh() { # the same, formatted
   blank
   cp formatted.img m.img
 }
+wide() { # features: files with a sector of metadata more, formatted by a table with these
+  blank
+  truncate -s 2560 m.img
+  "$cache" format "cache m.img c.img o.img 64 $1 tinylfu 0" >out.txt
+}
 table='cache m.img c.img o.img 64 0 tinylfu 0'
+second='cache m.img c.img o.img 64 1 metadata2 tinylfu 0'
 sums() { cksum m.img c.img o.img | cut -d' ' -f1 | tr '\n' ' '; }
 # --- A release: its files are those that it lists, and its programs run where nothing else is.
 release=$(sh "$top/scripts/package.sh" "$work/raistobe.tar.gz" "$cache" "$server" "$meta")
@@ -114,7 +120,7 @@ while IFS='|' read -r does one two three four five <&4; do
   case $does in
     story)
       story=$one
-      fresh
+      if test -n "$two"; then wide "$two"; else fresh; fi
       ;;
     run)
       printf '%b' "$two" >lines
@@ -175,6 +181,19 @@ check 'what is dirty before' "$("$meta" check "$table" | cut -d' ' -f1,3-)" 'ok 
 check 'what was written home' "$("$meta" writeback 'cache m.img c.img o.img 64 1 passthrough tinylfu 2 promote_min 3' 2>&1)" 'ok 2'
 check 'the cache is clean then' "$("$meta" check "$table" | cut -d' ' -f1,3-)" 'ok clean 2 0'
 check 'and the origin has it' "$(for at in 0 35840; do tail -c +$((at + 1)) o.img | head -c 512 | od -An -v -tx1 -w1 | sort -u | tr -d ' \n'; done)" 2244
+# The same of metadata of version 2, whose dirty bits stand beside the mapping.
+wide '1 metadata2'
+printf 'w 0 1 11\nr 0 1\nwork\nr 0 1\nflush\nw 0 1 22\nsuspend\n' | "$cache" run "$second" >out.txt
+cp m.img m.kept
+check 'what is dirty in version 2' "$("$meta" check "$second") $("$meta" dump "$second")" 'ok 3 clean 1 1 0 0 dirty 4'
+check 'and what a formatting of it gives up' "$("$cache" format "$second" 2>&1)" 'wbcache: formatting gives up a cache: 1 of 4 cache blocks mapped, 1 dirty
+formatted 4 10'
+cp m.kept m.img
+check 'what was written home there' "$("$meta" writeback "$second" 2>&1) $("$meta" check "$second" | cut -d' ' -f1,3-)" 'ok 1 ok clean 1 0'
+check 'and the origin has it there' "$(head -c 512 o.img | tr -d '\042' | wc -c)" 0
+check 'a table of version 1 over it' "$("$meta" check "$table"; echo $?)" 'refused 12 Mismatch
+1'
+fresh
 check 'nothing is shown to who does not look on' "$("$meta" writeback "$table" 2>&1 >/dev/null)" ''
 check 'and what is no table' "$("$meta" writeback 'cache m.img' 2>/dev/null; echo $?)" 'refused 16 BadTable
 1'
@@ -252,6 +271,13 @@ before=$(cksum c.img o.img)
 for time in once twice; do
   check "formatted $time" "$("$cache" format "$table") $(cmp m.img wanted.img 2>&1)" 'formatted 4 10 '
 done
+filled 2560 245 >m.img
+{
+  printf 'WBCROOT1\0\0\0\0\0\0\0\0\002\0\0\0\001\0\0\0\100\0\0\0\004\0\0\0\012\0\0\0\005\0\0\0\0\0\0\0'
+  filled 980 000
+  filled 1536 245
+} >wanted.img
+check 'formatted in version 2' "$("$cache" format "$second") $(cmp m.img wanted.img 2>&1)" 'formatted 4 10 '
 check 'formatting writes no other file' "$(cksum c.img o.img)" "$before"
 fresh
 for bytes in 0 1024 2047; do
@@ -509,7 +535,7 @@ for words in -h --help 'run --help' 'format -h'; do
   # shellcheck disable=SC2086 # the words are apart
   said=$("$cache" $words 2>&1)
   has "status of $words" "$? $said" '0 '
-  has "$words explains the table" "$said" 'cache <metadata> <cache> <origin> <block size> <mode> <policy> <keys>'
+  has "$words explains the table" "$said" 'cache <metadata> <cache> <origin> <block size> <features> <policy> <keys>'
   has "$words explains the script" "$said" 'w S N hh'
   has "$words tells of signals" "$said" 'a signal ends it at once: what was not flushed may be lost then'
   has "$words tells of locks" "$said" 'are locked as long as it runs'

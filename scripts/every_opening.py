@@ -6,11 +6,13 @@ Behind the mixed run of every_step.py, whole, without its last two tasks and wit
 and then an opening in each mode that is not refused. Before and after each of their steps on a device there is a stop that leaves each sector its
 oldest content, one that leaves each its newest, and one for each other content of each single sector; and each step fails, lost or landed, behind
 which the devices are opened as they are, or there is a stop. Then an opening in write-back has to be answered, each sector has to show what the
-model allows, which is that of every_step.py, and the same once all blocks have left the cache. It prints what failed, how many replays there were,
-and at the end 'N passed, N failed': a check for each way to stop or fail of each task.
+model allows, which is that of every_step.py, and the same once all blocks have left the cache. All of it is done over metadata of either version: in the
+second a suspend writes the dirty bits, where there are any, behind the node of the mapping, and an opening reads them. It prints what failed, how
+many replays there were, and at the end 'N passed, N failed': a check for each way to stop or fail of each task.
 """
 import collections
 import copy
+import itertools
 import multiprocessing
 import os
 import re
@@ -21,15 +23,17 @@ from every_step import BLOCK, DEVICES, RUN, SETUP, WATCHED, Model, Step, whole
 
 RUNS = {"whole run": RUN, "run with a new dirty block": RUN[:-2], "run with a block that is dirty again": RUN + ["w 320 1 55"]}
 MODES = ("writeback", "writethrough", "passthrough")
+SETUPS = {"": SETUP, " in version 2": "setup writeback 64 4 10 5 metadata2"}
+PLACES = (2, 3, 4)
 
 
 class LaterModel(Model):
     """The model with a suspend and an opening behind it."""
 
-    def __init__(self):
+    def __init__(self, has_bits):
         super().__init__()
-        # Where the node of the committed image is, if it has one.
-        self.node = None
+        # Where the node of the committed image is, if it has one, and that of its dirty bits, which version 2 alone has.
+        self.node, self.bits, self.has_bits = None, None, has_bits
 
     def steps(self, task):
         word = task.split()[0]
@@ -43,12 +47,16 @@ class LaterModel(Model):
     def suspending(self):
         yield Step("sync", "c")
         yield Step("sync", "o")
+        free = [place for place in PLACES if place != self.node]
         # The stored entries say that nothing is dirty.
-        if self.changed and self.mapped or self.dirty:
-            self.coming = 3 if self.node == 2 else 2
+        if self.changed and self.mapped or self.dirty and not self.has_bits:
+            self.coming = free.pop(0)
             yield Step("write", "m", self.coming, f"node {self.generation + 1}")
         else:
             self.coming = self.node if self.mapped else None
+        if self.dirty and self.has_bits:
+            self.bits = free.pop(0)
+            yield Step("write", "m", self.bits, f"bits {self.generation + 1}")
         yield Step("sync", "m")
         yield from self.rooting()
 
@@ -57,8 +65,9 @@ class LaterModel(Model):
             yield Step("sync", device)
         yield Step("read", "m", 0)
         yield Step("read", "m", 1)
-        if self.node is not None:
-            yield Step("read", "m", self.node)
+        for place in self.node, self.bits:
+            if place is not None:
+                yield Step("read", "m", place)
         yield from self.rooting()
 
     def rooting(self):
@@ -132,8 +141,9 @@ def stopped(model, name, before, printed, task):
 def replays():
     """Each replay: the check that it belongs to, its lines, what is printed before the last opening, which sectors are looked at, and what
     they may show."""
-    for which, run in RUNS.items():
-        model, before, printed = LaterModel(), [SETUP], []
+    for (version, setup), (which, run) in itertools.product(SETUPS.items(), RUNS.items()):
+        which += version
+        model, before, printed = LaterModel(bool(version)), [setup], []
         for task in run:
             printed += model.play(task)
             before += whole(task)

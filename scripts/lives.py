@@ -2,7 +2,7 @@
 
     lives.py WBCACHE [COUNT [SEED [PROCESSES]]]
 
-Each replay has a number, from SEED on, and goes by it alone: several actors read, write, flush, promote, demote, clean, replace and suspend, whole
+Each replay has a number, from SEED on, and goes by it alone: an odd one is over metadata of version 2. Several actors read, write, flush, promote, demote, clean, replace and suspend, whole
 or a few steps at a time; devices fail; power is lost anywhere, within openings and suspends too; and openings follow, after a stop or of a failed
 or suspended target as it is. `wbcache replay` is asked one line at a time, so what comes next may hang on what it answered.
 
@@ -35,9 +35,10 @@ class Replay:
         mode = self.dice.choice(MODES)
         self.is_whole = self.dice.randrange(6) == 0
         self.blocks = self.dice.sample(range(sizes[1]), self.dice.choice((2, 3, 5)))
-        self.machine = Machine(program, f"setup {mode} 64 {sizes[0]} {sizes[1]} {sizes[2]}")
+        # Version 2 has a node for the dirty bits besides, which here are those of one leaf.
+        self.metadata, version = (sizes[2] + 1, " metadata2") if number % 2 else (sizes[2], "")
+        self.machine = Machine(program, f"setup {mode} 64 {sizes[0]} {sizes[1]} {self.metadata}{version}")
         self.model = Model(self.machine, self.counts, mode, sizes[1] * 64)
-        self.metadata = sizes[2]
         self.actors = self.dice.sample(range(1, 64), 5)
         self.fill = 0
         # Where blocks seem to be, as far as answers told: which orders are worth a try.
