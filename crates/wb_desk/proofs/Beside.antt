@@ -7,6 +7,7 @@ use Rattle.std.proofs.lemmas.List.Elements.{All-contains, filter-append}
 use Rattle.std.proofs.Math.ListN.{get_or-map}
 use Rattle.std.proofs.Math.Seq.{take-length}
 use Rattle.std.specs.Option.{option_map}
+use Rattle.wb_types.proofs.Truth.{and_true}
 use Rattle.wb_types.specs.Limits.{dirty_depth_of, dirty_nodes, dirty_node_count, node_count}
 use Rattle.wb_types.specs.declared.entry.Entry.{Entry}
 use Rattle.wb_types.specs.declared.number.Place.{Place}
@@ -25,6 +26,9 @@ use Rattle.wb_dirty.specs.Planning.{IsDirtyPlan, IsPlaceIfNeeded, StandsAt, dirt
 use Rattle.wb_dirty.specs.declared.planning.DirtyPlan.{DirtyPlan}
 use Rattle.wb_dirty.proofs.PlanCounting.{names-few}
 use Rattle.wb_meta.specs.CleanImages.{AreBitsOf, IsImageOf, IsImageWithBits, places_of_bits}
+use Rattle.wb_meta.proofs.BitsPlaces.{alone_places}
+use Rattle.wb_meta.proofs.CleanImaging.{at_by, dropped_get}
+use Rattle.wb_meta.proofs.Imaging.{mapped_at}
 use Rattle.wb_desk.specs.Marks.{AreMarked, OfImaged, bits_beside, bits_in_tree, bits_of_mapped, entries_shown, marked_entries}
 use Rattle.wb_desk.proofs.Marking.{few_nodes, length-marked, origins-marked}
 
@@ -57,15 +61,11 @@ bits-marked hint (b ∷ bits) [] (e ∷ es) = ap (λ (xs : List Bool). false ∷
 bits-marked hint (b ∷ bits) (d ∷ dirty) (None ∷ es) = ap (λ (xs : List Bool). (d && false) ∷ xs) (bits-marked hint bits dirty es)
 bits-marked hint (b ∷ bits) (d ∷ dirty) (Some e ∷ es) = ap (λ (xs : List Bool). (d && true) ∷ xs) (bits-marked hint bits dirty es)
 
-both_true : (a b : Bool) → (a && b) ≡ true → b ≡ true
-both_true true b e = e
-both_true false b e = absurd cc
-
 -- they are of blocks with an entry
 pub are_bits : (dirty : List Bool) (es : List (Option Entry)) → AreBitsOf es (bits_of_mapped dirty es)
 are_bits dirty es = record {
   size = length-bits dirty es;
-  mapped = λ block set. get_or-map is_some es block None ∙ both_true (get_or dirty block false) (is_some (get_or es block None)) (sym (get_or-bits dirty es block) ∙ set);
+  mapped = λ block set. get_or-map is_some es block None ∙ (and_true (get_or dirty block false) (is_some (get_or es block None)) (sym (get_or-bits dirty es block) ∙ set)).1;
 }
 
 -- The first so many bits are so.
@@ -141,11 +141,7 @@ all_pass (x ∷ xs) all = ap (λ (b : Bool). cond b (x ∷ filter (λ (node : Pl
 no_bits_in : (m n : Mapping) (plan : ImagePlan) (tree : Image) → IsImage m n plan tree → filter (λ (node : Place × Node). node.1.dirty) tree.nodes.items ≡ []
 no_bits_in m n plan tree is = none_pass tree.nodes.items (λ node has. All-contains (λ (node : Place × Node). node.1.dirty ≡ false) tree.nodes.items node is.mappings has)
 
--- one of the tree alone has no places of bits
-pub no_bits : (m n : Mapping) (plan : ImagePlan) (image : Image) → IsImage m n plan image → places_of_bits image ≡ []
-no_bits m n plan image is = ap (λ (nodes : List (Place × Node)). map (λ (node : Place × Node). node.0) nodes) (no_bits_in m n plan image is)
-
--- and of one with bits they are those of its marks
+-- the places of bits of one with bits are those of its marks
 bits_in : (bits : List Bool) (m n : Mapping) (plan : ImagePlan) (image : Image) (is : IsImageWithBits bits m n plan image)
     → places_of_bits image ≡ map (λ (node : Place × Node). node.0) is.marks.nodes.items
 bits_in bits m n plan image is = ap (λ (nodes : List (Place × Node)). map (λ (node : Place × Node). node.0) nodes) (
@@ -169,7 +165,7 @@ has_behind None m n plan image is = record {
   is = is;
   behind = [];
   nodes = sym (append-nil image.nodes.items);
-  places = no_bits m n plan image is;
+  places = alone_places m n plan image is;
 }
 has_behind (Some bits) m n plan image is = record {
   tree = is.tree;
@@ -187,8 +183,8 @@ alone_as Two es m n plan image is = is
 
 pub few_bits : (version : Version) (clean : Option (List Bool)) (es : List (Option Entry)) (m n : Mapping) (plan : ImagePlan) (image : Image) (blocks : ℕ) → IsImageOf (bits_beside version clean es) m n plan image → length n.entries ≡ blocks
     → length (places_of_bits image) ≤ (if is_some clean then dirty_nodes version blocks else 0)
-few_bits One clean es m n plan image blocks is size = omega (arith, ap (λ (ps : List Place). length ps) (no_bits m n plan image is))
-few_bits Two None es m n plan image blocks is size = omega (arith, ap (λ (ps : List Place). length ps) (no_bits m n plan image is))
+few_bits One clean es m n plan image blocks is size = omega (arith, ap (λ (ps : List Place). length ps) (alone_places m n plan image is))
+few_bits Two None es m n plan image blocks is size = omega (arith, ap (λ (ps : List Place). length ps) (alone_places m n plan image is))
 few_bits Two (Some dirty) es m n plan image blocks is size = omega (
   arith,
   ap (λ (ps : List Place). length ps) (bits_in (bits_of_mapped dirty es) m n plan image is),
@@ -219,31 +215,21 @@ few_at_most version false blocks = omega arith
 
 -- ---- where they stand
 
-there_at : {X : Type 0} (xs : List X) (k : ℕ) (x : X) → k < length xs → get_or xs k x ≡ x → slice_get xs k ≡ Some x
-there_at [] k x inside e = absurd (omega (arith, inside))
-there_at (y ∷ xs) zero x inside e = ap (λ z. Some z) e
-there_at (y ∷ xs) (suc k) x inside e = there_at xs k x (omega (arith, inside)) e
-
 taken_there : {X : Type 0} (n : ℕ) (xs : List X) (k : ℕ) (x : X) → slice_get (take n xs) k ≡ Some x → slice_get xs k ≡ Some x
 taken_there zero xs k x e = absurd cc
 taken_there (suc n) [] k x e = absurd cc
 taken_there (suc n) (y ∷ xs) zero x e = e
 taken_there (suc n) (y ∷ xs) (suc k) x e = taken_there n xs k x e
 
-dropped_there : {X : Type 0} (n : ℕ) (xs : List X) (k : ℕ) (x : X) → slice_get (drop n xs) k ≡ Some x → slice_get xs (n + k) ≡ Some x
-dropped_there zero xs k x e = ap (λ i. slice_get xs i) (let same : 0 + k ≡ k = omega arith in same) ∙ e
-dropped_there (suc n) [] k x e = absurd cc
-dropped_there (suc n) (y ∷ xs) k x e = ap (λ i. slice_get (y ∷ xs) i) (let same : suc n + k ≡ suc (n + k) = omega arith in same) ∙ dropped_there n xs k x e
-
 -- no node of the tree stands where one of the bits does
 pub bits_apart : (bits : Option (List Bool)) (m n : Mapping) (plan : ImagePlan) (image : Image) → AreFree m plan.geometry plan.free → IsImageOf bits m n plan image
     → (p : Place) → IsPlaceOf n p → Contains (places_of_bits image) p → ⊥
-bits_apart None m n plan image free is p stands has = let inside = has.1 in absurd (omega (arith, inside, ap (λ (ps : List Place). length ps) (no_bits m n plan image is)))
+bits_apart None m n plan image free is p stands has = let inside = has.1 in absurd (omega (arith, inside, ap (λ (ps : List Place). length ps) (alone_places m n plan image is)))
 bits_apart (Some bits) m n plan image free is p stands has = elim (is.tree_is.comes p stands) [
   | inl was ↦ free.unused (length is.tree.nodes.items + here.0) p taken was
   | inr new ↦
       let front : slice_get plan.free new.0 ≡ Some p = taken_there (length is.tree.nodes.items) plan.free new.0 p
-      (ap (λ (ps : List Place). slice_get ps new.0) (sym is.tree_is.places_are) ∙ there_at (map (λ (node : Place × Node). node.0) is.tree.nodes.items) new.0 p new.1 new.2) in
+      (ap (λ (ps : List Place). slice_get ps new.0) (sym is.tree_is.places_are) ∙ at_by (map (λ (node : Place × Node). node.0) is.tree.nodes.items) new.0 p new.1 new.2) in
       let same = free.apart (length is.tree.nodes.items + here.0) new.0 p taken front in
       let inside = new.1 in
       omega (arith, same, inside, length-map is.tree.nodes.items (λ (node : Place × Node). node.0))
@@ -253,8 +239,8 @@ bits_apart (Some bits) m n plan image free is p stands has = elim (is.tree_is.co
     here = subst (λ (ps : List Place). Contains ps p) (bits_in bits m n plan image is) has
 
     taken : slice_get plan.free (length is.tree.nodes.items + here.0) ≡ Some p
-    taken = dropped_there (length is.tree.nodes.items) plan.free here.0 p (taken_there (length is.marks.nodes.items) (drop (length is.tree.nodes.items) plan.free) here.0 p
-        (ap (λ (ps : List Place). slice_get ps here.0) (sym is.marks_are.planned.places) ∙ there_at (map (λ (node : Place × Node). node.0) is.marks.nodes.items) here.0 p here.1 here.2))
+    taken = dropped_get (length is.tree.nodes.items) plan.free here.0 p (taken_there (length is.marks.nodes.items) (drop (length is.tree.nodes.items) plan.free) here.0 p
+        (ap (λ (ps : List Place). slice_get ps here.0) (sym is.marks_are.planned.places) ∙ at_by (map (λ (node : Place × Node). node.0) is.marks.nodes.items) here.0 p here.1 here.2))
 
 -- ---- what an image with bits is made of
 
@@ -266,19 +252,14 @@ pub behind_free : {X : Type 0} (n : ℕ) (free : List X) → take (length free -
 behind_free n free = ap (λ k. take k (drop n free)) (sym (length-drop n free)) ∙ take-length (drop n free)
 
 pub free_behind : {X : Type 0} (k n : ℕ) (free : List X) (i : ℕ) (x : X) → slice_get (take k (drop n free)) i ≡ Some x → slice_get free (n + i) ≡ Some x
-free_behind k n free i x e = dropped_there n free i x (taken_there k (drop n free) i x e)
-
-mapped_there : {X Y : Type 0} (f : X → Y) (xs : List X) (k : ℕ) (x : X) → slice_get xs k ≡ Some x → slice_get (map f xs) k ≡ Some (f x)
-mapped_there f [] k x e = absurd cc
-mapped_there f (y ∷ xs) zero x e = ap (λ (o : Option _). option_map f o) e
-mapped_there f (y ∷ xs) (suc k) x e = mapped_there f xs k x e
+free_behind k n free i x e = dropped_get n free i x (taken_there k (drop n free) i x e)
 
 -- the top of the bits takes a free place
 pub top_free : (bits : List Bool) (generation : ℕ) (free : List Place) (marks : DirtyPlan) (place : Place) → IsDirtyPlan bits generation free marks → marks.top ≡ Some place → (i : ℕ) × (slice_get free i ≡ Some place)
 top_free bits generation free marks place is top = (
   at.0,
   taken_there (length marks.nodes.items) free at.0 place
-      (ap (λ (ps : List Place). slice_get ps at.0) (sym is.planned.places) ∙ mapped_there (λ (node : Place × Node). node.0) marks.nodes.items at.0 (place, stands.node) (there_at marks.nodes.items at.0 (place, stands.node) at.1 at.2)),
+      (ap (λ (ps : List Place). slice_get ps at.0) (sym is.planned.places) ∙ mapped_at (λ (node : Place × Node). node.0) marks.nodes.items at.0 (place, stands.node) (at_by marks.nodes.items at.0 (place, stands.node) at.1 at.2)),
 )
   where
     stands : StandsAt marks.nodes.items (dirty_depth_of (length bits)) 0 place

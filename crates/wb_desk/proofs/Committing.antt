@@ -36,12 +36,13 @@ use Rattle.wb_meta.specs.CleanImages.{IsImageOf, places_of_bits}
 use Rattle.wb_meta.specs.Imaging.{AreUnusedFor}
 use Rattle.wb_meta.specs.Laws.{ImageHasPlaces}
 use Rattle.wb_meta.proofs.Round.{free_of_unused}
+use Rattle.wb_meta.proofs.BitsPlaces.{alone_places}
 use Rattle.wb_desk.specs.InUse.{AreFlagged, places_for, places_wanted}
 use Rattle.wb_desk.specs.Desks.{DeskState, DeskInvariant, IsRight, NamesWhatIs, Names, holdings, is_mapped}
 use Rattle.wb_desk.specs.Fields.{IsIndex, AreParts, newest_places}
 use Rattle.wb_desk.specs.Marks.{OfImaged, bits_beside}
 use Rattle.wb_desk.proofs.Marking.{by_imaged, of_imaged, same_some, same_count}
-use Rattle.wb_desk.proofs.Beside.{ImageFacts, alone_as, few_image, has_behind, image_facts, image_shows, no_bits}
+use Rattle.wb_desk.proofs.Beside.{ImageFacts, alone_as, few_image, has_behind, image_facts, image_shows}
 use Rattle.wb_desk.proofs.Keeping.{keeps_entries, keeps_tree}
 use Rattle.wb_desk.specs.Commits.{HasBegun, MayBegin, IsOnUnused, beside, next_plan, places_with, space_begun, commit_begun, commit_ended}
 use Rattle.wb_desk.proofs.Acts.{kept_begun, kept_ended}
@@ -378,7 +379,7 @@ module _ {P : Type 0} (knows : P → Holdings → Type 0) where
     pub coming : count ≡ length (places_with tree image)
 
   alone_with : (d : DeskState P) (tree : Mapping) (plan : ImagePlan) (image : Image) → IsImage d.tree tree plan image → places_with tree image ≡ used_places tree
-  alone_with d tree plan image is = ap (λ (ps : List Place). used_places tree ++ ps) (no_bits d.tree tree plan image is) ∙ append-nil (used_places tree)
+  alone_with d tree plan image is = ap (λ (ps : List Place). used_places tree ++ ps) (alone_places d.tree tree plan image is) ∙ append-nil (used_places tree)
 
   -- where its places are listed, and where they are not
   pub have_begun : (d : DeskState P) (tree : Mapping) (plan : Mapping → ImagePlan) (image : Image) (left after : List Bool) (hint : ℕ → ℕ) (clean : Option (List Bool)) (used : Option (Vec Place Global)) (new : Spaces) (coming : ℕ)
@@ -396,7 +397,7 @@ module _ {P : Type 0} (knows : P → Holdings → Type 0) where
       record {
         space = changed ∙ ap (space_begun d.space) (begun_running d tree (plan d.tree) image left i idle have is ∙ ap (λ (ps : List Place). noted ps (unused (place_count d.geometry))) (sym same));
         left = none ∙ ap unused (left_size d.tree d.space left idle have ∙ length_flags d.geometry d.nodes d.space.places.committed i.places.committed)
-            ∙ ap (λ (ps : List Place). noted ps (unused (place_count d.geometry))) (sym (no_bits d.tree tree (plan d.tree) image is));
+            ∙ ap (λ (ps : List Place). noted ps (unused (place_count d.geometry))) (sym (alone_places d.tree tree (plan d.tree) image is));
         coming = known ∙ sym (length-map tree.known (λ node. node.place)) ∙ ap (λ (ps : List Place). length ps) (sym same);
       }
   have_begun d tree plan image left after hint (Some dirty) None new coming i idle have so marked are listed changed none bits many known = absurd cc

@@ -12,7 +12,8 @@ use Rattle.wb_tree.specs.declared.placed.PlacedNode.{PlacedNode}
 use Rattle.wb_tree.specs.Mapping.{Mapping, IsMapping, IsSound, place_in}
 use Rattle.wb_policy.specs.Law.{Holdings, origins, IsMapping as IsPolicyMapping}
 use Rattle.wb_meta.specs.Reads.{FitsDevice}
-use Rattle.wb_desk.proofs.Keeping.{empty_keeps, keeps_tree}
+use Rattle.wb_tree.proofs.Images.PlanSteps.{kept_nones}
+use Rattle.wb_desk.proofs.Keeping.{keeps_tree}
 
 pub none_there : (known : List PlacedNode) → known ≡ [] → (level index : ℕ) (p : Place) → place_in known level index ≡ Some p → ⊥
 none_there [] e level index p k = absurd cc
@@ -47,7 +48,7 @@ no_entry root tree empty unknown sound = record {
   known_used = λ p at. absurd (none_there tree.known unknown at.level at.index p at.known);
   used_are = record { from = tt; to = tt; apart = tt };
   used_few = omega arith;
-  keeps = keeps_tree root.geometry.version tree (ap (λ (es : List (Option Entry)). map (kept root.geometry.version) es) empty ∙ empty_keeps root.geometry.version root.geometry.cache_blocks ∙ sym empty);
+  keeps = keeps_tree root.geometry.version tree (ap (λ (es : List (Option Entry)). map (kept root.geometry.version) es) empty ∙ kept_nones root.geometry.version root.geometry.cache_blocks ∙ sym empty);
 }
 
 none_stands : (n at block : ℕ) → slice_get (origins (replicate n None)) at ≡ Some (Some block) → ⊥

@@ -1,5 +1,5 @@
 -- Trees of whose entries the words of a version say all.
-use Rattle.std.proofs.Common.{◌≡◌, ℕ, zero, suc, Bool, false, List, ◌∷◌, Option, Some, None, map, set, replicate, refl, sym, ap, ◌∙◌}
+use Rattle.std.proofs.Common.{◌≡◌, ℕ, Bool, false, List, Option, Some, map, set, refl, sym, ap, ◌∙◌}
 use Rattle.std.proofs.lemmas.List.{map-set}
 use Rattle.wb_types.specs.declared.entry.Entry.{Entry}
 use Rattle.wb_types.specs.declared.version.Version.{Version}
@@ -14,11 +14,6 @@ keeps_entries version m e = ap (λ (k : Mapping). k.entries) e
 pub keeps_tree : (version : Version) (m : Mapping) → map (kept version) m.entries ≡ m.entries → kept_tree version m ≡ m
 keeps_tree version m e = ap (λ (es : List (Option Entry)). record { entries = es; known = m.known }) e
 
--- another tree of the same entries
-pub same_keeps : (version : Version) (old new : Mapping) → new.entries ≡ old.entries → kept_tree version old ≡ old → kept_tree version new ≡ new
-same_keeps version old new same keeps =
-    keeps_tree version new (ap (λ (es : List (Option Entry)). map (kept version) es) same ∙ keeps_entries version old keeps ∙ sym same)
-
 -- one entry changed
 pub set_keeps : (version : Version) (old new : Mapping) (c : ℕ) (entry : Option Entry) → kept version entry ≡ entry → new.entries ≡ set old.entries c entry → kept_tree version old ≡ old
     → kept_tree version new ≡ new
@@ -32,11 +27,3 @@ set_keeps version old new c entry clean is keeps = keeps_tree version new
 pub clean_kept : (version : Version) (entry : Entry) → entry.dirty ≡ false → kept version (Some entry) ≡ Some entry
 clean_kept One entry clean = refl
 clean_kept Two entry clean = ap (λ (bit : Bool). Some (record entry { dirty = bit })) (sym clean)
-
-pub none_kept : (version : Version) → kept version None ≡ None
-none_kept One = refl
-none_kept Two = refl
-
-pub empty_keeps : (version : Version) (n : ℕ) → map (kept version) (replicate n None) ≡ replicate n None
-empty_keeps version zero = refl
-empty_keeps version (suc n) = ap (λ (e : Option Entry). e ∷ map (kept version) (replicate n None)) (none_kept version) ∙ ap (λ (es : List (Option Entry)). None ∷ es) (empty_keeps version n)

@@ -27,7 +27,8 @@ use Rattle.wb_desk.specs.Fields.{IsIndex, AreParts, newest_places}
 use Rattle.wb_desk.specs.Entries.{MayUnmap, IsRemoved, Removes, keeps, is_replacement, orders_past, orders_left, unmapped}
 use Rattle.wb_tree.specs.Edits.{IsChangedAt}
 use Rattle.wb_desk.proofs.Index.{entry_for, mapped_once, same_cache}
-use Rattle.wb_desk.proofs.Keeping.{none_kept, set_keeps}
+use Rattle.wb_tree.proofs.Images.PlanSteps.{kept_none}
+use Rattle.wb_desk.proofs.Keeping.{set_keeps}
 use Rattle.wb_desk.proofs.Kept.{Each, length_unmarked}
 use Rattle.wb_desk.proofs.Entering.{one_entry_changes, mapped_elsewhere, set_origin, set_there, places_edited, left_above}
 use Rattle.wb_types.proofs.Lists.{slice_get-set}
@@ -214,7 +215,7 @@ module _ {P : Type 0} (knows : P → Holdings → Type 0) where
   unmapped_kept d b c tree policy i at removed changed known = record {
     mapping = subst (λ (x : List (Option Entry)). IsMapping d.geometry.cache_blocks d.geometry.origin_blocks x) (sym changed.entries)
         (clear-mapping d.geometry.cache_blocks d.geometry.origin_blocks c.0 d.tree.entries i.mapping);
-    keeps = set_keeps d.geometry.version d.tree tree c.0 None (none_kept d.geometry.version) changed.entries i.keeps;
+    keeps = set_keeps d.geometry.version d.tree tree c.0 None (kept_none d.geometry.version) changed.entries i.keeps;
     blocks = length-set d.space.blocks c.0 quarantined ∙ i.blocks;
     slots = ap (λ (x : List (Option LiveOrder)). length x) (slots_left d.orders c) ∙ length-set d.orders.slots c.0 (slot_left (order_at d.orders.slots c.0)) ∙ i.slots;
     busy = busy_left d.orders c ∙ i.busy;

@@ -98,6 +98,7 @@ impl<A: Allocator + Clone> ImageLoader<A> {
         ensures read { (nodes : Nodes) → image_outcome self nodes ≡ Ok self.found }
         ensures read_mapping { (nodes : Nodes) → mapping_outcome self nodes ≡ Ok (mapping_found self.part) }
         ensures reached { self.found.reached ≡ (mapping_found self.part).reached ++ bits_reached self.part }
+        ensures alone { self.root.top_dirty ≡ None → bits_reached self.part ≡ [] }
         ensures entries { IfOk result (λ loaded. with_bits loaded.1 loaded.0.entries ≡ self.found.entries) }
         ensures mapping_entries { IfOk result (λ loaded. loaded.0.entries ≡ (mapping_found self.part).entries) }
         ensures bits { IfOk result (λ loaded. is_some loaded.1 ≡ is_some self.root.top_dirty) }

@@ -11,6 +11,7 @@ use Rattle.wb_format.specs.Bytes.{HasWords}
 use Rattle.wb_format.specs.Sizes.{IsTop, MayNameDirty, SpellsGeometry, top_number}
 use Rattle.wb_format.specs.NodeWords.{IsNodeWord}
 use Rattle.wb_types.specs.Versions.{version_number}
+use Rattle.wb_types.proofs.Versions.{one_version}
 use Rattle.wb_format.specs.Letters.{node_magic}
 use Rattle.wb_format.specs.Layout.{SpellsRoot, SpellsNode}
 use Rattle.wb_format.specs.declared.root.Root.{Root}
@@ -24,13 +25,6 @@ same_made {A} {B} P make one x y e h =
     subst (λ z. (k : P z) → make x h ≡ make z k) e (λ k. ap (make x) (one x h k))
 
 -- ---- geometries
-
--- versions have numbers of their own
-pub one_version : (a b : Version) → version_number a ≡ version_number b → a ≡ b
-one_version One One e = refl
-one_version One Two e = absurd (omega arith)
-one_version Two One e = absurd (omega arith)
-one_version Two Two e = refl
 
 record Sizes : Type 0 where
   block : ℕ

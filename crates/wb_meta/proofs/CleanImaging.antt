@@ -71,7 +71,7 @@ both_get (y ∷ xs) ys (suc i) x h = elim (both_get xs ys i x h) [
   | inr last ↦ inr (record { number = last.number; is = (let e = last.is in omega arith); there = last.there })
 ]
 
-dropped_get : {X : Type 0} (n : ℕ) (xs : List X) (k : ℕ) (x : X) → slice_get (drop n xs) k ≡ Some x → slice_get xs (n + k) ≡ Some x
+pub dropped_get : {X : Type 0} (n : ℕ) (xs : List X) (k : ℕ) (x : X) → slice_get (drop n xs) k ≡ Some x → slice_get xs (n + k) ≡ Some x
 dropped_get zero xs k x h = ap (λ i. slice_get xs i) (let e : 0 + k ≡ k = omega arith in e) ∙ h
 dropped_get (suc n) [] k x h = absurd cc
 dropped_get (suc n) (y ∷ xs) k x h =
@@ -84,7 +84,7 @@ record IsAt {X : Type 0} (xs : List X) (x : X) : Type 0 where
   pub inside : number < length xs
   pub there : slice_get xs number ≡ Some x
 
-at_by : {X : Type 0} (xs : List X) (k : ℕ) (x : X) → k < length xs → get_or xs k x ≡ x → slice_get xs k ≡ Some x
+pub at_by : {X : Type 0} (xs : List X) (k : ℕ) (x : X) → k < length xs → get_or xs k x ≡ x → slice_get xs k ≡ Some x
 at_by [] k x inside e = absurd (omega arith)
 at_by (y ∷ xs) zero x inside e = ap (λ z. Some z) e
 at_by (y ∷ xs) (suc k) x inside e = at_by xs k x (omega arith) e
@@ -92,7 +92,7 @@ at_by (y ∷ xs) (suc k) x inside e = at_by xs k x (omega arith) e
 contained_at : {X : Type 0} (xs : List X) (x : X) → Contains xs x → IsAt xs x
 contained_at xs x has = record { number = has.0; inside = has.1; there = at_by xs has.0 x has.1 has.2 }
 
-there_contained : {X : Type 0} (xs : List X) (k : ℕ) (x : X) → slice_get xs k ≡ Some x → Contains xs x
+pub there_contained : {X : Type 0} (xs : List X) (k : ℕ) (x : X) → slice_get xs k ≡ Some x → Contains xs x
 there_contained xs k x h = (k, slice_get_within xs k x h, get_or_from_slice_get xs k x x h)
 
 -- ---- places

@@ -16,32 +16,34 @@ use Rattle.wb_meta.specs.Reads.{FitsDevice}
 use Rattle.wb_meta.specs.States.{RepresentsState, SpeaksOfSectors, IsRefusedBy}
 use Rattle.wb_meta.proofs.OneReading.{one_tree, not_refused}
 use Rattle.wb_meta.proofs.Round.{stored_read}
+use Rattle.wb_meta.proofs.Sizes.{own_sizes}
+use Rattle.wb_meta.specs.Sizes.{AreSameSizes}
 use Rattle.wb_meta.specs.Roots.{Are, MayBeReadAs, IsSettled}
 use Rattle.wb_meta.specs.RootLaws.{IsDecided}
 
 pub stored_is_read : (m : Mapping) (device : List History) (state : Stored) (used : List Place) → DeviceStores m device state used
     → MayBeReadAs state.root.geometry state None device
-stored_is_read m device state used stores = record { size = stores.size; same_geometry = refl; later_geometry = tt; represents = stores.represents }
+stored_is_read m device state used stores = record { size = stores.size; sizes = own_sizes state.root.geometry; later_sizes = tt; represents = stores.represents }
 
 -- one of which a crash leaves what reads give alone is read as that
-as_one : (geometry : Geometry) (state : Stored) (device : List History) → length device ≡ geometry.meta_sectors → state.root.geometry ≡ geometry
+as_one : (geometry : Geometry) (state : Stored) (device : List History) → length device ≡ geometry.meta_sectors → AreSameSizes state.root.geometry geometry
     → IsSettled device → Are state (map newest device) → MayBeReadAs geometry state None device
 as_one geometry state device size same settled are = record {
   size = size;
-  same_geometry = same;
-  later_geometry = tt;
+  sizes = same;
+  later_sizes = tt;
   represents = λ sectors left. subst (Are state) (sym (settled sectors left)) are;
 }
 
 decided : (geometry : Geometry) (committed : Stored) (later : Option Stored) (device new : List History) → MayBeReadAs geometry committed later device
     → length new ≡ length device → IsSettled new → MayLeave device (map newest new) → IsDecided geometry committed later new
 decided geometry committed None device new may size settled left =
-    (settled, inl (as_one geometry committed new (size ∙ may.size) may.same_geometry settled (may.represents (map newest new) left)))
+    (settled, inl (as_one geometry committed new (size ∙ may.size) may.sizes settled (may.represents (map newest new) left)))
 decided geometry committed (Some later) device new may size settled left = (
   settled,
   elim (may.represents (map newest new) left) [
-    | inl old ↦ inl (as_one geometry committed new (size ∙ may.size) may.same_geometry settled old)
-    | inr now ↦ inr (later, refl, as_one geometry later new (size ∙ may.size) may.later_geometry settled now)
+    | inl old ↦ inl (as_one geometry committed new (size ∙ may.size) may.sizes settled old)
+    | inr now ↦ inr (later, refl, as_one geometry later new (size ∙ may.size) may.later_sizes settled now)
   ],
 )
 
@@ -61,8 +63,8 @@ pub failed_sync_leaves : (geometry : Geometry) (committed : Stored) (later : Opt
     → MayBeReadAs geometry committed later device → PartlySynced device new → MayBeReadAs geometry committed later new
 failed_sync_leaves geometry committed later device new may partly = record {
   size = partly.size ∙ may.size;
-  same_geometry = may.same_geometry;
-  later_geometry = may.later_geometry;
+  sizes = may.sizes;
+  later_sizes = may.later_sizes;
   represents = λ sectors left. may.represents sectors (left-partly device new sectors partly left);
 }
 
@@ -85,4 +87,4 @@ pub nothing_is_refused : (geometry : Geometry) (committed : Stored) (device : Li
     → SpeaksOfSectors refusal → ¬ IsRefusedBy (map newest device) refusal
 nothing_is_refused geometry committed device refusal may speaks =
     not_refused (map newest device) committed.root committed.found refusal (may.represents (map newest device) (read-left device))
-    (ap (λ (g : Geometry). g.meta_sectors) may.same_geometry ∙ sym (length-map device newest ∙ may.size)) speaks
+    (may.sizes.meta_sectors ∙ sym (length-map device newest ∙ may.size)) speaks

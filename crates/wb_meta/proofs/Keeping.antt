@@ -1,5 +1,5 @@
 -- The words of a version say all of the entries that are read of its nodes.
-use Rattle.std.proofs.Common.{◌≡◌, ◌+◌, ◌*◌, ◌/◌, ◌%◌, ◌^◌, ◌==◌, ◌∙◌, sym, ap, subst, refl, ℕ, zero, suc, Bool, true, false, List, ◌∷◌, Option, Some, None, Ok, Err, map, replicate}
+use Rattle.std.proofs.Common.{◌≡◌, ◌+◌, ◌*◌, ◌/◌, ◌%◌, ◌^◌, ◌==◌, ◌∙◌, sym, ap, subst, refl, ℕ, zero, suc, Bool, true, false, List, Option, Some, None, Ok, Err, map}
 use Rattle.std.specs.Prelude.{slice_index, slice_set, if◌then◌else◌}
 use Rattle.std.proofs.lemmas.List.{map-set}
 use Rattle.wb_types.specs.Limits.{depth_of}
@@ -12,6 +12,7 @@ use Rattle.wb_format.specs.declared.root.Root.{Root}
 use Rattle.wb_format.specs.Layout.{IsOfVersion}
 use Rattle.wb_format.specs.NodeWords.{kept}
 use Rattle.wb_tree.specs.Reading.{Found, ReadOutcome, Nodes, ◌then◌, each_step, entry_in, entry_read, may_map, child_read, names_child, is_node_of, reached_at, words_read, node_read, nothing_found, top_read, tree_read}
+use Rattle.wb_tree.proofs.Images.PlanSteps.{kept_nones}
 use Rattle.wb_tree.proofs.Reading.RightNodes.{right_node}
 use Rattle.wb_tree.proofs.Reading.Steps.{then_ok, test_ok}
 
@@ -30,11 +31,6 @@ kept_word Two zero clean = refl
 kept_word Two (suc n) clean =
     let made : Bool → Option Entry = λ dirty. Some (record { origin = record { 0 = suc n / 2 ^ 16 }; dirty = dirty; hint = suc n / 2 ^ 4 % 2 ^ 5 }) in
     ap (λ (bit : ℕ). made (bit == 1)) (sym (clean refl))
-
-none_kept : (version : Version) (count : ℕ) → map (kept version) (replicate count None) ≡ replicate count None
-none_kept version zero = refl
-none_kept One (suc count) = ap (λ (entries : List (Option Entry)). None ∷ entries) (none_kept One count)
-none_kept Two (suc count) = ap (λ (entries : List (Option Entry)). None ∷ entries) (none_kept Two count)
 
 module _ (version : Version) where
   as_before : (found next : Found) → IsKept version found → ◌≡◌ {A = ReadOutcome} (Ok found) (Ok next) → IsKept version next
@@ -88,8 +84,8 @@ module _ (version : Version) where
         (node_keeps (suc level) (32 * index + j) (record { 0 = slice_index node.words j })) found next is e) 32 0) found next is e
 
     top_keeps : (top : Option Place) (found : Found) → top_read root nodes top ≡ Ok found → IsKept version found
-    top_keeps None found e = as_before (nothing_found root) found (none_kept version root.geometry.cache_blocks) e
-    top_keeps (Some place) found e = node_keeps (depth_of root.geometry.cache_blocks) 0 place (nothing_found root) found (none_kept version root.geometry.cache_blocks) e
+    top_keeps None found e = as_before (nothing_found root) found (kept_nones version root.geometry.cache_blocks) e
+    top_keeps (Some place) found e = node_keeps (depth_of root.geometry.cache_blocks) 0 place (nothing_found root) found (kept_nones version root.geometry.cache_blocks) e
 
     -- the entries that are read of nodes of a version are kept by its words
     pub read_kept : (found : Found) → tree_read root nodes ≡ Ok found → map (kept version) found.entries ≡ found.entries

@@ -2,7 +2,6 @@
 use Rattle.std.proofs.Common.{◌≡◌, ◌≤◌, ◌<◌, ◌∙◌, ◌++◌, sym, ap, subst, refl, ℕ, Bool, true, false, List, Option, Some, None, length, map, arith, inl, inr}
 use Rattle.std.specs.Prelude.{Contains}
 use Rattle.std.proofs.lemmas.List.Elements.{Contains-append_cases, Contains-append_left, Contains-append_right}
-use Rattle.wb_types.specs.declared.geometry.Geometry.{Geometry}
 use Rattle.wb_types.specs.declared.number.Place.{Place}
 use Rattle.wb_disk.specs.Device.{Content, History}
 use Rattle.wb_disk.specs.Crashes.{AfterEveryCrash}
@@ -21,6 +20,7 @@ use Rattle.wb_dirty.specs.ImageReading.{dirty_node}
 use Rattle.wb_meta.specs.Imaging.{DeviceStores, Follows, IsAllUsed, IsNextImage, IsPlanned}
 use Rattle.wb_meta.specs.Laws.{Wanted}
 use Rattle.wb_meta.specs.Openings.{IsOpening}
+use Rattle.wb_meta.proofs.Sizes.{own_sizes, alike_sizes, following_sizes}
 use Rattle.wb_meta.proofs.Histories.{Grew-none}
 use Rattle.wb_meta.proofs.Crashing.{come_crash, early_crash, failed_crash, done_crash, nodes_crash}
 use Rattle.wb_meta.proofs.Imaging.{may_commit}
@@ -37,7 +37,7 @@ none_wanted : (image : Image) (device : List History) → Newest (FitsNodes imag
 none_wanted image device at h e i node less listed here = absurd (omega (arith, less))
 
 -- nothing was done yet
-begun : (image : Image) (device : List History) → CommitHasCome image device (NodesWritten 0) device
+pub begun : (image : Image) (device : List History) → CommitHasCome image device (NodesWritten 0) device
 begun image device = record { grew = Grew-none (IsNodeHere image.nodes.items) device; nodes = none_wanted image device }
 
 -- what the image's places are of the tree and of its bits
@@ -77,9 +77,9 @@ commit_begins None m n plan image device old used stores planned follows =
     let places = image_places None m n plan image next.free_are planned.image_is in (
       record {
         root_is = refl;
-        same_geometry = planned.image_is.root_geometry ∙ sym follows.same_geometry;
+        sizes = following_sizes old.root.geometry plan.geometry image.root.geometry follows.sizes planned.image_is.root_geometry;
         size = stores.size;
-        places = subst (λ (g : Geometry). HavePlaces image.nodes.items g.meta_sectors) (sym follows.same_geometry) places;
+        places = subst (HavePlaces image.nodes.items) (sym follows.sizes.meta_sectors) places;
         may = may_commit m n plan image device old next;
         stores = λ now size wanted. stored_by m n plan image image (found_of_image None image n) (used_places n ++ places_of_bits image) device now old next planned.image_is.root_geometry refl
             (tree_used m n plan image image device old next) (all_inside m n plan image image device old next places) size wanted;
@@ -93,9 +93,9 @@ commit_begins (Some bits) m n plan image device old used stores planned follows 
     let places = image_places (Some bits) m n plan image next.free_are marked in (
       record {
         root_is = refl;
-        same_geometry = marked.root_geometry ∙ sym follows.same_geometry;
+        sizes = following_sizes old.root.geometry plan.geometry image.root.geometry follows.sizes marked.root_geometry;
         size = stores.size;
-        places = subst (λ (g : Geometry). HavePlaces image.nodes.items g.meta_sectors) (sym follows.same_geometry) places;
+        places = subst (HavePlaces image.nodes.items) (sym follows.sizes.meta_sectors) places;
         may = may_commit_bits bits m n plan image device old marked next;
         stores = λ now size wanted. stored_by m n plan marked.tree image (found_of_image (Some bits) image n) (used_places n ++ places_of_bits image) device now old next marked.root_geometry refl
             (tree_used m n plan marked.tree image device old next) (all_inside m n plan marked.tree image device old next places) size wanted;
@@ -109,7 +109,7 @@ pub opening_begins : (tree : Mapping) (image : Image) (device : List History) (o
 opening_begins tree image device old used stores opening = (
   record {
     root_is = refl;
-    same_geometry = ap (λ (r : Root). r.geometry) opening.root_is;
+    sizes = alike_sizes image.root.geometry old.root.geometry (ap (λ (r : Root). r.geometry) opening.root_is);
     size = stores.size;
     places = opening_places image old.root opening;
     may = opening_may tree image device old used stores opening;
@@ -143,13 +143,13 @@ module _ (c : Commit) (can : CanBeMade c) where
   two : (now : List History) → length now ≡ length c.before → AfterEveryCrash (RepresentsOr c.old (Wanted c.image c.new.found c.tree)) now → MayBeReadAs c.old.root.geometry c.old (Some c.new) now
   two now size after = record {
     size = size ∙ can.size;
-    same_geometry = refl;
-    later_geometry = can.same_geometry;
+    sizes = own_sizes c.old.root.geometry;
+    later_sizes = can.sizes;
     represents = λ sectors left. one_of_two sectors (after sectors left);
   }
 
   one : (now : List History) → length now ≡ length c.before → AfterEveryCrash (λ sectors. Represents sectors c.old.root c.old.found) now → MayBeReadAs c.old.root.geometry c.old None now
-  one now size after = record { size = size ∙ can.size; same_geometry = refl; later_geometry = tt; represents = after }
+  one now size after = record { size = size ∙ can.size; sizes = own_sizes c.old.root.geometry; later_sizes = tt; represents = after }
 
   pub during : (steps : CommitSteps) (now : List History) → CommitHasCome c.image c.before steps now → MayBeReadAs c.old.root.geometry c.old (Some c.new) now
   during steps now come = two now (come_size c.image c.before now steps come)

@@ -1,3 +1,4 @@
+pub mod Sizes
 pub mod Lists
 pub mod Histories
 pub mod Stepping
@@ -22,3 +23,4 @@ pub mod Reading
 pub mod Reopening
 pub mod Leading
 pub mod Deciding
+pub mod Converting

@@ -19,7 +19,7 @@ use Rattle.wb_disk.specs.Crashes.{MayLeave, AfterEveryCrash}
 use Rattle.wb_meta.specs.Formats.{IsFormatted}
 use Rattle.wb_meta.specs.Representing.{Represents, RepresentsAndStores, RepresentsTree, Stored, Whole, alone}
 use Rattle.wb_tree.specs.Edits.{IsEdited}
-use Rattle.wb_meta.specs.Imaging.{DeviceStores, AreUnusedFor, IsNextImage, IsPlanned, Follows}
+use Rattle.wb_meta.specs.Imaging.{DeviceStores, AreUnusedFor, HasUnused, IsNextImage, IsPlanned, Follows}
 use Rattle.wb_meta.specs.Laws.{of_first}
 use Rattle.wb_meta.specs.Reads.{AreApartPlaces, FitsDevice}
 use Rattle.wb_meta.proofs.Counting.{all_contained}
@@ -125,6 +125,16 @@ stored_edited m n device old used stores edited sound = record {
   used_inside = stores.used_inside;
 }
 
+-- more than enough are enough
+pub fewer_unused : (count fewer : ℕ) (geometry : Geometry) (used free : List Place) → fewer ≤ count → HasUnused count geometry used free → HasUnused fewer geometry used free
+fewer_unused count fewer geometry used free less has = record {
+  enough = omega (arith, less, has.enough);
+  behind = has.behind;
+  inside = has.inside;
+  apart = has.apart;
+  unused = has.unused;
+}
+
 -- places that are not used are free for a tree whose places are
 pub free_of_unused : (m : Mapping) (geometry : Geometry) (used free : List Place) → ((place : Place) → IsPlaceOf m place → Contains used place) → AreUnusedFor m geometry used free → AreFree m geometry free
 free_of_unused m geometry used free known unused = record {
@@ -146,12 +156,11 @@ next_by bits m n plan image tree device old used stores planned is follows = rec
   old_sound = stores.sound;
   new_sound = planned.sound;
   inside = planned.inside;
-  free_are = subst (λ (g : Geometry). AreFree m g plan.free) follows.same_geometry
-      (unused_free m device old used plan.free stores (subst (λ (g : Geometry). AreUnusedFor m g used plan.free) (sym follows.same_geometry) planned.free_are));
+  free_are = free_of_unused m plan.geometry used plan.free stores.known_used planned.free_are;
   image_is = is;
   keeps = planned.keeps;
-  size = stores.size ∙ ap (λ (g : Geometry). g.meta_sectors) follows.same_geometry;
-  same_geometry = follows.same_geometry;
+  size = stores.size ∙ follows.sizes.meta_sectors;
+  sizes = follows.sizes;
   next = follows.next;
   represents = stores.represents;
   stores = stores.stores;

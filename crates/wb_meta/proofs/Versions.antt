@@ -12,7 +12,7 @@ use Rattle.wb_format.specs.declared.node.Node.{Node}
 use Rattle.wb_format.specs.declared.root.Root.{Root}
 use Rattle.wb_format.specs.NodeWords.{entry_word, kept}
 use Rattle.wb_format.specs.Layout.{IsOfVersion, SpellsNode}
-use Rattle.wb_format.proofs.Values.{one_version}
+use Rattle.wb_types.proofs.Versions.{one_version}
 use Rattle.wb_tree.specs.Mapping.{Mapping, entry_at}
 use Rattle.wb_tree.proofs.Images.PlanSteps.{kept_at}
 use Rattle.wb_tree.specs.Images.{HasWordsOf, kept_tree, word_at}

@@ -11,6 +11,7 @@ use Rattle.wb_tree.specs.Reading.{is_reached}
 use Rattle.wb_tree.specs.Images.{AreFree, ImagePlan, IsImage, Stores, kept_tree}
 use Rattle.wb_meta.specs.CleanImages.{IsImageOf}
 use Rattle.wb_meta.specs.Representing.{Represents, Stored}
+use Rattle.wb_meta.specs.Sizes.{AreSameSizes}
 
 -- A device represents a root and what is read of its image, and stores what a tree knows, whatever a crash leaves of it; and
 -- these places are used.
@@ -61,8 +62,8 @@ pub record IsNextImage (m n : Mapping) (plan : ImagePlan) (image : Image) (devic
   pub keeps : kept_tree plan.geometry.version n ≡ n
   -- the device has the size of the geometry
   pub size : length device ≡ plan.geometry.meta_sectors
-  -- its root is of this geometry
-  pub same_geometry : old.root.geometry ≡ plan.geometry
+  -- and its root the sizes of it; its version may be another
+  pub sizes : AreSameSizes old.root.geometry plan.geometry
   -- the image's generation comes after the root's
   pub next : plan.generation ≡ old.root.generation + 1
   -- whatever a crash leaves of the device, it represents what was stored before
@@ -86,8 +87,8 @@ pub record IsPlanned (bits : Option (List Bool)) (m n : Mapping) (plan : ImagePl
 abbrev pub IsAllUsed : Stored → List Place → Type 0
 IsAllUsed state used = (place : Place) → is_reached place.0 state.found.reached ≡ true → Contains used place
 
--- It is of the geometry of what was stored before, all of which stands on used places, and of the next generation.
+-- It has the sizes of what was stored before, all of which stands on used places, and is of the next generation. Its version may be another.
 pub record Follows (plan : ImagePlan) (old : Stored) (used : List Place) : Type 0 where
-  pub same_geometry : old.root.geometry ≡ plan.geometry
+  pub sizes : AreSameSizes old.root.geometry plan.geometry
   pub next : plan.generation ≡ old.root.generation + 1
   pub all_used : IsAllUsed old used

@@ -1,3 +1,4 @@
+pub mod Sizes
 pub mod Representing
 pub mod Steps
 pub mod Placing
@@ -12,3 +13,4 @@ pub mod Openings
 pub mod Laws
 pub mod Roots
 pub mod RootLaws
+pub mod Conversions

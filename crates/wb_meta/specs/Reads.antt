@@ -3,6 +3,7 @@ use Rattle.std.specs.Prelude.{◌≡◌, ◌⊎◌, ◌≤◌, ◌<◌, ◌+◌,
 use Rattle.std.specs.List.{AllByRecursion, IsDistinct}
 use Rattle.wb_types.specs.declared.number.Place.{Place}
 use Rattle.wb_types.specs.declared.refusal.Refusal.{Refusal}
+use Rattle.wb_types.specs.declared.version.Version.TheVariants.{One}
 use Rattle.wb_disk.specs.Device.{Content, History, newest}
 use Rattle.wb_format.specs.declared.root.Root.{Root}
 use Rattle.wb_format.specs.declared.node.Node.{Node}
@@ -53,12 +54,15 @@ pub record FitsDevice (sectors : ℕ) (root : Root) (tree : Mapping) (used : Lis
   -- the words of the root's version say all of its entries
   pub keeps : kept_tree root.geometry.version tree ≡ tree
 
--- the steps are those of a device of so many sectors
+-- The steps are those of a device of so many sectors. An image of the first version has no more nodes than its mapping can have, and no dirty
+-- bits beside it.
 abbrev pub AreStepsOn : {A : Type 0} → ℕ → ReadSteps A → Type 0
 AreStepsOn sectors (Begun alloc global) = Unit {0}
 AreStepsOn sectors (FirstSlotRead alloc global first) = Unit {0}
 AreStepsOn sectors (RootFound global root loader nodes) = IsImageOn sectors root loader × IsSome loader.wanted × (nodes ≡ length loader.found.reached)
 AreStepsOn sectors (Done state) = FitsDevice sectors state.root state.tree state.used.items × (2 + state.nodes ≤ sectors)
+    × (state.root.geometry.version ≡ One → state.nodes ≤ node_count state.root.geometry.cache_blocks)
+    × (state.root.geometry.version ≡ One → state.dirty ≡ None)
 
 -- how many steps are left at most on a device of so many sectors
 abbrev pub steps_left : {A : Type 0} → ℕ → ReadSteps A → ℕ

@@ -12,6 +12,7 @@ use Rattle.wb_meta.specs.Representing.{Represents, Stored, alone}
 use Rattle.wb_meta.specs.Placing.{HavePlaces, MayCommit}
 use Rattle.wb_meta.specs.Imaging.{DeviceStores, IsAllUsed}
 use Rattle.wb_meta.specs.Laws.{Wanted}
+use Rattle.wb_meta.specs.Sizes.{AreSameSizes}
 
 -- the sectors represent this state
 abbrev pub Are : Stored → List Content → Type 0
@@ -22,16 +23,16 @@ abbrev pub AreOneOf : Stored → Option Stored → List Content → Type 0
 AreOneOf committed None sectors = Are committed sectors
 AreOneOf committed (Some later) sectors = Are committed sectors ⊎ Are later sectors
 
--- the state, if there is one, is of this geometry
+-- the state, if there is one, has the sizes of this geometry
 abbrev pub StoredIsOf : Geometry → Option Stored → Type 0
 StoredIsOf geometry None = Unit {0}
-StoredIsOf geometry (Some state) = state.root.geometry ≡ geometry
+StoredIsOf geometry (Some state) = AreSameSizes state.root.geometry geometry
 
--- A device of this geometry represents one of them, whatever a crash leaves of it.
+-- A device of the sizes of this geometry represents one of them, whatever a crash leaves of it.
 pub record MayBeReadAs (geometry : Geometry) (committed : Stored) (later : Option Stored) (device : List History) : Type 0 where
   pub size : length device ≡ geometry.meta_sectors
-  pub same_geometry : committed.root.geometry ≡ geometry
-  pub later_geometry : StoredIsOf geometry later
+  pub sizes : AreSameSizes committed.root.geometry geometry
+  pub later_sizes : StoredIsOf geometry later
   pub represents : AfterEveryCrash (AreOneOf committed later) device
 
 -- a crash leaves what reads give, and nothing else
@@ -51,7 +52,7 @@ pub record Commit : Type 0 where
 -- The image may be committed: until it is the device represents the old state, and then it stores the tree by the new one.
 pub record CanBeMade (c : Commit) : Type 0 where
   pub root_is : c.new.root ≡ c.image.root
-  pub same_geometry : c.new.root.geometry ≡ c.old.root.geometry
+  pub sizes : AreSameSizes c.new.root.geometry c.old.root.geometry
   pub size : length c.before ≡ c.old.root.geometry.meta_sectors
   pub places : HavePlaces c.image.nodes.items c.old.root.geometry.meta_sectors
   pub may : MayCommit c.image c.before c.old (Wanted c.image c.new.found c.tree)

@@ -1,10 +1,11 @@
-//! What holds of every crash, at every moment of a commit, of an opening, and of all that is read.
+//! What holds of every crash, at every moment of a commit, of an opening, of a conversion, and of all that is read.
 
 ghost use Rattle.wb_disk.specs.Crashes.{CrashIsLeft, ReadIsLeft, SyncedIsLeft, CrashedIsLeft, SyncedIsRead, PartlySyncedIsRead, PartlySyncedLeavesNoMore};
 ghost use Rattle.wb_meta.specs.Laws.{CommitGoesOn, CommitFails, OldOrWantedDuring, OldOrWantedAfterFailure, OldBeforeRoot, OldAfterFailedNode, WantedWhenDone};
 ghost use Rattle.wb_meta.specs.Laws.{ImageHasPlaces, ImageMayCommit, ImageWithBitsMayCommit, OldOrTreeDuring, OldOrTreeAfterFailure, TreeWhenDone};
 ghost use Rattle.wb_meta.specs.Laws.{FormattedIsFirst, FormattedIsEmpty, FormattedStores, ReadStores, EditedStores, UnusedAreFree, PlannedIsNext, CommittedStores};
 ghost use Rattle.wb_meta.specs.Laws.{OpeningHasPlaces, OpeningMayCommit, OpeningStores};
+ghost use Rattle.wb_meta.specs.Conversions.{BitsComeBack, AnewIsMapping, AnewIsEdited, ConversionBegins, ConversionKeeps};
 ghost use Rattle.wb_meta.specs.Laws.{OneRoot, OneTree, OneState, OneRefusal, StateAlone, FittingAlone, TreeIsNotRefused, OldOrTreeIsRead, OldOrTreeIsNotRefused};
 ghost use Rattle.wb_meta.specs.Laws.{StateIsRepresented, DamageIsRepresented, TreeIsRepresented, OneReading, WholeIsRead};
 
@@ -58,6 +59,16 @@ pub fn opening_law()
     ensures places { OpeningHasPlaces }
     ensures may { OpeningMayCommit }
     ensures stores { OpeningStores }
+{}
+
+/// Metadata of the first version may be written anew in the second, by the commit of an image of every node on places that are not
+/// used: a crash within it leaves the one or the other. With their dirty bits beside them the entries are what they were.
+pub fn conversion_law()
+    ensures bits { BitsComeBack }
+    ensures mapping { AnewIsMapping }
+    ensures edited { AnewIsEdited }
+    ensures begins { ConversionBegins }
+    ensures keeps { ConversionKeeps }
 {}
 
 /// After a sync a crash leaves what reads gave, and they give it again: so what was read then is there after every crash.

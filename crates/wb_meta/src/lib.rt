@@ -21,8 +21,8 @@ pub use clean_image::image_with_bits;
 pub use commit_steps::{CommitStep, CommitSteps, commit};
 pub use formatting::format;
 pub use law::{
-    commit_law, crash_law, cycle_law, formatted_law, image_law, opening_law, reading_law,
-    represents_law, sync_law,
+    commit_law, conversion_law, crash_law, cycle_law, formatted_law, image_law, opening_law,
+    reading_law, represents_law, sync_law,
 };
 pub use opening::opening_image;
 pub use read_steps::{ReadSteps, State, read_state};

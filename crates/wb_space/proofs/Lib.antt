@@ -1,5 +1,6 @@
 pub mod States
 pub mod Noted
+pub mod FreeListed
 pub mod Suffices
 pub mod Held
 pub mod Differing

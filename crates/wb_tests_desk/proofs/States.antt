@@ -8,11 +8,12 @@ use Rattle.wb_format.specs.declared.root.Root.{Root}
 use Rattle.wb_format.specs.NodeWords.{kept}
 use Rattle.wb_tree.specs.Mapping.{Mapping, IsMapping, IsSound, IsPlaceOf}
 use Rattle.wb_tree.specs.Edits.{IsEdited}
+use Rattle.wb_tree.proofs.Images.PlanSteps.{kept_nones}
 use Rattle.wb_tree.proofs.Stored.Edited.{places-edited}
 use Rattle.wb_meta.specs.Reads.{FitsDevice}
 use Rattle.wb_desk.proofs.Index.{one_mapping}
 use Rattle.wb_desk.proofs.Empty.{none_there}
-use Rattle.wb_desk.proofs.Keeping.{clean_kept, empty_keeps, keeps_tree, set_keeps}
+use Rattle.wb_desk.proofs.Keeping.{clean_kept, keeps_tree, set_keeps}
 
 -- a tree of one entry, set in an empty one
 pub one_entry : (root : Root) (old tree : Mapping) (c : ℕ) (e : Entry) → old.entries ≡ replicate root.geometry.cache_blocks None → old.known ≡ []
@@ -29,7 +30,7 @@ one_entry root old tree c e empty unknown is edited sound within hint clean = re
   used_are = record { from = tt; to = tt; apart = tt };
   used_few = omega arith;
   keeps = set_keeps root.geometry.version old tree c (Some e) (clean_kept root.geometry.version e clean) is
-      (keeps_tree root.geometry.version old (ap (λ (xs : List (Option Entry)). map (kept root.geometry.version) xs) empty ∙ empty_keeps root.geometry.version root.geometry.cache_blocks ∙ sym empty));
+      (keeps_tree root.geometry.version old (ap (λ (xs : List (Option Entry)). map (kept root.geometry.version) xs) empty ∙ kept_nones root.geometry.version root.geometry.cache_blocks ∙ sym empty));
 }
   where
     nowhere : (p : Place) → IsPlaceOf tree p → ⊥

@@ -3,3 +3,4 @@ pub mod Counting
 pub mod Levels
 pub mod Lists
 pub mod Truth
+pub mod Versions

@@ -1,5 +1,5 @@
 -- The nodes that are planned, one after the other.
-use Rattle.std.proofs.Common.{◌≡◌, ◌≤◌, ◌<◌, ◌+◌, ◌-◌, ◌*◌, ◌/◌, ◌^◌, ◌&&◌, ◌==◌, ◌∙◌, sym, ap, subst, refl, ℕ, zero, suc, true, false, is_some, List, [], ◌∷◌, ◌++◌, Option, Some, None, map, take, length, get_or, append_assoc, arith, inl, inr}
+use Rattle.std.proofs.Common.{◌≡◌, ◌≤◌, ◌<◌, ◌+◌, ◌-◌, ◌*◌, ◌/◌, ◌^◌, ◌&&◌, ◌==◌, ◌∙◌, sym, ap, subst, refl, ℕ, zero, suc, true, false, is_some, List, [], ◌∷◌, ◌++◌, Option, Some, None, map, replicate, take, length, get_or, append_assoc, arith, inl, inr}
 use Rattle.std.specs.Prelude.{IsSome, slice_get, slice_index_or}
 use Rattle.std.specs.List.{AllByRecursion}
 use Rattle.std.proofs.lemmas.Bool.{cases_Bool}
@@ -275,9 +275,14 @@ names-pushed nodes nodes' new node same more =
 -- ---- the words
 
 -- nothing is kept of no entry
-kept_none : (version : Version) → kept version None ≡ None
+pub kept_none : (version : Version) → kept version None ≡ None
 kept_none One = refl
 kept_none Two = refl
+
+pub kept_nones : (version : Version) (count : ℕ) → map (kept version) (replicate count None) ≡ replicate count None
+kept_nones version zero = refl
+kept_nones One (suc count) = ap (λ (entries : List (Option Entry)). None ∷ entries) (kept_nones One count)
+kept_nones Two (suc count) = ap (λ (entries : List (Option Entry)). None ∷ entries) (kept_nones Two count)
 
 -- what is kept of entries is kept of each
 pub kept_at : (version : Version) (entries : List (Option Entry)) (block : ℕ) → slice_index_or (map (kept version) entries) block None ≡ kept version (slice_index_or entries block None)

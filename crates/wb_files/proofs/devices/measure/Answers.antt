@@ -4,7 +4,7 @@ use Rattle.wb_types.specs.Versions.{version_number}
 use Rattle.wb_types.specs.declared.version.Version.{Version}
 use Rattle.wb_types.specs.declared.geometry.Geometry.{Geometry}
 use Rattle.wb_files.proofs.Blocks.{mod-whole, div-whole, IsWithinLimits-whole}
-use Rattle.wb_files.proofs.Numbers.{one_version}
+use Rattle.wb_types.proofs.Versions.{one_version}
 use Rattle.wb_files.proofs.devices.measure.Goals as goal
 use Rattle.wb_files.proofs.devices.measure.Goals.{then-cache-block-ne0-via-then-cache-block-ne0, then-cache-block-ne0-via-else-cache-block-ne0+then-origin-block-ne0}
 

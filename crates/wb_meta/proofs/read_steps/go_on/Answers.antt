@@ -1,9 +1,12 @@
-use Rattle.std.proofs.Common.{◌≡◌, ◌≤◌, ◌∙◌, List, Ok, ap, sym, subst, length, arith}
+use Rattle.std.proofs.Common.{◌≡◌, ◌≤◌, ◌∙◌, ◌++◌, List, Option, Some, None, is_some, false, refl, Ok, ap, sym, subst, length, arith}
 use Rattle.std.specs.Prelude.{Contains}
-use Rattle.std.proofs.lemmas.List.{length-map}
+use Rattle.std.proofs.lemmas.List.{append-nil, length-map}
 use Rattle.wb_tree.specs.declared.placed.PlacedNode.{PlacedNode}
 use Rattle.wb_meta.proofs.Round.{reached-listed}
+use Rattle.wb_types.specs.Versions.{version_number}
+use Rattle.wb_types.proofs.Versions.{one_version}
 use Rattle.wb_types.specs.declared.number.Place.{Place}
+use Rattle.wb_types.specs.declared.version.Version.TheVariants.{One}
 use Rattle.wb_format.specs.declared.root.Root.{Root}
 use Rattle.wb_tree.specs.Mapping.{IsMapping, AreInside}
 use Rattle.wb_tree.specs.Reading.{tree_read}
@@ -17,7 +20,12 @@ use Rattle.wb_meta.proofs.Counting.{apart_front, slots-apart}
 use Rattle.wb_meta.proofs.ImageFraming.{both_found, both_read, mapping_among}
 use Rattle.wb_meta.proofs.Reading.{read_stores}
 use Rattle.wb_meta.proofs.Telling.{kept_read}
+use Rattle.wb_meta.proofs.Versions.{first_no_bits}
 use Rattle.wb_meta.proofs.read_steps.go_on.Goals as goal
+
+not_there : {X : Type 0} (o : Option X) → is_some o ≡ false → o ≡ None
+not_there None e = refl
+not_there (Some x) e = absurd cc
 
 pub returns-clause-on : goal.returns-clause-on
 returns-clause-on g c sectors on =
@@ -42,6 +50,13 @@ returns-clause-on g c sectors on =
         used_few = omega (arith, loaded.few, length-map mapping.reached (λ (node : PlacedNode). node.place), ap (λ (places : List Place). length places) told.places);
       },
       omega (arith, all, many, c.requires),
+      λ first.
+          let none : l.root.top_dirty ≡ None = ap (λ (r : Root). r.top_dirty) on.root_is ∙ first_no_bits c.args.root (one_version c.args.root.version One (c.args.root.same_version ∙ ap version_number first)) in
+          let alone = ap (λ (nodes : List PlacedNode). length nodes) (told.reached ∙ ap (λ (bits : List PlacedNode). mapping.reached ++ bits) (told.alone none) ∙ append-nil mapping.reached) in
+          omega (arith, alone, loaded.few, c.requires),
+      λ first.
+          let none : l.root.top_dirty ≡ None = ap (λ (r : Root). r.top_dirty) on.root_is ∙ first_no_bits c.args.root (one_version c.args.root.version One (c.args.root.same_version ∙ ap version_number first)) in
+          not_there c.in_ok-tree.dirty (told.bits ∙ ap (λ (top : Option Place). is_some top) none),
     )
 
 pub returns-clause-read : goal.returns-clause-read
