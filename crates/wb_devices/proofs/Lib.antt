@@ -3,6 +3,12 @@ pub mod Going
 pub mod Cleaning
 pub mod Stopping
 pub mod Serving
+pub mod Alike
+pub mod Anew
+pub mod Converted
+pub mod Nodes
+pub mod EndingSteps
+pub mod EndingAnew
 pub mod Ending
 pub mod Reopened
 pub mod BitEntries

@@ -22,5 +22,5 @@ fits_on {sectors} {opening} opened state is =
       used_few = fits.used_few;
       keeps = fits.keeps;
     } in
-    let so : FitsDevice sectors opened.next.image.root opened.state.tree opened.state.used.items = subst (λ (r : Root). FitsDevice sectors r opened.state.tree opened.state.used.items) (sym opened.opens.root_is) again in
+    let so : FitsDevice sectors opened.next.image.root opened.state.tree opened.state.used.items = subst (λ (r : Root). FitsDevice sectors r opened.state.tree opened.state.used.items) (sym opened.opens) again in
     subst (λ (o : Option (State Global)). IfSome o (λ s. FitsDevice sectors s.root s.tree s.used.items)) (sym is) so

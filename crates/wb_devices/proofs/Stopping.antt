@@ -1,5 +1,5 @@
 -- What stops a reading fits its step.
-use Rattle.std.proofs.Common.{◌≡◌, ◌∙◌, ℕ, List, Option, Some, None, refl, subst, inl, inr}
+use Rattle.std.proofs.Common.{◌≡◌, ◌∙◌, ℕ, List, Option, Some, None, refl, sym, subst, inl, inr}
 use Rattle.wb_types.specs.declared.mode.Dev.TheVariants.{Metadata, Cache, Origin}
 use Rattle.wb_types.specs.declared.refusal.Refusal.{Refusal}
 use Rattle.wb_types.specs.declared.refusal.Refusal.TheVariants.{Io, Memory, NotFormatted, Mismatch, Damaged}
@@ -16,8 +16,12 @@ use Rattle.wb_meta.specs.declared.read_steps.ReadSteps.TheVariants.{Begun, First
 use Rattle.wb_tasks.specs.declared.step.Got.TheVariants.{More}
 use Rattle.wb_meta.specs.declared.read_steps.ReadSteps.{ReadSteps}
 use Rattle.wb_devices.specs.declared.running.RunningCommit.{RunningCommit}
-use Rattle.wb_devices.specs.Opened.{HasGeneration, ReadsOf, got_of_refusal}
+use Rattle.wb_devices.specs.Opened.{HasGeneration, IsServed, ReadsOf, got_of_refusal}
 use Rattle.wb_devices.specs.Clean.{DidTell, HasComeIn}
+use Rattle.wb_types.specs.declared.version.Version.{Version}
+use Rattle.wb_types.specs.declared.version.Version.TheVariants.{One, Two}
+use Rattle.wb_meta.specs.Sizes.{AreSameSizes}
+use Rattle.wb_devices.specs.Sizes.{IsServedBy}
 use Rattle.wb_types.specs.declared.mode.Mode.{Mode}
 
 pub fits_reading : (refusal : Refusal) (left : ℕ) → IsOfReading refusal → Fits (Device (ReadMetadata left)) (got_of_refusal refusal)
@@ -30,17 +34,31 @@ fits_reading Mismatch left h = tt
 fits_reading (Damaged place) left h = tt
 fits_reading refusal left h = absurd h
 
--- a reading without a root is of every geometry, and one with a root of its root's
+-- a reading without a root serves every geometry, and one with a root those that its root serves
 pub no_root : {A : Type 0} (geometry : Geometry) (now : ReadSteps A) → None ≡ known_root now → ReadsOf geometry now
 no_root geometry now none root known = absurd (nothing (none ∙ known))
   where
     nothing : None ≡ Some root → ⊥
     nothing e = cc
 
-pub of_root : {A : Type 0} (geometry : Geometry) (now : ReadSteps A) (root : Root) → known_root now ≡ Some root → root.geometry ≡ geometry → ReadsOf geometry now
+pub of_root : {A : Type 0} (geometry : Geometry) (now : ReadSteps A) (root : Root) → known_root now ≡ Some root → AreSameSizes root.geometry geometry → ReadsOf geometry now
 of_root geometry now root known fits other also =
     let same : root ≡ other = cc in
-    subst (λ (r : Root). r.geometry ≡ geometry) same fits
+    subst (λ (r : Root). AreSameSizes r.geometry geometry) same fits
+
+pub of_served : {A : Type 0} (geometry : Geometry) (now : ReadSteps A) (root : Root) → known_root now ≡ Some root → IsServedBy root.geometry geometry → IsServed geometry now
+of_served geometry now root known fits other also =
+    let same : root ≡ other = cc in
+    subst (λ (r : Root). IsServedBy r.geometry geometry) same fits
+
+-- metadata of the sizes that are asked for that serve not are of the first version where the second is
+pub unserved : (found asked : Geometry) → AreSameSizes found asked → ¬ IsServedBy found asked → (found.version ≡ One) × (asked.version ≡ Two)
+unserved found asked sizes not = by found.version refl asked.version refl
+  where
+    by : (v : Version) → found.version ≡ v → (w : Version) → asked.version ≡ w → (found.version ≡ One) × (asked.version ≡ Two)
+    by One e Two f = (e, f)
+    by One e One f = absurd (not (record { sizes = sizes; version = inl (e ∙ sym f) }))
+    by Two e w f = absurd (not (record { sizes = sizes; version = inr e }))
 
 -- of a reading that is done the root is known
 pub not_done : {A : Type 0} (now : ReadSteps A) → None ≡ known_root now → IsDone now → ⊥

@@ -1,5 +1,5 @@
 -- Whether the metadata that an opening read were left clean, and what an opening in passthrough does of it.
-use Rattle.std.specs.Prelude.{◌≡◌, ◌<◌, ◌⊎◌, ℕ, Bool, true, false, List, Option, Some, None, length, slice_index_or}
+use Rattle.std.specs.Prelude.{◌≡◌, ◌<◌, ◌⊎◌, ℕ, true, false, List, Option, Some, None, length, slice_index_or}
 use Rattle.wb_types.specs.declared.entry.Entry.{Entry}
 use Rattle.wb_types.specs.declared.geometry.Geometry.{Geometry}
 use Rattle.wb_types.specs.declared.mode.Mode.{Mode}
@@ -8,7 +8,9 @@ use Rattle.wb_types.specs.declared.refusal.Refusal.{Refusal}
 use Rattle.wb_types.specs.declared.refusal.Refusal.TheVariants.{NotClean}
 use Rattle.wb_disk.specs.Device.{History}
 use Rattle.wb_dirty.specs.ImageReading.{with_bits}
+use Rattle.wb_meta.specs.Conversions.{is_mapped_dirty}
 use Rattle.wb_meta.specs.States.{CountsFault, IsOfReading}
+use Rattle.wb_meta.specs.Sizes.{AreSameSizes}
 use Rattle.wb_meta.specs.Reads.{AreStepsOn, ReadingGoesOn, ReadOneMore, StopsBy, IsDone}
 use Rattle.wb_meta.specs.declared.read_steps.ReadSteps.{ReadSteps}
 use Rattle.wb_meta.specs.declared.read_steps.ReadSteps.TheVariants.{Done as AllRead}
@@ -17,11 +19,6 @@ use Rattle.wb_tasks.specs.declared.step.Got.{Got}
 use Rattle.wb_tasks.specs.declared.step.Got.TheVariants.{Fault, Refused, More}
 use Rattle.wb_devices.specs.Opened.{HasCome, HasGeneration, IsUnfit, got_of_refusal}
 use Rattle.wb_devices.specs.declared.running.RunningCommit.{RunningCommit}
-
--- a cache block is mapped, and its entry is dirty
-abbrev pub is_mapped_dirty : Option Entry → Bool
-is_mapped_dirty (Some entry) = entry.dirty
-is_mapped_dirty None = false
 
 -- the entries that were read, with the dirty bits beside the tree, where they are kept apart
 abbrev pub entries_of : {A : Type 0} → State A → List (Option Entry)
@@ -43,16 +40,16 @@ IsLeftClean state = (state.root.clean ≡ true) × AreAllClean (entries_of state
 abbrev pub IsLeftUnclean : {A : Type 0} → State A → Type 0
 IsLeftUnclean state = (state.root.clean ≡ false) ⊎ HasDirty (entries_of state)
 
--- all was read, of metadata of this geometry, and they were not left clean
+-- all was read, of metadata of the sizes that are asked for, and they were not left clean
 pub record IsUnclean {A : Type 0} (geometry : Geometry) (now : ReadSteps A) : Type 0 where
   pub state : State A
   pub all_read : now ≡ AllRead state
-  pub fits : state.root.geometry ≡ geometry
+  pub fits : AreSameSizes state.root.geometry geometry
   pub unclean : IsLeftUnclean state
 
--- once all is read, of metadata of this geometry, they were left clean
+-- once all is read, of metadata of these sizes, they were left clean
 abbrev pub IsCleanSoFar : {A : Type 0} → Geometry → ReadSteps A → Type 0
-IsCleanSoFar {A} geometry now = (state : State A) → now ≡ AllRead state → state.root.geometry ≡ geometry → IsLeftClean state
+IsCleanSoFar {A} geometry now = (state : State A) → now ≡ AllRead state → AreSameSizes state.root.geometry geometry → IsLeftClean state
 
 -- Why a reading that has come so far is refused in this mode: as in every mode, in passthrough for no want of a next generation
 -- before they are known to be clean; and in passthrough where they are not clean.

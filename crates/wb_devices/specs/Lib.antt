@@ -1,6 +1,8 @@
 pub mod Moving
 pub mod Committing
 pub mod Stepping
+pub mod Sizes
+pub mod Converting
 pub mod Opened
 pub mod Clean
 pub mod Openings

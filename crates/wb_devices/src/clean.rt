@@ -8,11 +8,12 @@ ghost use Rattle.wb_tasks.specs.declared.step.DeviceStep.TheVariants.{ReadMetada
 ghost use Rattle.wb_tasks.specs.declared.step.Got.TheVariants.{More};
 ghost use Rattle.wb_meta.specs.Reads.{AreStepsOn, IsDone};
 ghost use Rattle.wb_devices.specs.Opened.{HasGeneration};
-ghost use Rattle.wb_devices.specs.Clean.{HasComeIn, IsUnclean, IsCleanSoFar, IsLeftClean, IsLeftUnclean, entries_of, is_mapped_dirty};
+ghost use Rattle.wb_devices.specs.Clean.{HasComeIn, IsUnclean, IsCleanSoFar, IsLeftClean, IsLeftUnclean, entries_of};
+ghost use Rattle.wb_meta.specs.Conversions.{is_mapped_dirty};
 ghost use Rattle.wb_dirty.specs.ImageReading.{entry_with};
 
 use crate::opening::Opening;
-use crate::reading::is_same;
+use crate::sizes::are_same_sizes;
 use std::alloc::Global;
 use wb_meta::{ReadSteps, State};
 use wb_tasks::Got;
@@ -38,7 +39,7 @@ impl Opening {
     }
 }
 
-/// Whether all was read, of metadata of this geometry, and they were not left clean.
+/// Whether all was read, of metadata of the sizes that are asked for, and they were not left clean.
 pub(crate) fn is_unclean(steps: &ReadSteps<Global>, geometry: Geometry) -> bool
     requires on { (sectors : ℕ) × AreStepsOn sectors steps.now }
     ensures unclean { OnTrue result (IsUnclean geometry steps.now) }
@@ -47,7 +48,7 @@ pub(crate) fn is_unclean(steps: &ReadSteps<Global>, geometry: Geometry) -> bool
     let ReadSteps::Done(state) = steps else {
         return false;
     };
-    if !is_same(state.root.geometry, geometry) {
+    if !are_same_sizes(state.root.geometry, geometry) {
         return false;
     }
     is_left_unclean(state)
@@ -97,7 +98,7 @@ fn entry_with_bit(entry: Option<Entry>, dirty: bool) -> Option<Entry>
     }
 }
 
-fn is_mapped_dirty(entry: Option<Entry>) -> bool
+pub(crate) fn is_mapped_dirty(entry: Option<Entry>) -> bool
     ensures { result ≡ is_mapped_dirty entry }
 {
     match entry {

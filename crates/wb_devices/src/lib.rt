@@ -5,6 +5,7 @@
 
 mod clean;
 mod committing;
+mod converting;
 mod devices;
 mod finishing;
 mod moving;
@@ -13,6 +14,7 @@ mod opening_stage;
 mod performing;
 mod reading;
 mod running;
+mod sizes;
 
 pub use clean::stored_entry;
 pub use committing::{put, sync_metadata};
@@ -21,3 +23,4 @@ pub use moving::{read_extent, sync, write_extent};
 pub use opening::Opening;
 pub use opening_stage::OpeningStage;
 pub use running::RunningCommit;
+pub use sizes::are_same_sizes;

@@ -8,7 +8,7 @@ use std::alloc::Global;
 use wb_meta::ReadSteps;
 use wb_types::Geometry;
 
-/// An opening over metadata of this geometry: a reading by `ReadSteps`, and then the commit of the next root.
+/// An opening where metadata of this geometry are asked for: a reading by `ReadSteps`, and then the commit of the next root.
 #[derive(Drop)]
 pub struct Opening {
     pub geometry: Geometry,

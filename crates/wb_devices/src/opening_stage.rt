@@ -19,7 +19,7 @@ pub struct OpeningStage<D> {
 }
 
 impl<D: Disk> OpeningStage<D> {
-    /// A stage over devices of which nothing was read, for openings in this mode. The metadata are to be those of this geometry.
+    /// A stage over devices of which nothing was read, for openings in this mode. This geometry is asked for of the metadata.
     pub fn new(
         alloc: Global,
         devices: Devices<D>,

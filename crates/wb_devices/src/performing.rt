@@ -40,12 +40,13 @@ impl<D: Disk> OpeningStage<D> {
         let metadata = &mut self.devices.metadata;
         match step {
             DeviceStep::ReadMetadata(left) => self.opening.read(self.mode, metadata, left),
-            DeviceStep::WriteRoot => put(&mut self.opening.commit, metadata, step),
+            DeviceStep::WriteNode(_) | DeviceStep::WriteRoot => {
+                put(&mut self.opening.commit, metadata, step)
+            }
             DeviceStep::Sync(Dev::Metadata) => sync_metadata(&mut self.opening.commit, metadata),
             DeviceStep::Sync(Dev::Cache) => self.devices.sync(Dev::Cache),
             DeviceStep::Sync(Dev::Origin) => self.devices.sync(Dev::Origin),
-            DeviceStep::Read(_, _) | DeviceStep::Write(_, _) | DeviceStep::WriteNode(_) =>
-                unreachable!(),
+            DeviceStep::Read(_, _) | DeviceStep::Write(_, _) => unreachable!(),
         }
     }
 }

@@ -1,8 +1,7 @@
 //! The steps of an opening that read metadata.
 
-ghost use Rattle.std.specs.Prelude.{◌≡◌, ◌≢◌, ℕ, Some, None, IfSome};
+ghost use Rattle.std.specs.Prelude.{◌≡◌, ℕ, Some, None, IfSome};
 ghost use Rattle.std.specs.declared.alloc.Global.{Global as GlobalValue};
-ghost use Rattle.std.specs.Bool.{OnTrue, OnFalse};
 ghost use Rattle.wb_tasks.specs.Plan.{Fits};
 ghost use Rattle.wb_tasks.specs.declared.step.Want.TheVariants.{Device};
 ghost use Rattle.wb_tasks.specs.declared.step.DeviceStep.TheVariants.{ReadMetadata};
@@ -14,24 +13,30 @@ ghost use Rattle.wb_meta.specs.States.{IsOfReading};
 ghost use Rattle.wb_devices.specs.Openings.{MayGoOn};
 ghost use Rattle.wb_devices.specs.Opened.{HasCome, HasGeneration, ReadsOf, got_of_refusal};
 ghost use Rattle.wb_devices.specs.Clean.{DidOpenIn, DidTell};
+ghost use Rattle.wb_types.specs.declared.version.Version.TheVariants.{One, Two};
+ghost use Rattle.wb_meta.specs.Sizes.{AreSameSizes};
+ghost use Rattle.wb_meta.specs.declared.read_steps.ReadSteps.TheVariants.{Done as AllRead};
 
+use crate::converting::convert;
 use crate::opening::Opening;
 use crate::running::RunningCommit;
+use crate::sizes::{are_same_sizes, is_served_by};
 use std::alloc::Global;
 use wb_disk::Disk;
 use wb_format::Root;
-use wb_meta::ReadSteps;
+use wb_meta::{ReadSteps, State};
 use wb_tasks::Got;
-use wb_types::{Geometry, Mode, Refusal};
+use wb_types::{Mode, Refusal};
 
 impl Opening {
-    /// Reads the metadata sector that comes next, for an opening in this mode; at most so many more may follow. Once both slots
-    /// were read, the root of higher generation is compared with the geometry, and its tree is read; when all was read, the commit
-    /// of the next root is there.
+    /// Reads the metadata sector that comes next, for an opening in this mode; at most so many more may be read or written. Once both slots
+    /// were read, the sizes of the root of higher generation are compared with the geometry's, and its tree is read; when all was read, the
+    /// commit of the next root is there. Where metadata of the first version were read and the second is asked for, that of an image is, and
+    /// its nodes are to be written, so many.
     ///
-    /// In passthrough `NotClean` where all was read and was not left clean. `NotFormatted`, `Mismatch`, `Damaged` and `Memory` as wb_meta says, `Mismatch` also where the newest root is of another
-    /// geometry, `GenerationEnd` where there is no next generation. A fault where the device failed, the opening was over, or no
-    /// further sector was allowed.
+    /// In passthrough `NotClean` where all was read and was not left clean. `NotFormatted`, `Mismatch`, `Damaged` and `Memory` as wb_meta says, `Mismatch` also where
+    /// the newest root is of other sizes, `GenerationEnd` where there is no next generation, `Memory` also where there is none for the image. A
+    /// fault where the device failed, the opening was over, or no further sector was allowed.
     #[tactic(auto, using(crate::proofs::Cleaning::did_open, crate::proofs::Stopping::did_tell, crate::proofs::Stopping::never_stops))]
     pub fn read<D: Disk>(&mut self, mode: Mode, disk: &mut D, left: u32) -> Got
         requires goes_on { MayGoOn (D.size disk.old) self.old }
@@ -58,6 +63,7 @@ impl Opening {
     #[tactic(auto, using(crate::proofs::Stopping::no_root, crate::proofs::Stopping::not_done))]
     pub(crate) fn has_come(&mut self, steps: ReadSteps<Global>, left: u32) -> Got
         requires none { self.old.reading ≡ None }
+        requires on { (sectors : ℕ) × AreStepsOn sectors steps }
         ensures kind { Fits (Device (ReadMetadata left)) result }
         ensures geometry { self.new.geometry ≡ self.old.geometry }
         ensures on { (sectors : ℕ) → AreStepsOn sectors steps → IfSome self.new.reading (AreStepsOn sectors) }
@@ -75,6 +81,7 @@ impl Opening {
     #[tactic(auto, using(crate::proofs::Stopping::of_root))]
     fn has_found(&mut self, steps: ReadSteps<Global>, root: Root, left: u32) -> Got
         requires none { self.old.reading ≡ None }
+        requires on { (sectors : ℕ) × AreStepsOn sectors steps }
         requires newest { known_root steps ≡ Some root }
         ensures kind { Fits (Device (ReadMetadata left)) result }
         ensures geometry { self.new.geometry ≡ self.old.geometry }
@@ -83,13 +90,13 @@ impl Opening {
         ensures generation { HasGeneration self.old.commit → HasGeneration self.new.commit }
         ensures more { result ≡ More → ¬ IsDone steps }
     {
-        if !is_same(root.geometry, self.geometry) {
+        if !are_same_sizes(root.geometry, self.geometry) {
             return Got::Refused(Refusal::Mismatch);
         }
-        if steps.is_done() {
-            return self.has_read(steps, root, left);
+        match steps {
+            ReadSteps::Done(state) => self.has_read(state, left),
+            more => self.goes_on(more, left),
         }
-        self.goes_on(steps, left)
     }
 
     /// What becomes of a reading that is not done, as far as is known.
@@ -111,25 +118,55 @@ impl Opening {
         Got::More
     }
 
-    /// What becomes of a reading that is done, whose root this is.
-    #[tactic(auto, using(crate::proofs::Stopping::of_root))]
-    fn has_read(&mut self, steps: ReadSteps<Global>, root: Root, left: u32) -> Got
+    /// What becomes of a state, all of which was read.
+    fn has_read(&mut self, state: State<Global>, left: u32) -> Got
         requires none { self.old.reading ≡ None }
-        requires done { IsDone steps }
-        requires newest { known_root steps ≡ Some root }
-        requires fits { root.geometry ≡ self.old.geometry }
+        requires on { (sectors : ℕ) × AreStepsOn sectors (AllRead state) }
+        requires sizes { AreSameSizes state.root.geometry self.old.geometry }
         ensures kind { Fits (Device (ReadMetadata left)) result }
         ensures geometry { self.new.geometry ≡ self.old.geometry }
-        ensures on { (sectors : ℕ) → AreStepsOn sectors steps → IfSome self.new.reading (AreStepsOn sectors) }
-        ensures come { HasCome self.old.geometry left steps self.old.commit result self.new.reading self.new.commit }
+        ensures on { (sectors : ℕ) → AreStepsOn sectors (AllRead state) → IfSome self.new.reading (AreStepsOn sectors) }
+        ensures come { HasCome self.old.geometry left (AllRead state) self.old.commit result self.new.reading self.new.commit }
         ensures generation { HasGeneration self.old.commit → HasGeneration self.new.commit }
-        ensures more { result ≡ More → ¬ IsDone steps }
+        ensures more { result ≡ More → ⊥ }
     {
-        match RunningCommit::opening(self.alloc, &root) {
+        if !is_served_by(state.root.geometry, self.geometry) {
+            return self.converts(state, left);
+        }
+        match RunningCommit::opening(self.alloc, &state.root) {
             Ok(commit) => {
-                self.reading = Some(steps);
+                self.reading = Some(ReadSteps::Done(state));
                 self.commit = Some(commit);
                 Got::Done
+            }
+            Err(refusal) => Got::Refused(refusal),
+        }
+    }
+
+    /// What becomes of a state of the first version where the second is asked for: it is known as the second has it, and the commit of its
+    /// image is there.
+    fn converts(&mut self, state: State<Global>, left: u32) -> Got
+        requires none { self.old.reading ≡ None }
+        requires on { (sectors : ℕ) × AreStepsOn sectors (AllRead state) }
+        requires sizes { AreSameSizes state.root.geometry self.old.geometry }
+        requires first { state.root.geometry.version ≡ One }
+        requires second { self.old.geometry.version ≡ Two }
+        ensures kind { Fits (Device (ReadMetadata left)) result }
+        ensures geometry { self.new.geometry ≡ self.old.geometry }
+        ensures on { (sectors : ℕ) → AreStepsOn sectors (AllRead state) → IfSome self.new.reading (AreStepsOn sectors) }
+        ensures come { HasCome self.old.geometry left (AllRead state) self.old.commit result self.new.reading self.new.commit }
+        ensures generation { HasGeneration self.old.commit → HasGeneration self.new.commit }
+        ensures more { result ≡ More → ⊥ }
+    {
+        if left < self.geometry.node_count() {
+            return Got::Fault;
+        }
+        match convert(self.alloc, self.alloc, state, &self.geometry) {
+            Ok((converted, image)) => {
+                let nodes = image.nodes.len() as u32;
+                self.reading = Some(ReadSteps::Done(converted));
+                self.commit = Some(RunningCommit::new(image));
+                Got::Began(nodes)
             }
             Err(refusal) => Got::Refused(refusal),
         }
@@ -148,12 +185,4 @@ pub(crate) fn got_of_refusal(refusal: Refusal, left: u32) -> Got
         Refusal::Io(_) => Got::Fault,
         _ => Got::Refused(refusal),
     }
-}
-
-/// Whether these are one geometry.
-pub(crate) fn is_same(a: Geometry, b: Geometry) -> bool
-    ensures same { OnTrue result (a ≡ b) }
-    ensures other { OnFalse result (a ≢ b) }
-{
-    a == b
 }

@@ -1,13 +1,13 @@
 -- What is left of a flush, a suspend or an opening, by the phase that it is in.
-use Rattle.std.specs.Prelude.{◌++◌, ℕ, List, [], ◌∷◌}
+use Rattle.std.specs.Prelude.{◌++◌, ◌+◌, ◌<◌, ◌^◌, ℕ, List, [], ◌∷◌}
 use Rattle.wb_types.specs.declared.mode.Dev.TheVariants.{Metadata, Cache, Origin}
 use Rattle.wb_types.specs.declared.number.OBlock.{OBlock}
 use Rattle.wb_types.specs.declared.refusal.Refusal.TheVariants.{Io}
 use Rattle.wb_words.specs.declared.word.Word.TheVariants.{Fail}
 use Rattle.wb_words.specs.declared.step.CellStep.TheVariants.{Look, SetSuspended}
 use Rattle.wb_tasks.specs.Tables.{TaskJob, Flushing, Suspending, Opening}
-use Rattle.wb_tasks.specs.Plan.{Plan, failed_commit, seal_looks, release_orders}
-use Rattle.wb_tasks.specs.declared.step.DeviceStep.TheVariants.{Sync, ReadMetadata, WriteRoot}
+use Rattle.wb_tasks.specs.Plan.{Plan, failed_commit, node_writes, opening_root, seal_looks, release_orders}
+use Rattle.wb_tasks.specs.declared.step.DeviceStep.TheVariants.{Sync, ReadMetadata}
 use Rattle.wb_tasks.specs.declared.step.DeskStep.TheVariants.{Arrive, Ask, BeginCommit, BreakCommit}
 use Rattle.wb_tasks.specs.declared.step.Want.{Want}
 use Rattle.wb_tasks.specs.declared.step.Want.TheVariants.{Cell, Device, Desk}
@@ -19,7 +19,7 @@ use Rattle.wb_flow.specs.declared.committing.Phase.{Phase as CommitPhase}
 use Rattle.wb_flow.specs.declared.committing.Phase.TheVariants.{LooksAtFail, Begins, Asks, Commits, SetsSuspended, GivesUp, SetsFailed, BreaksCommits, Ended}
 use Rattle.wb_flow.specs.Commits.{commit_left, IsInRange}
 use Rattle.wb_flow.specs.declared.open.Phase.{Phase as OpenPhase}
-use Rattle.wb_flow.specs.declared.open.Phase.TheVariants.{SyncsMetadata as OpenSyncsMetadata, SyncsCache as OpenSyncsCache, SyncsOrigin as OpenSyncsOrigin, Reads, WritesRoot as OpenWritesRoot, SyncsRoot as OpenSyncsRoot, Ended as OpenEnded}
+use Rattle.wb_flow.specs.declared.open.Phase.TheVariants.{SyncsMetadata as OpenSyncsMetadata, SyncsCache as OpenSyncsCache, SyncsOrigin as OpenSyncsOrigin, Reads, WritesNodes as OpenWritesNodes, WritesRoot as OpenWritesRoot, SyncsRoot as OpenSyncsRoot, Ended as OpenEnded}
 
 -- the job that a request with this purpose is on
 abbrev pub commit_job : Purpose → List OBlock → ℕ → TaskJob
@@ -64,17 +64,23 @@ IsPhaseInRange phase = Unit {0}
 
 -- The steps of an opening in a phase, that reads at most so many sectors after the first.
 abbrev pub opening_steps : ℕ → OpenPhase → List Want
-opening_steps more OpenSyncsMetadata = Device (Sync Metadata) ∷ Device (Sync Cache) ∷ Device (Sync Origin) ∷ Device (ReadMetadata more) ∷ Device WriteRoot ∷ Device (Sync Metadata) ∷ []
-opening_steps more OpenSyncsCache = Device (Sync Cache) ∷ Device (Sync Origin) ∷ Device (ReadMetadata more) ∷ Device WriteRoot ∷ Device (Sync Metadata) ∷ []
-opening_steps more OpenSyncsOrigin = Device (Sync Origin) ∷ Device (ReadMetadata more) ∷ Device WriteRoot ∷ Device (Sync Metadata) ∷ []
-opening_steps more (Reads left) = Device (ReadMetadata left) ∷ Device WriteRoot ∷ Device (Sync Metadata) ∷ []
-opening_steps more OpenWritesRoot = Device WriteRoot ∷ Device (Sync Metadata) ∷ []
+opening_steps more OpenSyncsMetadata = Device (Sync Metadata) ∷ Device (Sync Cache) ∷ Device (Sync Origin) ∷ Device (ReadMetadata more) ∷ opening_root
+opening_steps more OpenSyncsCache = Device (Sync Cache) ∷ Device (Sync Origin) ∷ Device (ReadMetadata more) ∷ opening_root
+opening_steps more OpenSyncsOrigin = Device (Sync Origin) ∷ Device (ReadMetadata more) ∷ opening_root
+opening_steps more (Reads left) = Device (ReadMetadata left) ∷ opening_root
+opening_steps more (OpenWritesNodes node left) = node_writes left node ++ Device (Sync Metadata) ∷ opening_root
+opening_steps more OpenWritesRoot = opening_root
 opening_steps more OpenSyncsRoot = Device (Sync Metadata) ∷ []
 opening_steps more (OpenEnded answer) = []
 
 abbrev pub opening_answer : OpenPhase → Answer
 opening_answer (OpenEnded answer) = answer
 opening_answer phase = Finished
+
+-- the numbers of its nodes are numbers of the language
+abbrev pub IsOpeningInRange : OpenPhase → Type 0
+IsOpeningInRange (OpenWritesNodes node left) = node + left < 2 ^ 32
+IsOpeningInRange phase = Unit {0}
 
 abbrev pub opening_left : ℕ → OpenPhase → Plan
 opening_left more phase = record { job = Opening more; steps = opening_steps more phase; answer = opening_answer phase }

@@ -3,7 +3,8 @@
 //! 1. sync the metadata, the cache, the origin;
 //! 2. read both slots and each node, a metadata sector a step; where they hold no mapping that can be opened, or there is
 //!    no memory for it, answer so;
-//! 3. write a root of the next generation, without the clean flag, and sync the metadata; answer done.
+//! 3. where another version is asked for than theirs, write the nodes of the whole mapping anew, and sync the metadata;
+//! 4. write a root of the next generation, without the clean flag, and sync the metadata; answer done.
 //!
 //! After a fault: answer `Io`. There are no words yet, and no desk.
 
@@ -23,6 +24,8 @@ enum Phase {
     SyncsOrigin,
     /// Reads a metadata sector; at most so many more follow.
     Reads(u32),
+    /// Writes the nodes that are left, from this one on, and then syncs the metadata.
+    WritesNodes { node: u32, left: u32 },
     WritesRoot,
     SyncsRoot,
     Ended(Answer),
@@ -41,9 +44,11 @@ impl Model for OpenTask {
 
     ghost Value = { Plan };
 
-    ghost use Rattle.wb_flow.specs.Phases.{opening_left};
+    ghost use Rattle.wb_flow.specs.Phases.{opening_left, IsOpeningInRange};
 
     ghost view = { λ t. opening_left t.more t.phase };
+
+    ghost invariant = { λ t. IsOpeningInRange t.phase };
 }
 
 impl OpenTask {
@@ -71,7 +76,10 @@ impl Steps for OpenTask {
 
     fn want(&self) -> Want {
         match self.phase {
-            Phase::SyncsMetadata | Phase::SyncsRoot => {
+            Phase::WritesNodes { node, left } if left > 0 => {
+                Want::Device(DeviceStep::WriteNode(node))
+            }
+            Phase::SyncsMetadata | Phase::WritesNodes { .. } | Phase::SyncsRoot => {
                 Want::Device(DeviceStep::Sync(Dev::Metadata))
             }
             Phase::SyncsCache => Want::Device(DeviceStep::Sync(Dev::Cache)),
@@ -92,13 +100,20 @@ impl Steps for OpenTask {
             Phase::SyncsMetadata => self.phase = Phase::SyncsCache,
             Phase::SyncsCache => self.phase = Phase::SyncsOrigin,
             Phase::SyncsOrigin => self.phase = Phase::Reads(self.more),
-            Phase::Reads(_) => self.phase = Phase::WritesRoot,
+            Phase::WritesNodes { node, left } if left > 0 => {
+                self.phase = Phase::WritesNodes {
+                    node: node + 1,
+                    left: left - 1,
+                };
+            }
+            Phase::Reads(_) | Phase::WritesNodes { .. } => self.phase = Phase::WritesRoot,
             Phase::WritesRoot => self.phase = Phase::SyncsRoot,
             Phase::SyncsRoot => self.phase = Phase::Ended(Answer::Done),
             Phase::Ended(_) => {}
         }
     }
 
+    #[tactic(auto, using(crate::proofs::Opening::node_fails))]
     fn after_fault(&mut self) {
         let device = match self.phase {
             Phase::SyncsCache => Dev::Cache,
@@ -112,10 +127,16 @@ impl Steps for OpenTask {
         self.phase = Phase::Ended(Answer::Refused(refusal));
     }
 
-    fn after_rare(&mut self, _got: Got) {
-        // None of its steps is an exchange or begins a commit: there is more to read.
+    fn after_rare(&mut self, got: Got) {
+        // It reads: there is more to read, or an image to write.
         if let Phase::Reads(left) = self.phase {
-            self.phase = Phase::Reads(left - 1);
+            self.phase = match got {
+                Got::Began(nodes) => Phase::WritesNodes {
+                    node: 0,
+                    left: nodes,
+                },
+                _ => Phase::Reads(left - 1),
+            };
         }
     }
 }

@@ -39,12 +39,12 @@ longest_looks : (all blocks : List OBlock) (most : ℕ) (ws : List Want) → lon
 longest_looks all [] most ws = omega arith
 longest_looks all (block ∷ blocks) most ws = omega (arith, longest_looks all blocks most ws)
 
--- a flush by the nodes of its image, or by the orders that it gives up; a suspend by the nodes and the seals; an opening by what it reads
+-- a flush by the nodes of its image, or by the orders that it gives up; a suspend by the nodes and the seals; an opening by what it reads and writes
 pub flush_bounded : (serves : List OBlock) (most : ℕ) → longest (table (Flushing serves most)) ≤ max (most + 11) (length serves + 4)
 flush_bounded serves most = omega (arith, length_orders serves)
 
 pub suspend_bounded : (blocks : List OBlock) (most : ℕ) → longest (table (Suspending blocks most)) ≤ length blocks + most + 10
 suspend_bounded blocks most = omega (arith, longest_looks blocks blocks most (Desk (BeginCommit most) ∷ []))
 
-pub opening_bounded : (left : ℕ) → longest (table (Opening left)) ≤ left + 7
+pub opening_bounded : (left : ℕ) → longest (table (Opening left)) ≤ left + 8
 opening_bounded left = omega arith

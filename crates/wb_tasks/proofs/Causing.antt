@@ -3,6 +3,7 @@ use Rattle.std.proofs.Common.{◌≡◌, ◌≢◌, ◌==◌, ◌+◌, ◌⊎◌
 use Rattle.std.proofs.lemmas.Bool.{eq-eqb}
 use Rattle.wb_types.specs.declared.mode.Mode.{Mode}
 use Rattle.wb_types.specs.declared.mode.Mode.TheVariants.{Writeback, Writethrough, Passthrough}
+use Rattle.wb_types.specs.declared.mode.Dev.TheVariants.{Metadata}
 use Rattle.wb_types.specs.declared.number.OBlock.{OBlock}
 use Rattle.wb_types.specs.declared.number.CBlock.{CBlock}
 use Rattle.wb_types.specs.declared.refusal.Refusal.{Refusal}
@@ -13,7 +14,7 @@ use Rattle.wb_types.specs.declared.extent.Extent.{Extent}
 use Rattle.wb_words.specs.declared.word.Access.TheVariants.{Shared, Owned}
 use Rattle.wb_tasks.specs.Tables.{BlockJob, Reading, Writing, Displacing, Invalidating, Migrating, TaskJob, OnBlock, Flushing, Suspending, Opening, place_read, read_step, read_count, write_count, writing, work}
 use Rattle.wb_tasks.proofs.Working.{Works, work_has, parting_has}
-use Rattle.wb_tasks.specs.Plan.{Plan, after, table, first_step, refused, gives_back, gives_up, release_orders, node_writes, root_steps, begun_steps, seal_looks, steps_seeing, deferring, answer_seeing, lets_go, after_fault_of, exchange, may_take, is_worn, Fits}
+use Rattle.wb_tasks.specs.Plan.{Plan, after, table, first_step, refused, gives_back, gives_up, release_orders, node_writes, root_steps, opening_root, begun_steps, seal_looks, steps_seeing, deferring, answer_seeing, lets_go, after_fault_of, exchange, may_take, is_worn, Fits}
 use Rattle.wb_tasks.specs.Run.{IsRunOf}
 use Rattle.wb_tasks.proofs.Driving.{no_result}
 use Rattle.wb_tasks.specs.Causes.{Causes, GaveCause}
@@ -77,11 +78,15 @@ own_closing : (nodes first : ℕ) → AreOwn ((node_writes nodes first ++ root_s
 own_closing zero first = tt
 own_closing (suc nodes) first = own_closing nodes (first + 1)
 
+own_opened : (nodes first : ℕ) → AreOwn (node_writes nodes first ++ Device (Sync Metadata) ∷ opening_root)
+own_opened zero first = tt
+own_opened (suc nodes) first = own_opened nodes (first + 1)
+
 own_begun : (job : TaskJob) (nodes : ℕ) → AreOwn (begun_steps job nodes)
 own_begun (OnBlock job) nodes = own_nodes nodes 0
 own_begun (Flushing serves most) nodes = own_nodes nodes 0
 own_begun (Suspending blocks most) nodes = own_closing nodes 0
-own_begun (Opening left) nodes = own_nodes nodes 0
+own_begun (Opening left) nodes = own_opened nodes 0
 
 own_looks : (blocks : List OBlock) (ws : List Want) → AreOwn ws → AreOwn (seal_looks blocks ++ ws)
 own_looks [] ws own = own
@@ -246,6 +251,7 @@ outcome job (Cell SetSuspended ∷ ws) Done own h = inr (ws, own, refl)
 outcome job (Device step ∷ ws) Done own h = inr (ws, own, refl)
 outcome job (Device step ∷ ws) Fault own h = inl (Io _, refl, answers (going job ws) (after_fault_of job step) _ (calm_fault job step))
 outcome job (Device (ReadMetadata left) ∷ ws) More own h = inr (Device (ReadMetadata _) ∷ ws, own, refl)
+outcome job (Device (ReadMetadata left) ∷ ws) (Began nodes) own h = inr (begun_steps job nodes, own_begun job nodes, refl)
 outcome job (Device (ReadMetadata left) ∷ ws) (Refused Memory) own h = inl (Memory, refl, answers (going job ws) [] Memory tt)
 outcome job (Device (ReadMetadata left) ∷ ws) (Refused NotFormatted) own h = inl (NotFormatted, refl, answers (going job ws) [] NotFormatted tt)
 outcome job (Device (ReadMetadata left) ∷ ws) (Refused (Damaged place)) own h = inl (Damaged place, refl, answers (going job ws) [] (Damaged place) tt)

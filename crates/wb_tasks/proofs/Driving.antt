@@ -2,6 +2,7 @@
 use Rattle.std.proofs.Common.{◌≡◌, ◌≢◌, ◌+◌, ◌*◌, ◌<◌, ◌≤◌, ℕ, zero, suc, Bool, true, false, List, [], ◌∷◌, ◌++◌, Option, Some, None, length, map, max, ◌==◌, if◌then◌else◌, refl, sym, subst, arith, append_assoc}
 use Rattle.wb_types.specs.declared.mode.Mode.{Mode}
 use Rattle.wb_types.specs.declared.mode.Mode.TheVariants.{Writeback, Writethrough, Passthrough}
+use Rattle.wb_types.specs.declared.mode.Dev.TheVariants.{Metadata}
 use Rattle.wb_types.specs.declared.number.CBlock.{CBlock}
 use Rattle.wb_words.specs.declared.word.Access.TheVariants.{Shared, Owned}
 use Rattle.wb_types.specs.declared.number.OBlock.{OBlock}
@@ -11,10 +12,10 @@ use Rattle.wb_words.specs.declared.word.Word.TheVariants.{Cell as LockWord, Seal
 use Rattle.wb_words.specs.SharedWords.{place_in, dirty_in}
 use Rattle.wb_types.specs.declared.extent.Extent.{Extent}
 use Rattle.wb_tasks.specs.Tables.{BlockRange, BlockJob, TaskJob, OnBlock, Flushing, Suspending, Opening, Reading, Writing, Displacing, Invalidating, Migrating, work, copies, ending, place_read, writes, writing, read_step, read_count, write_count}
-use Rattle.wb_tasks.specs.Plan.{Plan, want, after, after_look, gives_back, gives_up, release_orders, lets_go, after_fault_of, exchange, may_take, node_writes, root_steps, begun_steps, Fits, IsStep, first_step, is_worn}
+use Rattle.wb_tasks.specs.Plan.{Plan, want, after, after_look, gives_back, gives_up, release_orders, lets_go, after_fault_of, exchange, may_take, node_writes, root_steps, opening_root, begun_steps, Fits, IsStep, first_step, is_worn}
 use Rattle.wb_tasks.specs.Ready.{AreFirst, left_by}
 use Rattle.wb_tasks.specs.Run.{IsRunOf, Leads}
-use Rattle.wb_tasks.specs.Length.{most_written, longest_work, longest_failing, longest_commit, longest_of, longest}
+use Rattle.wb_tasks.specs.Length.{most_written, longest_work, longest_failing, longest_begun, longest_of, longest}
 use Rattle.wb_words.specs.declared.step.CellStep.TheVariants.{Look, Take, Release, Seal, Finish, Count, SetFailed, SetSuspended}
 use Rattle.wb_tasks.specs.declared.step.DeviceStep.{DeviceStep}
 use Rattle.wb_tasks.specs.declared.step.DeviceStep.TheVariants.{Read, Write, Sync, ReadMetadata, WriteNode, WriteRoot}
@@ -189,7 +190,7 @@ longest_of-fault (Flushing serves most) step = omega arith
 longest_of-fault (Suspending blocks most) step = omega arith
 longest_of-fault (Opening left) step = omega arith
 
--- a commit, once it began
+-- an image, once it began
 longest_of-nodes : (job : TaskJob) (nodes first : ℕ) (ws : List Want) → longest_failing job ≤ longest_of job ws → longest_of job (node_writes nodes first ++ ws) ≡ nodes + longest_of job ws
 longest_of-nodes job zero first ws h = omega arith
 longest_of-nodes job (suc nodes) first ws h = let more = longest_of-nodes job nodes (first + 1) ws h in omega (arith, more, h)
@@ -199,11 +200,11 @@ longest_of-closing : (blocks : List OBlock) (most nodes first : ℕ) → longest
 longest_of-closing blocks most zero first = omega arith
 longest_of-closing blocks most (suc nodes) first = omega (arith, longest_of-closing blocks most nodes (first + 1))
 
-longest_of-commit : (job : TaskJob) (nodes : ℕ) → longest_of job (begun_steps job nodes) ≡ longest_commit job nodes
-longest_of-commit (OnBlock job) nodes = let more = longest_of-nodes (OnBlock job) nodes 0 root_steps (omega arith) in omega (arith, more)
-longest_of-commit (Flushing serves most) nodes = let more = longest_of-nodes (Flushing serves most) nodes 0 root_steps (omega arith) in omega (arith, more)
-longest_of-commit (Suspending blocks most) nodes = omega (arith, longest_of-closing blocks most nodes 0)
-longest_of-commit (Opening left) nodes = let more = longest_of-nodes (Opening left) nodes 0 root_steps (omega arith) in omega (arith, more)
+longest_of-begun : (job : TaskJob) (nodes : ℕ) → longest_of job (begun_steps job nodes) ≡ longest_begun job nodes
+longest_of-begun (OnBlock job) nodes = let more = longest_of-nodes (OnBlock job) nodes 0 root_steps (omega arith) in omega (arith, more)
+longest_of-begun (Flushing serves most) nodes = let more = longest_of-nodes (Flushing serves most) nodes 0 root_steps (omega arith) in omega (arith, more)
+longest_of-begun (Suspending blocks most) nodes = omega (arith, longest_of-closing blocks most nodes 0)
+longest_of-begun (Opening left) nodes = let more = longest_of-nodes (Opening left) nodes 0 (Device (Sync Metadata) ∷ opening_root) (omega arith) in omega (arith, more)
 
 -- a look leaves less
 falls_look : (job : TaskJob) (word : WordName) (ws : List Want) (a : Answer) (value : ℕ) → longest (after_look (record { job = job; steps = Cell (Look word) ∷ ws; answer = a }) (Cell (Look word)) value) < longest_of job (Cell (Look word) ∷ ws)
@@ -248,6 +249,7 @@ falls job (Device (WriteNode number) ∷ ws) a Fault h = omega (arith, longest_o
 falls job (Device WriteRoot ∷ ws) a Fault h = omega (arith, longest_of-fault job WriteRoot)
 falls job (Device (ReadMetadata left) ∷ ws) a (Refused refusal) h = omega (arith, longest_of-some job ws)
 falls job (Device (ReadMetadata left) ∷ ws) a More h = omega (arith, h)
+falls job (Device (ReadMetadata left) ∷ ws) a (Began nodes) h = omega (arith, longest_of-begun job nodes, h)
 falls job (Desk (Map block place) ∷ ws) a Done h = omega arith
 falls job (Desk (Unmap block) ∷ ws) a Done h = omega arith
 falls job (Desk (ReleaseOrder block) ∷ ws) a Done h = omega arith
@@ -263,9 +265,9 @@ falls job (Desk (BeginCommit most) ∷ ws) a (Refused Memory) h = omega (arith, 
 falls job (Desk (Arrive most) ∷ ws) a (Refused GenerationEnd) h = omega (arith, longest_of-let_go job)
 falls job (Desk (Ask most) ∷ ws) a (Refused GenerationEnd) h = omega (arith, longest_of-let_go job)
 falls job (Desk (BeginCommit most) ∷ ws) a (Refused GenerationEnd) h = omega (arith, longest_of-let_go job)
-falls job (Desk (Arrive most) ∷ ws) a (Began nodes) h = omega (arith, longest_of-commit job nodes, h)
-falls job (Desk (Ask most) ∷ ws) a (Began nodes) h = omega (arith, longest_of-commit job nodes, h)
-falls job (Desk (BeginCommit most) ∷ ws) a (Began nodes) h = omega (arith, longest_of-commit job nodes, h)
+falls job (Desk (Arrive most) ∷ ws) a (Began nodes) h = omega (arith, longest_of-begun job nodes, h)
+falls job (Desk (Ask most) ∷ ws) a (Began nodes) h = omega (arith, longest_of-begun job nodes, h)
+falls job (Desk (BeginCommit most) ∷ ws) a (Began nodes) h = omega (arith, longest_of-begun job nodes, h)
 falls job (Desk (Arrive most) ∷ ws) a Ticket h = omega arith
 falls job (Desk (Ask most) ∷ ws) a Served h = omega arith
 falls job (End b ∷ ws) a g h = absurd (no_result b g h)

@@ -4,6 +4,7 @@ use Rattle.wb_types.proofs.Lists.{Contains-first, Contains-behind}
 use Rattle.std.proofs.Common.{◌≡◌, ◌∙◌, ◌==◌, ◌+◌, ◌<◌, ◌≤◌, arith, zero, suc, ◌-◌, ◌^◌, ◌++◌, ℕ, Bool, true, false, cond, eqb, List, [], ◌∷◌, Option, Some, None, refl, sym, ap, subst, if◌then◌else◌}
 use Rattle.std.proofs.lemmas.Bool.{eq-eqb, true≢false}
 use Rattle.wb_types.specs.declared.mode.Dev.{Dev}
+use Rattle.wb_types.specs.declared.mode.Dev.TheVariants.{Metadata}
 use Rattle.wb_types.specs.declared.number.OBlock.{OBlock}
 use Rattle.wb_types.specs.declared.number.CBlock.{CBlock}
 use Rattle.wb_types.specs.declared.refusal.Refusal.TheVariants.{Busy, Failed, Memory, Worn, GenerationEnd, Io}
@@ -23,7 +24,7 @@ use Rattle.wb_tasks.specs.Tables.{BlockJob, Reading, Writing, Displacing, Invali
 use Rattle.wb_tasks.proofs.Driving.{no_result}
 use Rattle.wb_tasks.proofs.Working.{Works, work_has}
 use Rattle.wb_tasks.specs.Ready.{MayTake, MayMake, block_of, HasBlock, KnowsNext, IsJobs, IsAsked, IsOwnStep, AreOwnSteps, IsParting, IsRest, Has, AreBelow, SuitsJob, Suits}
-use Rattle.wb_tasks.specs.Plan.{Plan, table, want, after, first_step, gives_back, gives_up, release_orders, node_writes, root_steps, commit_steps, seal_looks, answer_at, lets_go, exchange, may_take, is_worn, Fits, got_of}
+use Rattle.wb_tasks.specs.Plan.{Plan, table, want, after, first_step, gives_back, gives_up, release_orders, node_writes, root_steps, opening_root, commit_steps, seal_looks, answer_at, lets_go, exchange, may_take, is_worn, Fits, got_of}
 use Rattle.wb_tasks.specs.declared.step.Answer.{Answer}
 use Rattle.wb_tasks.specs.declared.step.Answer.TheVariants.{Refused as Refuses}
 use Rattle.wb_tasks.specs.declared.step.DeskStep.TheVariants.{Map, Unmap, ReleaseOrder, Arrive, Ask, BeginCommit, EndCommit, BreakCommit}
@@ -379,6 +380,10 @@ suspend_keeps count all most card card' answer (Desk (ReleaseOrder b) ∷ ws) go
 suspend_keeps count all most card card' answer (End b ∷ ws) got h below o f made = absurd (no_result b got f)
 suspend_keeps count all most card card' answer (w ∷ ws) got h below o f made = absurd f
 
+opened_own : (left nodes first : ℕ) → AreOwnSteps (Opening left) (node_writes nodes first ++ Device (Sync Metadata) ∷ opening_root)
+opened_own left zero first = (tt, (tt, (tt, tt)))
+opened_own left (suc nodes) first = (tt, opened_own left nodes (first + 1))
+
 opening_keeps : (blocks left : ℕ) (card card' : Card) (answer : Answer) (ws : List Want) (got : Got) → card.hold ≡ Nothing → AreOwnSteps (Opening left) ws → Fits (first_step ws answer) got →
     MayMake (first_step ws answer) got card card' → Suits blocks (after (record { job = Opening left; steps = ws; answer = answer }) got) card'
 opening_keeps blocks left card card' answer (Device (Sync device) ∷ ws) Done h o f made = (ap (λ (c : Card). c.hold) made ∙ h, o.1)
@@ -389,12 +394,14 @@ opening_keeps blocks left card card' answer (Device (ReadMetadata more) ∷ ws) 
 opening_keeps blocks left card card' answer (Device (ReadMetadata more) ∷ ws) Fault h o f made = (ap (λ (c : Card). c.hold) made ∙ h, tt)
 opening_keeps blocks left card card' answer (Device (ReadMetadata more) ∷ ws) (Refused refusal) h o f made = (ap (λ (c : Card). c.hold) made ∙ h, tt)
 opening_keeps blocks left card card' answer (Device (ReadMetadata more) ∷ ws) More h o f made = (ap (λ (c : Card). c.hold) made ∙ h, (tt, o.1))
+opening_keeps blocks left card card' answer (Device (ReadMetadata more) ∷ ws) (Began nodes) h o f made = (ap (λ (c : Card). c.hold) made ∙ h, opened_own left nodes 0)
+opening_keeps blocks left card card' answer (Device (WriteNode number) ∷ ws) Done h o f made = (ap (λ (c : Card). c.hold) made ∙ h, o.1)
+opening_keeps blocks left card card' answer (Device (WriteNode number) ∷ ws) Fault h o f made = (ap (λ (c : Card). c.hold) made ∙ h, tt)
 opening_keeps blocks left card card' answer [] got h o f made = absurd (no_result answer got f)
 opening_keeps blocks left card card' answer (Cell step ∷ ws) got h o f made = absurd o.0
 opening_keeps blocks left card card' answer (Desk step ∷ ws) got h o f made = absurd o.0
 opening_keeps blocks left card card' answer (Device (Read device e) ∷ ws) got h o f made = absurd o.0
 opening_keeps blocks left card card' answer (Device (Write device e) ∷ ws) got h o f made = absurd o.0
-opening_keeps blocks left card card' answer (Device (WriteNode number) ∷ ws) got h o f made = absurd o.0
 opening_keeps blocks left card card' answer (End b ∷ ws) got h o f made = absurd (no_result b got f)
 opening_keeps blocks left card card' answer (w ∷ ws) got h o f made = absurd f
 

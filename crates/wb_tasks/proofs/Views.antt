@@ -216,6 +216,7 @@ never_begun : (w : Want) (nodes : ℕ) → IsAside w → Fits w (Began nodes) �
 never_begun (Desk (Arrive most)) nodes a h = a
 never_begun (Desk (Ask most)) nodes a h = a
 never_begun (Desk (BeginCommit most)) nodes a h = a
+never_begun (Device (ReadMetadata left)) nodes a h = a
 never_begun w nodes a h = h
 
 never_ticket : (w : Want) → IsAside w → Fits w Ticket → ⊥

@@ -47,9 +47,14 @@ abbrev pub longest_ending : TaskJob → ℕ
 longest_ending (Suspending blocks most) = 3
 longest_ending job = 2
 
--- a commit of an image of so many nodes
-abbrev pub longest_commit : TaskJob → ℕ → ℕ
-longest_commit job most = most + 5 + max (longest_failing job) (longest_ending job)
+-- what comes with the nodes of an image: in an opening a root and two syncs, and the answer; else a commit and what ends it
+abbrev pub longest_beside : TaskJob → ℕ
+longest_beside (Opening left) = 4
+longest_beside job = 5 + max (longest_failing job) (longest_ending job)
+
+-- an image of so many nodes, and what comes with it
+abbrev pub longest_begun : TaskJob → ℕ → ℕ
+longest_begun job most = most + longest_beside job
 
 -- what comes of a look at a seal: on a block the number and the work, else the steps that take so long
 abbrev pub longest_seeing : TaskJob → ℕ → ℕ
@@ -63,12 +68,12 @@ longest_of job [] = 1
 longest_of job (Cell (Look (LockWord block)) ∷ ws) = 4 + longest_work_of job
 longest_of job (Cell (Look (SealWord block)) ∷ ws) = 1 + longest_seeing job (longest_of job ws)
 longest_of job (Cell (Look (Number block)) ∷ ws) = 1 + max 2 (longest_of job ws)
-longest_of job (Device (ReadMetadata left) ∷ ws) = left + 1 + max (longest_failing job) (longest_of job ws)
+longest_of job (Device (ReadMetadata left) ∷ ws) = left + 1 + max (longest_beside job) (max (longest_failing job) (longest_of job ws))
 longest_of job (Device step ∷ ws) = 1 + max (longest_failing job) (longest_of job ws)
 longest_of job (Desk (Map block place) ∷ ws) = 1 + max (length (lets_go job) + 1) (longest_of job ws)
-longest_of job (Desk (Arrive most) ∷ ws) = 2 + max (longest_commit job most) (length (lets_go job) + 1)
-longest_of job (Desk (Ask most) ∷ ws) = 1 + max (longest_commit job most) (length (lets_go job) + 1)
-longest_of job (Desk (BeginCommit most) ∷ ws) = 1 + max (longest_commit job most) (length (lets_go job) + 1)
+longest_of job (Desk (Arrive most) ∷ ws) = 2 + max (longest_begun job most) (length (lets_go job) + 1)
+longest_of job (Desk (Ask most) ∷ ws) = 1 + max (longest_begun job most) (length (lets_go job) + 1)
+longest_of job (Desk (BeginCommit most) ∷ ws) = 1 + max (longest_begun job most) (length (lets_go job) + 1)
 longest_of job (w ∷ ws) = 1 + longest_of job ws
 
 -- the most steps that a task may still take, its answer counted

@@ -45,9 +45,15 @@ root_steps = Device (Sync Metadata) ∷ Device WriteRoot ∷ Device (Sync Metada
 abbrev pub commit_steps : ℕ → List Want
 commit_steps nodes = Device (Sync Cache) ∷ Device (Sync Origin) ∷ (node_writes nodes 0 ++ root_steps)
 
--- what a commit is followed by: that of a suspend by the bit that says so
+-- the root of an opening, durable before it answers
+abbrev pub opening_root : List Want
+opening_root = Device WriteRoot ∷ Device (Sync Metadata) ∷ []
+
+-- What begins with an image of so many nodes: a commit, that of a suspend followed by the bit that says so; of an opening the nodes,
+-- which are durable before the root is written.
 abbrev pub begun_steps : TaskJob → ℕ → List Want
 begun_steps (Suspending blocks most) nodes = commit_steps nodes ++ Cell SetSuspended ∷ []
+begun_steps (Opening left) nodes = node_writes nodes 0 ++ Device (Sync Metadata) ∷ opening_root
 begun_steps job nodes = commit_steps nodes
 
 -- the seals of these blocks, one after the other
@@ -57,12 +63,13 @@ seal_looks (block ∷ blocks) = Cell (Look (SealWord block)) ∷ seal_looks bloc
 
 -- The steps of a job, as far as they are known before it begins. A flush asks to lead a commit, or for a ticket. A suspend asks for a commit
 -- whose root is marked clean, once it has seen which blocks are dirty. An opening makes everything durable, reads the metadata,
--- and writes a root that no longer says that the metadata are clean.
+-- and writes a root that no longer says that the metadata are clean. Where another version is asked for than theirs, the last read begins
+-- an image: the nodes of the whole mapping are written anew, and synced, before that root.
 abbrev pub first_steps : TaskJob → List Want
 first_steps (OnBlock job) = acquire (range_of job).block
 first_steps (Flushing serves most) = Cell (Look Fail) ∷ Desk (Arrive most) ∷ []
 first_steps (Suspending blocks most) = Cell (Look Fail) ∷ (seal_looks blocks ++ Desk (BeginCommit most) ∷ [])
-first_steps (Opening left) = Device (Sync Metadata) ∷ Device (Sync Cache) ∷ Device (Sync Origin) ∷ Device (ReadMetadata left) ∷ Device WriteRoot ∷ Device (Sync Metadata) ∷ []
+first_steps (Opening left) = Device (Sync Metadata) ∷ Device (Sync Cache) ∷ Device (Sync Origin) ∷ Device (ReadMetadata left) ∷ opening_root
 
 -- a job that has not begun
 abbrev pub table : TaskJob → Plan
@@ -275,11 +282,12 @@ MayBeRefused (Device (ReadMetadata left)) NotClean = Unit {0}
 MayBeRefused (Device (ReadMetadata left)) GenerationEnd = Unit {0}
 MayBeRefused want refusal = ⊥
 
--- an image has no more nodes than were allowed
+-- an image has no more nodes than were allowed; that of an opening none that has no place among the sectors that are left
 abbrev pub MayBegin : Want → ℕ → Type 0
 MayBegin (Desk (Arrive most)) nodes = nodes ≤ most
 MayBegin (Desk (Ask most)) nodes = nodes ≤ most
 MayBegin (Desk (BeginCommit most)) nodes = nodes ≤ most
+MayBegin (Device (ReadMetadata left)) nodes = nodes ≤ left
 MayBegin want nodes = ⊥
 
 -- who arrives may be given a ticket, and who asks with one may be served
@@ -320,7 +328,7 @@ abbrev pub MayCome : Plan → Got → Type 0
 MayCome s Begin = Unit {0}
 MayCome s got = Fits (want s) got
 
--- a result that one kind of step alone has: an exchange, a beginning, ticket or end of a commit, a read of the metadata
+-- a result that no step has but an exchange, one that asks for a commit, or a read of the metadata
 abbrev pub IsRare : Got → Type 0
 IsRare Lost = Unit {0}
 IsRare (Began nodes) = Unit {0}

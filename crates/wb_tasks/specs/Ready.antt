@@ -122,11 +122,12 @@ IsSuspends blocks most (Cell SetSuspended) = Unit {0}
 IsSuspends blocks most (Desk (BeginCommit nodes)) = nodes ≡ most
 IsSuspends blocks most next = IsCommits most next
 
--- An opening syncs each device, reads metadata and writes a root; it touches no word and asks nothing of a desk, which
+-- An opening syncs each device, reads metadata, and writes nodes and a root; it touches no word and asks nothing of a desk, which
 -- is not there yet.
 abbrev pub IsOpenings : Want → Type 0
 IsOpenings (Device (Sync device)) = Unit {0}
 IsOpenings (Device (ReadMetadata left)) = Unit {0}
+IsOpenings (Device (WriteNode number)) = Unit {0}
 IsOpenings (Device WriteRoot) = Unit {0}
 IsOpenings (End answer) = Unit {0}
 IsOpenings next = ⊥

@@ -43,7 +43,8 @@ pub data BlockJob : Type 0 where
 
 -- What a task is to do. A flush may serve replacements, whose orders are those of these blocks, and its image has at most
 -- so many nodes. A suspend looks at the seals of these blocks, which are those that are mapped, in this order, and its image has at
--- most so many nodes. An opening reads a metadata sector, and at most so many more.
+-- most so many nodes. An opening reads a metadata sector, and reads or writes at most so many more, the
+-- sectors of its root not counted.
 pub data TaskJob : Type 0 where
   OnBlock : BlockJob → TaskJob
   Flushing : (serves : List OBlock) → (most : ℕ) → TaskJob

@@ -26,7 +26,7 @@ pub fn step_bound()
     ensures extents { (job : BlockJob) → longest (table (OnBlock job)) ≤ 2 * length (range_of job).extents + 11 }
     ensures flush { (serves : List OBlock) (most : ℕ) → longest (table (Flushing serves most)) ≤ max (most + 11) (length serves + 4) }
     ensures suspend { (blocks : List OBlock) (most : ℕ) → longest (table (Suspending blocks most)) ≤ length blocks + most + 10 }
-    ensures opening { (left : ℕ) → longest (table (Opening left)) ≤ left + 7 }
+    ensures opening { (left : ℕ) → longest (table (Opening left)) ≤ left + 8 }
     ensures sectors { (job : BlockJob) (whole : Extent) → IsCutInto whole (range_of job).extents → longest (table (OnBlock job)) ≤ 2 * whole.count + 11 }
 {}
 

@@ -21,9 +21,10 @@ pub enum DeviceStep {
     Read(Dev, Extent),
     Write(Dev, Extent),
     Sync(Dev),
-    /// Reads the next sector that an opening wants of the metadata; at most so many more follow.
+    /// Reads the next sector that an opening wants of the metadata; it reads at most so many more, and as the nodes of an image writes
+    /// at most what is left of them.
     ReadMetadata(u32),
-    /// Writes the node of this number of the image of a commit.
+    /// Writes the node of this number of the image of a commit or of an opening.
     WriteNode(u32),
     /// Writes the root of a commit or of an opening.
     WriteRoot,
@@ -81,7 +82,7 @@ pub enum Got {
     Fault,
     /// The desk refused, or what was read of the metadata is no mapping.
     Refused(Refusal),
-    /// A commit began, whose image has so many nodes.
+    /// A commit began, whose image has so many nodes; or all metadata were read, and an opening has such an image to write.
     Began(u32),
     /// A commit runs, and there is a ticket now of the one that comes after it.
     Ticket,

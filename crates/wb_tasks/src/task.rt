@@ -47,8 +47,8 @@ pub trait Steps {
         requires { Fits (want (left self.old)) (Got.Refused refusal) }
         ensures { left self.new ≡ after (left self.old) (Got.Refused refusal) };
 
-    /// What is left after a result that one kind of step alone has: an exchange was lost, a commit began, a ticket was given or served, or
-    /// there is more of the metadata to read.
+    /// What is left after a result that few steps have: an exchange was lost, a commit or the image of an opening began, a ticket was given or
+    /// served, or there is more of the metadata to read.
     fn after_rare(&mut self, got: Got)
         requires rare { IsRare got }
         requires fits { Fits (want (left self.old)) got }

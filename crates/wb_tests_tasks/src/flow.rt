@@ -3,7 +3,7 @@
 mod rows;
 mod stage;
 
-use self::rows::{BREAK, ROWS, Row, SUSPENDS, TICKETS};
+use self::rows::{BREAK, ROWS, Row, SUSPENDS, TICKETS, UNWRITTEN};
 use self::stage::{Noted, Task};
 use std::alloc::{AllocError, Global};
 use std::test::Fail;
@@ -31,7 +31,7 @@ fn play(alloc: Global, noted: &mut Noted, row: &Row) -> Result<Answer, AllocErro
             let mapped = serves_of(alloc, row)?;
             Ok(drive(&mut CommitTask::suspend(mapped, 3), noted))
         }
-        Task::Open => Ok(drive(&mut OpenTask::new(4), noted)),
+        Task::Open => Ok(drive(&mut OpenTask::new(5), noted)),
     }
 }
 
@@ -126,6 +126,15 @@ fn each_fault_ends_a_flush_or_an_opening(rt: HostRuntime) -> Result<(), Fail> {
 #[test]
 fn each_fault_ends_a_flush_that_met_a_commit(rt: HostRuntime) -> Result<(), Fail> {
     compare_faults(rt.alloc(), &TICKETS)
+}
+
+#[test]
+fn an_opening_that_cannot_write_a_node_writes_no_root(rt: HostRuntime) -> Result<(), Fail> {
+    let mut noted = Noted::new(rt.alloc(), &UNWRITTEN)?;
+    if !goes_so(rt.alloc(), &mut noted, &UNWRITTEN)? {
+        return Err(Fail::from(UNWRITTEN.name));
+    }
+    Ok(())
 }
 
 #[test]

@@ -24,6 +24,8 @@ pub struct Row {
     pub serves: &'static [OBlock],
     /// The image's nodes, or those that an opening reads.
     pub nodes: u32,
+    /// The nodes that an opening of metadata of another version writes anew.
+    pub converts: Option<u32>,
     /// What the desk, or what was read, refuses: to lead a commit, once a flush has a ticket, if it gets one.
     pub refuses: Option<Refusal>,
     /// What a flush meets at the desk.
@@ -46,6 +48,7 @@ const FLUSH: Row = Row {
     task: Task::Flush,
     serves: &[OBlock(5), OBlock(7)],
     nodes: 0,
+    converts: None,
     refuses: None,
     meets: Meets::Nothing,
     fails: None,
@@ -68,6 +71,7 @@ const OPEN: Row = Row {
     task: Task::Open,
     serves: &[],
     nodes: 0,
+    converts: None,
     refuses: None,
     meets: Meets::Nothing,
     fails: None,
@@ -127,7 +131,7 @@ const COMMIT_OF_ONE: [Want; 7] = [
     END,
 ];
 
-pub const ROWS: [Row; 9] = [
+pub const ROWS: [Row; 10] = [
     Row {
         name: "a flush of one node writes its root at the seventh step and syncs it at the eighth",
         nodes: 1,
@@ -196,13 +200,29 @@ pub const ROWS: [Row; 9] = [
             SYNC_METADATA,
             SYNC_CACHE,
             SYNC_ORIGIN,
+            Want::Device(DeviceStep::ReadMetadata(4)),
             Want::Device(DeviceStep::ReadMetadata(3)),
             Want::Device(DeviceStep::ReadMetadata(2)),
-            Want::Device(DeviceStep::ReadMetadata(1)),
             WRITE_ROOT,
             SYNC_METADATA,
         ],
         device_steps: 8,
+        ..OPEN
+    },
+    Row {
+        name: "an opening of another version writes two nodes anew, and syncs them before its root",
+        nodes: 1,
+        converts: Some(2),
+        from: 5,
+        wants: &[
+            Want::Device(DeviceStep::ReadMetadata(2)),
+            Want::Device(DeviceStep::WriteNode(0)),
+            Want::Device(DeviceStep::WriteNode(1)),
+            SYNC_METADATA,
+            WRITE_ROOT,
+            SYNC_METADATA,
+        ],
+        device_steps: 11,
         ..OPEN
     },
     Row {
@@ -211,13 +231,29 @@ pub const ROWS: [Row; 9] = [
         answer: Answer::Refused(Refusal::NotFormatted),
         from: 3,
         wants: &[
+            Want::Device(DeviceStep::ReadMetadata(4)),
             Want::Device(DeviceStep::ReadMetadata(3)),
-            Want::Device(DeviceStep::ReadMetadata(2)),
         ],
         device_steps: 5,
         ..OPEN
     },
 ];
+
+/// An opening whose second node cannot be written.
+pub const UNWRITTEN: Row = Row {
+    name: "an opening that cannot write a node writes no root, and says so of the metadata",
+    nodes: 1,
+    converts: Some(2),
+    fails: Some(7),
+    answer: Answer::Refused(Refusal::Io(Dev::Metadata)),
+    from: 5,
+    wants: &[
+        Want::Device(DeviceStep::ReadMetadata(2)),
+        Want::Device(DeviceStep::WriteNode(0)),
+        Want::Device(DeviceStep::WriteNode(1)),
+    ],
+    ..OPEN
+};
 
 /// Flushes that come while a commit runs. They do nothing but ask until they lead one, or are served.
 pub const TICKETS: [Row; 5] = [

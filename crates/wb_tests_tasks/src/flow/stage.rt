@@ -27,6 +27,8 @@ pub struct Noted {
     fails: Option<u32>,
     /// The image's nodes, or those that an opening reads.
     nodes: u32,
+    /// The nodes that an opening writes anew.
+    converts: Option<u32>,
     /// What the desk, or what was read, refuses.
     refuses: Option<Refusal>,
     meets: Meets,
@@ -40,6 +42,7 @@ impl Noted {
             moved: 0,
             fails: row.fails,
             nodes: row.nodes,
+            converts: row.converts,
             refuses: row.refuses,
             meets: row.meets,
         })
@@ -77,8 +80,9 @@ impl Noted {
         if left > 0 && self.moved < self.nodes.saturating_add(5) {
             return Got::More;
         }
-        match self.refuses {
-            Some(Refusal::NotFormatted) => Got::Refused(Refusal::NotFormatted),
+        match (self.refuses, self.converts) {
+            (Some(Refusal::NotFormatted), _) => Got::Refused(Refusal::NotFormatted),
+            (_, Some(nodes)) => Got::Began(nodes.min(left)),
             _ => Got::Done,
         }
     }

@@ -5,6 +5,6 @@ pub returns-clause-unclean : goal.returns-clause-unclean
 returns-clause-unclean c = OnTrue_from c.is_left_unclean.result _ (λ yes. record {
   state = c.in-Done.state;
   all_read = c.in-Done.is;
-  fits = c.if-not-is_same.ensures.same;
+  fits = c.if-not-are_same_sizes.ensures.same;
   unclean = OnTrue_at yes c.is_left_unclean.ensures.unclean;
 })

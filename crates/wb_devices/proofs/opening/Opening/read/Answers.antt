@@ -7,6 +7,9 @@ use Rattle.wb_devices.proofs.Cleaning.{did_open}
 use Rattle.wb_devices.proofs.Stopping.{did_tell, never_stops}
 use Rattle.wb_devices.proofs.opening.Opening.read.Goals as goal
 
+pub returns-in-Ok-clause-goes_on : goal.returns-in-Ok-clause-goes_on
+returns-in-Ok-clause-goes_on g c = c.has_come_in.ensures.on (g.D.Disk.size c.args.disk.now) c.in-Ok.ensures.on
+
 pub returns-in-Ok-clause-did : goal.returns-in-Ok-clause-did
 returns-in-Ok-clause-did g c = did_open c.args.mode g.D.Disk.tells c.args.self.now.geometry c.args.left c.args.self.now.reading c.in-Some.steps c.in-Ok.steps _ _ _ c.args.self.now.commit _ _ _ (sym c.take.ensures.value ∙ c.in-Some.is) c.in-Ok.ensures.read c.in-Ok.ensures.no_fault c.has_come_in.ensures.come c.in-Ok.ensures.one_more c.has_come_in.ensures.generation
 
