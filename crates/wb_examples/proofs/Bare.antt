@@ -14,10 +14,11 @@ use Rattle.wb_runs.proofs.Metadata.{AtDesk}
 abbrev pub no_entries : Geometry → List (Option Entry)
 no_entries g = replicate g.cache_blocks None
 
--- a desk without entries, where no commit runs
+-- a desk of this geometry without entries, where no commit runs
 pub record BareDesk (P : Type 0) (g : Geometry) (desk : DeskState P) (device : List History) : Type 0 where
   pub images : Images
   pub known : AtDesk g images desk None device
+  pub geometry : desk.geometry ≡ g
   pub entries : desk.tree.entries ≡ no_entries g
 
 abbrev blanks : ℕ → List (Option Entry)

@@ -108,7 +108,7 @@ module _ (heap : Global) where
 
   module _ (P A : Type 0) (g : Geometry) (desk : DeskState P) (device : List History) (bare : BareDesk P g desk device) where
     planned : IsImage desk.tree desk.tree (next_plan desk desk.tree false) (bare_image (bare_root g (desk.generation + 1)))
-    planned = is_image g desk.tree (next_plan desk desk.tree false) bare.entries bare.known.is.sound bare.known.is.geometry refl
+    planned = is_image g desk.tree (next_plan desk desk.tree false) bare.entries bare.known.is.sound bare.geometry refl
 
     -- a commit that may begin can begin
     pub begins_bare : (most : ℕ) → MayBegin desk → DoesBegin {P = P} {A = A} None most desk (Began 0) (Commits (bare_commit g (desk.generation + 1)) desk.tree)

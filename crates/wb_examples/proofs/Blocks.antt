@@ -234,7 +234,7 @@ module _ (P A : Type 0) (s : Setting P 1 Writeback) where
     durable = record { metadata = synced (rooted (bare_commit global shape1.geometry (s.generation + 1)) (synced d.metadata)); cache = synced d.cache; origin = synced d.origin }
 
     flush_leads : (own : Own) → IsKnown P A shape1 (state (left d buffer) own) → Leads P A 1 Writeback s (state (left d buffer) own) flush (served durable buffer)
-    flush_leads own known = goes_to P A 1 Writeback s _ _ _ (flushing_may P A (idle_there own) (record { images = known.images; known = known.known; entries = refl }) (record { idle = refl; next = omega (arith, s.later) }) refl s.idle) refl
+    flush_leads own known = goes_to P A 1 Writeback s _ _ _ (flushing_may P A (idle_there own) (record { images = known.images; known = known.known; geometry = refl; entries = refl }) (record { idle = refl; next = omega (arith, s.later) }) refl s.idle) refl
 
     answering_leads : (own : Own) → Leads P A 1 Writeback s (state (served d buffer) own) answering (begun d buffer)
     answering_leads own = goes_to P A 1 Writeback s _ _ _ ((s.idle, (uncut next_whole (omega arith), inr (first_block, (0, omega arith, refl), refl))) ⨟ tt) refl

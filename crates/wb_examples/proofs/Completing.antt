@@ -1,5 +1,12 @@
 -- A reading of metadata whose root names no tree, as that of formatted ones does, can be completed: nothing is cached.
-use Rattle.std.proofs.Common.{Global, ◌≡◌, ◌∙◌, ℕ, List, [], Option, Some, None, Ok, refl, sym, ap, subst, arith, length, map, inl, ◌≢◌}
+use Rattle.std.proofs.Common.{Global, ◌≡◌, ◌∙◌, ◌⊎◌, ℕ, Bool, false, true, List, [], Option, Some, None, Ok, refl, sym, ap, subst, arith, length, map, inl, inr, if◌then◌else◌, ◌≢◌}
+use Rattle.std.proofs.lemmas.Bool.{le-leb}
+use Rattle.std.proofs.lemmas.List.Elements.{All-nil}
+use Rattle.wb_types.specs.declared.version.Version.{Version}
+use Rattle.wb_types.specs.declared.version.Version.TheVariants.{One, Two}
+use Rattle.wb_types.specs.declared.refusal.Refusal.TheVariants.{Geometry as TooSmall}
+use Rattle.wb_meta.specs.Sizes.{AreSameSizes}
+use Rattle.wb_meta.proofs.Sizes.{swapped_sizes}
 use Rattle.wb_types.specs.declared.mode.Mode.TheVariants.{Passthrough}
 use Rattle.wb_types.specs.declared.mode.Mode.{Mode}
 use Rattle.std.specs.List.{IsDistinct}
@@ -22,15 +29,37 @@ use Rattle.wb_meta.specs.Reads.{FitsDevice, ReadingGoesOn}
 use Rattle.wb_meta.specs.declared.read_steps.ReadSteps.TheVariants.{FirstSlotRead, Done as AllRead}
 use Rattle.wb_meta.specs.declared.read_steps.State.{State as Stored}
 use Rattle.wb_meta.specs.declared.commit_steps.CommitSteps.TheVariants.{NodesSynced}
-use Rattle.wb_desk.proofs.Keeping.{empty_keeps}
+use Rattle.wb_tree.proofs.Images.PlanSteps.{kept_nones}
+use Rattle.wb_devices.specs.Sizes.{IsServedBy}
 use Rattle.wb_devices.specs.declared.running.RunningCommit.{RunningCommit}
 use Rattle.wb_tasks.specs.declared.step.Got.TheVariants.{Done}
-use Rattle.wb_promise.specs.Happenings.{Reaches, DoesRead}
+use Rattle.wb_promise.specs.Happenings.{Reaches, DoesRead, has_room_for}
 use Rattle.wb_examples.proofs.Bare.{nothing_changed}
 use Rattle.wb_examples.proofs.Beginning.{no_entry, no_node}
-use Rattle.wb_runs.proofs.Readings.{same_newest}
+use Rattle.wb_runs.proofs.Readings.{geometry_asked, same_newest}
 use Rattle.wb_runs.proofs.Formatted.{HasNoTree}
 use denote.RawPtr.{null_ptr}
+
+-- the sizes have room for the first version, so an opening that asks for it may start
+has_room : (g : Geometry) → has_room_for false g ≡ true
+has_room g = le-leb _ g.meta_sectors (omega (arith, g.within.meta_from))
+
+pub room_for_first : (g : Geometry) → (if has_room_for false g then None else Some TooSmall) ≡ None
+room_for_first g = ap (λ (room : Bool). if room then None else Some TooSmall) (has_room g)
+
+-- what it asks for
+abbrev pub asked : Geometry → Geometry
+asked g = (geometry_asked g false).0
+
+-- metadata of either version serve it
+served : (found g : Geometry) → found ≡ g → IsServedBy found (asked g)
+served found g same =
+    let is = (geometry_asked g false).1 in
+    record { sizes = subst (λ (x : Geometry). AreSameSizes x (asked g)) (sym same) (swapped_sizes (asked g) g is.sizes_are); version = by_version found.version refl }
+  where
+    by_version : (v : Version) → found.version ≡ v → (found.version ≡ (asked g).version) ⊎ (found.version ≡ Two)
+    by_version One e = inl (e ∙ sym ((geometry_asked g false).1.version (has_room g)))
+    by_version Two e = inr e
 
 -- a tree with no entry that knows no node
 pub empty_sound : (n : ℕ) → IsSound (empty_mapping n)
@@ -108,7 +137,7 @@ module _ (A : Type 0) (heap : Global) (g : Geometry) (device : List History) (ba
     known_used = λ place at. absurd (let h = at.known in cc);
     used_are = record { from = tt; to = tt; apart = tt };
     used_few = omega arith;
-    keeps = ap (λ (es : List (Option Entry)). record (empty_mapping root.geometry.cache_blocks) { entries = es }) (empty_keeps root.geometry.version root.geometry.cache_blocks);
+    keeps = ap (λ (es : List (Option Entry)). record (empty_mapping root.geometry.cache_blocks) { entries = es }) (kept_nones root.geometry.version root.geometry.cache_blocks);
   }
 
   abbrev pub next_commit : RunningCommit
@@ -122,15 +151,16 @@ module _ (A : Type 0) (heap : Global) (g : Geometry) (device : List History) (ba
   }
 
   pub all_read : (P : Type 0) (mode : Mode) → mode ≢ Passthrough → (left : ℕ) (alloc : A) (global : Global) (first : Option Root) → IsInSlot (map newest device) 0 first →
-      DoesRead {P = P} {A = A} mode g left (FirstSlotRead alloc global first) device None Done (Reaches (Some (AllRead stored)) (Some next_commit))
+      DoesRead {P = P} {A = A} mode g false left (FirstSlotRead alloc global first) device None Done (Reaches (Some (AllRead stored)) (Some next_commit))
   all_read P mode caches left alloc global first slot = (
     λ e. absurd (cc),
     inl (
       AllRead stored,
       completes alloc global first slot,
-      (fits, omega (arith, root_size, root.geometry.within.meta_from)),
-      inl ((refl, (λ r e. let same : root ≡ r = cc in subst (λ (x : Root). x.geometry ≡ g) same bare.geometry_is), record { is_done = tt; root = root; newest = refl; next = next_commit; commit_is = refl; opens = record { root_is = refl; no_nodes = refl }; steps = refl }), λ passes. absurd (caches passes)),
+      (fits, omega (arith, root_size, root.geometry.within.meta_from), λ first. omega arith, λ first. refl),
+      (asked g, (geometry_asked g false).1, inl ((refl, (λ r e. let same : root ≡ r = cc in subst (λ (x : Root). IsServedBy x.geometry (asked g)) same (served root.geometry g bare.geometry_is)), record { is_done = tt; root = root; newest = refl; next = next_commit; commit_is = refl; opens = record { root_is = refl; no_nodes = refl }; steps = refl }), λ passes. absurd (caches passes))),
       refl,
       omega (arith, bare.more),
+      All-nil _,
     ),
   )

@@ -34,7 +34,7 @@ use Rattle.wb_runs.proofs.Metadata.{Quiet}
 use Rattle.wb_runs.proofs.MetadataRuns.{IsKnown, known_always}
 use Rattle.wb_examples.proofs.Bare.{BareDesk}
 use Rattle.wb_examples.proofs.Beginning.{bare_commit, begins_bare}
-use Rattle.wb_examples.proofs.Completing.{stored, next_commit, all_read}
+use Rattle.wb_examples.proofs.Completing.{room_for_first, stored, next_commit, all_read}
 use Rattle.wb_examples.proofs.Shown.{no_seals}
 use Rattle.wb_examples.proofs.Playing.{Move, Gets, Does, goes, then, ends, played, AreIdle, Needs, MayGo, goes_on, ◌⨟◌}
 
@@ -81,14 +81,14 @@ module _ (P A : Type 0) (d : Down P A) where
   commit = next_commit A global shape.geometry durable none_then same_size
 
   pub slot : (first : _) × IsInSlot (map newest durable) 0 first
-  slot = some_slot P A d.mode shape.geometry durable (omega (arith, same_size, shape.geometry.within.meta_from))
+  slot = some_slot P A d.mode shape.geometry false durable (omega (arith, same_size, shape.geometry.within.meta_from))
 
   abbrev left : ℕ
   left = shape.geometry.meta_sectors
 
   abbrev pub opening : List (Move P A)
   opening =
-      Gets (Open d.mode) Plain
+      Gets (Open d.mode false) Plain
       ∷ Does Done (Begins (Begun d.alloc global))
       ∷ goes 2 (Does More (Reaches (Some (FirstSlotRead d.alloc global slot.0)) None)
       ∷ Does Done (Reaches (Some (AllRead all_stored)) (Some commit))
@@ -105,9 +105,9 @@ module _ (P A : Type 0) (d : Down P A) where
 
   pub opening_may : MayGo global shape down opening
   opening_may =
-      (d.idle, tt)
+      (d.idle, room_for_first shape.geometry)
       ⨟ (refl, refl, refl)
-      ⨟ (refl, refl, first_read P A d.mode shape.geometry durable d.alloc global left slot.0 slot.1 (omega (arith, shape.geometry.within.meta_from)))
+      ⨟ (refl, refl, first_read P A d.mode shape.geometry false durable d.alloc global left slot.0 slot.1 (omega (arith, shape.geometry.within.meta_from)))
       ⨟ (refl, refl, all_read A global shape.geometry durable none_then same_size P d.mode d.writes (left - 1) d.alloc global slot.0 slot.1)
       ⨟ (refl, refl, (comes_next commit durable NodesSynced WriteRoot fits refl refl, root_does commit durable (omega (arith, none_then.more)) refl))
       ⨟ (refl, refl, (comes_next (record commit { steps = RootWritten }) (rooted commit durable) RootWritten (Sync Metadata) fits_then refl refl, refl))
@@ -138,7 +138,7 @@ module _ (P A : Type 0) (d : Down P A) where
   known = subst (λ (w : State P A). IsKnown P A shape w) opened_is (known_always P A shape down (played global shape down opening) (record { images = none_images shape.geometry d.metadata d.none; known = none_readable shape.geometry d.metadata d.none d.size }) (goes_on global shape down opening opening_may))
 
   pub bare : BareDesk P shape.geometry target.desk opened.devices.metadata
-  bare = record { images = known.images; known = known.known; entries = ap (λ (x : Geometry). replicate x.cache_blocks None) none_then.geometry_is }
+  bare = record { images = known.images; known = known.known; geometry = none_then.geometry_is; entries = ap (λ (x : Geometry). replicate x.cache_blocks None) none_then.geometry_is }
 
   pub may_begin : MayBegin target.desk
   may_begin = record { idle = refl; next = omega (arith, none_then.more) }
@@ -189,7 +189,7 @@ module _ (P A : Type 0) (i : Idle P) where
     quiet = elim bare.known.stands [ inl q ↦ q | inr broken ↦ absurd (let busy = broken.busy in let none = may.idle in cc) ]
 
     fits_now : Fits root_commit m
-    fits_now = quiet.stores.size ∙ ap (λ (x : Geometry). x.meta_sectors) quiet.same
+    fits_now = quiet.stores.size ∙ ap (λ (x : Geometry). x.meta_sectors) (quiet.same ∙ bare.geometry)
 
     fits_synced : Fits root_commit (synced m)
     fits_synced = length-map m _ ∙ fits_now

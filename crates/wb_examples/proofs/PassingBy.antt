@@ -159,7 +159,7 @@ module _ (P A : Type 0) (t : Tiny P A) (metadata cache sectors : List History) (
   durable = here (synced (rooted (bare_commit t.global shape0.geometry desk_then.generation) (synced metadata))) (synced cache) (only content ∷ synced sectors) (words 0 0 1) desk_then (over Flush (task_job shape0 Passthrough [] Flush [] []))
 
   flush_leads : (own : Own) → IsKnown P A shape0 (state wrote own) → Leads P A 0 Writeback s_then (state wrote own) flush durable
-  flush_leads own known = goes_to P A 0 Writeback s_then _ _ _ (flushing_may P A (idle_there own) (record { images = known.images; known = known.known; entries = refl }) (record { idle = refl; next = omega (arith, (s P A t).later) }) refl s_then.idle) refl
+  flush_leads own known = goes_to P A 0 Writeback s_then _ _ _ (flushing_may P A (idle_there own) (record { images = known.images; known = known.known; geometry = refl; entries = refl }) (record { idle = refl; next = omega (arith, (s P A t).later) }) refl s_then.idle) refl
 
   abbrev crash : List (Move P A)
   crash = goes 1 (Stops nothing_lands ∷ [])
@@ -181,7 +181,7 @@ module _ (P A : Type 0) (t : Tiny P A) (metadata cache sectors : List History) (
     all_there = ap (λ (n : ℕ). suc n) ((Crashed-crashed_from Origin nothing_lands 1 (synced sectors)).size ∙ length-map sectors (λ (h : History). only (newest h)) ∙ many)
 
     abbrev down_then : Down P A
-    down_then = again P A t.policy t.alloc Writeback s_then desk_then last_root metadata known.images known.known refl refl refl refl later size nothing_lands cache_left origin_left
+    down_then = again P A t.policy t.alloc Writeback s_then desk_then last_root metadata known.images known.known refl refl refl refl refl later size nothing_lands cache_left origin_left
 
     behind_flush : PassesThrough shape0 (state durable own) n3 (drop 3 conditions)
     behind_flush = (
@@ -193,8 +193,8 @@ module _ (P A : Type 0) (t : Tiny P A) (metadata cache sectors : List History) (
         goes_on t.global shape0 (down P A down_then) (opening P A down_then) (opening_may P A down_then),
         (
           refl,
-          again_nowhere P A t.policy t.alloc Writeback s_then desk_then last_root metadata known.images known.known refl refl refl refl later size nothing_lands cache_left origin_left first_block,
-          again_shown P A t.policy t.alloc Writeback s_then desk_then last_root metadata known.images known.known refl refl refl refl later size nothing_lands cache_left origin_left content all_there refl,
+          again_nowhere P A t.policy t.alloc Writeback s_then desk_then last_root metadata known.images known.known refl refl refl refl refl later size nothing_lands cache_left origin_left first_block,
+          again_shown P A t.policy t.alloc Writeback s_then desk_then last_root metadata known.images known.known refl refl refl refl refl later size nothing_lands cache_left origin_left content all_there refl,
         ),
         tt,
       ),

@@ -126,10 +126,10 @@ OthersAreIdle (x ∷ actors) = AreIdle actors
 
 -- an opening is in place where no target stands that could go on, any other job where a target does
 abbrev is_in_place : {P A : Type 0} → Phase P A → Job → Bool
-is_in_place (Stands t) (Open mode) = not (t.words.fail == 0)
+is_in_place (Stands t) (Open mode second) = not (t.words.fail == 0)
 is_in_place (Stands t) (Invalidate block) = false
 is_in_place (Stands t) job = true
-is_in_place Gone (Open mode) = true
+is_in_place Gone (Open mode second) = true
 is_in_place phase job = false
 
 -- a step that needs nothing shown
@@ -137,7 +137,7 @@ abbrev is_plain : {P A : Type 0} → Phase P A → Job → Want → Bool
 is_plain (Stands t) job (Cell step) = true
 is_plain phase job (Device (Sync Cache)) = true
 is_plain phase job (Device (Sync Origin)) = true
-is_plain phase (Open mode) (End answer) = false
+is_plain phase (Open mode second) (End answer) = false
 is_plain phase job (End answer) = true
 is_plain phase job next = false
 
@@ -229,10 +229,10 @@ idle_applies {P} {A} w job e f o d = elim d [
 ]
   where
     placed : (phase : Phase P A) (job : Job) → is_in_place phase job ≡ true → IsOutOfPlace phase job → ⊥
-    placed (Stands t) (Open mode) e out = absurd (let same : not (t.words.fail == 0) ≡ false = ap (λ n. not (n == 0)) out in cc)
+    placed (Stands t) (Open mode second) e out = absurd (let same : not (t.words.fail == 0) ≡ false = ap (λ n. not (n == 0)) out in cc)
     placed (Stands t) (Invalidate block) e out = absurd (cc)
     placed (Stands t) job e out = out tt
-    placed Gone (Open mode) e out = out
+    placed Gone (Open mode second) e out = out
     placed phase job e out = absurd (cc)
 
 module _ {P A : Type 0} (global : Global) (shape : Shape) (w : State P A) where

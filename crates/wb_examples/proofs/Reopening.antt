@@ -58,10 +58,10 @@ root_there m r q some fits same n =
     one_root (spelling r) q r (subst (λ (s : Bytes). SpellsRoot s q) is n.valid.spelled) (spelled_root r fits)
 
 -- metadata that stand quietly by a root without a tree, once a crash has left of them what it will
-pub none_after : (P : Type 0) (g : Geometry) (i : Images) (desk : DeskState P) (m m' : List History) (q : Quiet g i desk m) → q.stored.root.top ≡ None → q.stored.root.top_dirty ≡ None → q.stored.root.generation + 2 < 2 ^ 64 → Crashed m m' → HasNoTree g m'
-none_after P g i desk m m' q top no_bits more crash = record {
+pub none_after : (P : Type 0) (g : Geometry) (i : Images) (desk : DeskState P) (m m' : List History) (q : Quiet g i desk m) → q.stored.root.top ≡ None → q.stored.root.top_dirty ≡ None → q.stored.root.geometry ≡ g → q.stored.root.generation + 2 < 2 ^ 64 → Crashed m m' → HasNoTree g m'
+none_after P g i desk m m' q top no_bits geometry more crash = record {
   root = q.stored.root;
-  geometry_is = q.same;
+  geometry_is = geometry;
   top = top;
   no_bits = no_bits;
   more = more;
@@ -95,7 +95,7 @@ module _ (P A : Type 0) (policy : P) (alloc : A) (mode : Mode) (s : Setting P 0 
   abbrev with_root : List History
   with_root = synced (written (synced metadata) (r.generation % 2) (spelling r))
 
-  module _ (images : Images) (known : AtDesk there.geometry images desk None with_root) (idle : desk.space.committing ≡ false) (top : r.top ≡ None) (no_bits : r.top_dirty ≡ None) (same : desk.generation ≡ r.generation) (later : r.generation + 2 < 2 ^ 64) (size : length metadata ≡ s.sizes.meta_sectors)
+  module _ (images : Images) (known : AtDesk there.geometry images desk None with_root) (idle : desk.space.committing ≡ false) (top : r.top ≡ None) (no_bits : r.top_dirty ≡ None) (same : desk.generation ≡ r.generation) (of : r.geometry ≡ there.geometry) (later : r.generation + 2 < 2 ^ 64) (size : length metadata ≡ s.sizes.meta_sectors)
       (choice : Choice) (cache origin : List History) where
     quiet : Quiet there.geometry images desk with_root
     quiet = elim known.stands [ inl q ↦ q | inr broken ↦ absurd (let busy = broken.busy in cc) ]
@@ -107,10 +107,10 @@ module _ (P A : Type 0) (policy : P) (alloc : A) (mode : Mode) (s : Setting P 0 
     crash_of = Crashed-crashed_from Metadata choice 0 with_root
 
     pub none_there : HasNoTree there.geometry (crashed Metadata choice with_root)
-    none_there = none_after P there.geometry images desk with_root (crashed Metadata choice with_root) quiet (ap (λ (x : Root). x.top) root_is ∙ top) (ap (λ (x : Root). x.top_dirty) root_is ∙ no_bits) (omega (arith, ap (λ (x : Root). x.generation) root_is, later)) crash_of
+    none_there = none_after P there.geometry images desk with_root (crashed Metadata choice with_root) quiet (ap (λ (x : Root). x.top) root_is ∙ top) (ap (λ (x : Root). x.top_dirty) root_is ∙ no_bits) (ap (λ (x : Root). x.geometry) root_is ∙ of) (omega (arith, ap (λ (x : Root). x.generation) root_is, later)) crash_of
 
     pub size_there : length (crashed Metadata choice with_root) ≡ there.geometry.meta_sectors
-    size_there = crash_of.size ∙ quiet.stores.size ∙ ap (λ (g : Geometry). g.meta_sectors) quiet.same
+    size_there = crash_of.size ∙ quiet.stores.size ∙ ap (λ (g : Geometry). g.meta_sectors) (ap (λ (x : Root). x.geometry) root_is ∙ of)
 
     -- what the crash left, of which these are the cache and the origin
     abbrev pub again : Down P A

@@ -29,13 +29,17 @@ use Rattle.wb_meta.specs.Slots.{IsInSlot}
 use Rattle.wb_meta.specs.declared.commit_steps.CommitSteps.TheVariants.{NodesSynced}
 use Rattle.wb_meta.specs.declared.read_steps.ReadSteps.TheVariants.{FirstSlotRead, RootFound, Done as AllRead}
 use Rattle.wb_meta.specs.declared.read_steps.State.{State as Stored}
+use Rattle.wb_meta.specs.Sizes.{AreSameSizes}
+use Rattle.wb_meta.proofs.Sizes.{own_sizes}
+use Rattle.wb_devices.specs.Sizes.{IsServedBy}
+use Rattle.wb_devices.proofs.Alike.{serves_alike}
 use Rattle.wb_meta.proofs.Storing.{Represents-tree, tree_stored}
 use Rattle.wb_meta.proofs.Telling.{told_none}
 use Rattle.wb_meta.proofs.Versions.{first_keeps}
 use Rattle.wb_devices.specs.declared.running.RunningCommit.{RunningCommit}
 use Rattle.wb_devices.specs.Clean.{AreAllClean, IsLeftClean}
 use Rattle.wb_tasks.specs.declared.step.Got.TheVariants.{Done, More}
-use Rattle.wb_promise.specs.Happenings.{Reaches, DoesRead}
+use Rattle.wb_promise.specs.Happenings.{Reaches, DoesRead, IsAsked}
 use Rattle.wb_runs.proofs.Readings.{same_newest}
 use Rattle.wb_examples.proofs.Beginning.{no_node}
 use Rattle.wb_examples.proofs.Marking.{leaf, leaf_place, stored_tree, stored_mapping, one_node, one_level, geometry, root, roomy, top_is}
@@ -113,8 +117,11 @@ module _ (P A : Type 0) (t : Tiny P A) (dirty : Bool) (device : List History) (o
     mapping = λ others there. loads others;
   }
 
+  asks_own : IsAsked (geometry P A t) false (geometry P A t)
+  asks_own = record { sizes_are = own_sizes (geometry P A t); version = λ room. refl }
+
   pub root_read : (mode : Mode) (left : ℕ) (alloc : A) (global : Global) (first : Option Root) → IsInSlot (map newest device) 0 first → 1 ≤ left →
-      DoesRead {P = P} {A = A} mode (geometry P A t) left (FirstSlotRead alloc global first) device None More (Reaches (Some (RootFound global r loader 0)) None)
+      DoesRead {P = P} {A = A} mode (geometry P A t) false left (FirstSlotRead alloc global first) device None More (Reaches (Some (RootFound global r loader 0)) None)
   unfolding IsDistinct
   root_read mode left alloc global first slot some = (
     λ e. absurd (cc),
@@ -122,8 +129,9 @@ module _ (P A : Type 0) (t : Tiny P A) (dirty : Bool) (device : List History) (o
       RootFound global r loader 0,
       finds alloc global first slot,
       (record { size = sym on.size; root_is = refl; used = record { from = tt; to = tt; apart = tt }; told = told_none r loader loads }, refl, refl),
-      inl ((some, refl, (λ known e. let same : r ≡ known = cc in ap (λ (x : Root). x.geometry) (sym same)), refl), λ passes state e. absurd (cc)),
+      (geometry P A t, asks_own, inl ((some, refl, (λ known e. let same : r ≡ known = cc in subst (λ (x : Root). AreSameSizes x.geometry (geometry P A t)) same (own_sizes (geometry P A t))), refl), λ passes state e. absurd (cc))),
       refl,
+      tt,
       tt,
     ),
   )
@@ -178,15 +186,16 @@ module _ (P A : Type 0) (t : Tiny P A) (dirty : Bool) (device : List History) (o
   }
 
   -- in passthrough only where it was left clean
-  pub all_read : (mode : Mode) → (mode ≡ Passthrough → dirty ≡ false) → (left : ℕ) (global : Global) → DoesRead {P = P} {A = A} mode (geometry P A t) left (RootFound global r loader 0) device None Done (Reaches (Some (AllRead stored)) (Some next_commit))
+  pub all_read : (mode : Mode) → (mode ≡ Passthrough → dirty ≡ false) → (left : ℕ) (global : Global) → DoesRead {P = P} {A = A} mode (geometry P A t) false left (RootFound global r loader 0) device None Done (Reaches (Some (AllRead stored)) (Some next_commit))
   all_read mode clean left global = (
     λ e. absurd (cc),
     inl (
       AllRead stored,
       completes global,
-      (fits, omega (arith, roomy P A t, on.size)),
-      inl ((refl, (λ known e. let same : r ≡ known = cc in ap (λ (x : Root). x.geometry) (sym same)), record { is_done = tt; root = r; newest = refl; next = next_commit; commit_is = refl; opens = record { root_is = refl; no_nodes = refl }; steps = refl }), λ passes state e same. let is : stored ≡ state = cc in subst (λ (x : Stored A). IsLeftClean x) is (refl, all_clean dirty (clean passes))),
+      (fits, omega (arith, roomy P A t, on.size), λ first. omega (arith, one_node), λ first. refl),
+      (geometry P A t, asks_own, inl ((refl, (λ known e. let same : r ≡ known = cc in subst (λ (x : Root). IsServedBy x.geometry (geometry P A t)) same (serves_alike (geometry P A t) (geometry P A t) refl)), record { is_done = tt; root = r; newest = refl; next = next_commit; commit_is = refl; opens = record { root_is = refl; no_nodes = refl }; steps = refl }), λ passes state e same. let is : stored ≡ state = cc in subst (λ (x : Stored A). IsLeftClean x) is (refl, all_clean dirty (clean passes)))),
       refl,
       on.more,
+      All-nil _,
     ),
   )

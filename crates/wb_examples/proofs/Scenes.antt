@@ -1,5 +1,5 @@
 -- Where a run is in which the first actor alone is at work over a small shape, how its stretches are put together, and that an opening leads there.
-use Rattle.std.proofs.Common.{Global, IsPermutation, ◌≡◌, ◌≢◌, ◌∙◌, ◌≤◌, ◌*◌, ◌+◌, ℕ, zero, suc, Bool, List, [], ◌∷◌, Option, Some, None, refl, sym, ap, subst, arith, length, map, replicate, is_some}
+use Rattle.std.proofs.Common.{Global, IsPermutation, ◌≡◌, ◌≢◌, ◌∙◌, ◌≤◌, ◌*◌, ◌+◌, ℕ, zero, suc, Bool, List, [], ◌∷◌, Option, Some, None, refl, sym, ap, subst, arith, length, replicate, is_some}
 use Rattle.std.specs.List.{count_by}
 use Rattle.std.proofs.lemmas.List.{append-nil, length-map, length-replicate}
 use Rattle.std.proofs.lemmas.List.Elements.{All-cons, All-nil}
@@ -209,7 +209,7 @@ module _ (P A : Type 0) (more : ℕ) (mode : Mode) (f : Formatted P A more mode)
 
   opened_there : opened P A down_at ≡ opened_at
   opened_there = ap (λ (g : Geometry). record opened_at {
-    phase = Stands (record { words = fresh_words (suc more); desk = opened_desk (geometry_of more f.sizes) setting.generation (empty_mapping g.cache_blocks) [] mode f.policy f.sizes.threshold (count_by is_some (replicate {A = Option Entry} g.cache_blocks None)) });
+    phase = Stands (record { words = fresh_words (suc more); desk = opened_desk g setting.generation (empty_mapping g.cache_blocks) [] mode f.policy f.sizes.threshold (count_by is_some (replicate {A = Option Entry} g.cache_blocks None)) });
   }) (none_then P A down_at).geometry_is
 
   pub known_at : IsKnown P A shape_at opened_at

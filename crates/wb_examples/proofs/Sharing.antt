@@ -156,7 +156,7 @@ module _ (P A : Type 0) (i : Idle P) (others : List Actor) where
 
     module _ (known : IsKnown P A shape (idle P A next)) where
       bare_then : BareDesk P shape.geometry next.desk next.devices.metadata
-      bare_then = record { images = known.images; known = known.known; entries = bare.entries }
+      bare_then = record { images = known.images; known = known.known; geometry = bare.geometry; entries = bare.entries }
 
       may_then : MayBegin next.desk
       may_then = record { idle = refl; next = omega (arith, later) }

@@ -132,7 +132,7 @@ module _ (P A : Type 0) (policy : P) (alloc : A) (s : Setting P 0 Writeback) (me
   reading_leads own = goes_to P A 0 Writeback s _ _ _ ((s.idle, (refl, uncut first_sector (omega arith))) ⨟ (tt, refl, refl, refl, ((_, refl, refl), tt)) ⨟ tt) refl
 
   flush_leads : (own : Own) → IsKnown P A shape0 (at P A 0 Writeback s was_read own) → Leads P A 0 Writeback s (at P A 0 Writeback s was_read own) flush durable
-  flush_leads own known = goes_to P A 0 Writeback s _ _ _ (flushing_may P A (idle_there own) (record { images = known.images; known = known.known; entries = refl }) (record { idle = refl; next = omega (arith, s.later) }) refl s.idle) refl
+  flush_leads own known = goes_to P A 0 Writeback s _ _ _ (flushing_may P A (idle_there own) (record { images = known.images; known = known.known; geometry = refl; entries = refl }) (record { idle = refl; next = omega (arith, s.later) }) refl s.idle) refl
 
   failing_may : (own : Own) → MayGo global shape0 (at P A 0 Writeback s durable own) failing
   failing_may own = (s.idle, (refl, uncut first_sector (omega arith))) ⨟ (may_fail _, (refl, tt)) ⨟ tt
@@ -153,7 +153,7 @@ module _ (P A : Type 0) (policy : P) (alloc : A) (s : Setting P 0 Writeback) (me
     all_there = ap (λ (n : ℕ). suc n) ((Crashed-crashed_from Origin nothing_lands 1 (synced sectors)).size ∙ length-map sectors (λ (h : History). only (newest h)) ∙ many)
 
     abbrev down_then : Down P A
-    down_then = again P A policy alloc Writeback s desk_then (bare_root shape0.geometry (s.generation + 1)) metadata known.images known.known refl refl refl refl later size nothing_lands (crashed Cache nothing_lands (synced cache)) origin_then
+    down_then = again P A policy alloc Writeback s desk_then (bare_root shape0.geometry (s.generation + 1)) metadata known.images known.known refl refl refl refl refl later size nothing_lands (crashed Cache nothing_lands (synced cache)) origin_then
 
     last_stretches : PassesThrough shape0 settled n3 (drop 3 conditions)
     last_stretches = (
@@ -164,7 +164,7 @@ module _ (P A : Type 0) (policy : P) (alloc : A) (s : Setting P 0 Writeback) (me
         played global shape0 (lead settled failing) crash,
         goes_on global shape0 (lead settled failing) crash (may_stop Durable _ ⨟ tt),
         refl,
-        (played global shape0 (down P A down_then) (opening P A down_then), goes_on global shape0 (down P A down_then) (opening P A down_then) (opening_may P A down_then), (tt, again_shown P A policy alloc Writeback s desk_then (bare_root shape0.geometry (s.generation + 1)) metadata known.images known.known refl refl refl refl later size nothing_lands (crashed Cache nothing_lands (synced cache)) origin_then content all_there refl), tt),
+        (played global shape0 (down P A down_then) (opening P A down_then), goes_on global shape0 (down P A down_then) (opening P A down_then) (opening_may P A down_then), (tt, again_shown P A policy alloc Writeback s desk_then (bare_root shape0.geometry (s.generation + 1)) metadata known.images known.known refl refl refl refl refl later size nothing_lands (crashed Cache nothing_lands (synced cache)) origin_then content all_there refl), tt),
       ),
     )
 

@@ -53,6 +53,7 @@ use Rattle.wb_examples.proofs.Reopening.{root_there}
 use Rattle.wb_examples.proofs.Surviving.{Others, notes, doing_at, noted_then, others_then}
 use Rattle.wb_examples.proofs.Marking.{seen_entry, image, leaf_place, leaf_node, leaf_whole, stored_tree, none_changed, s, stood0, root, commit, begins}
 use Rattle.wb_examples.proofs.Desks.{shape}
+use Rattle.wb_examples.proofs.Completing.{room_for_first}
 use Rattle.wb_examples.proofs.Rereading.{StandsOn, loader, stored, root_read, next_commit, all_read}
 
 -- the first block is the one that is mapped
@@ -175,7 +176,7 @@ module _ (P A : Type 0) (t : Tiny P A) (content : Bytes) (d0 : Devices (List His
     -- ---- an opening behind it
 
     abbrev pub starting : Mode → List (Move P A)
-    starting mode = goes 1 (Gets (Open mode) Plain ∷ [])
+    starting mode = goes 1 (Gets (Open mode false) Plain ∷ [])
 
     module _ (own : Own) (known : IsKnown P A shape0 (state (suspended 2) own)) where
       abbrev settled : State P A
@@ -185,7 +186,7 @@ module _ (P A : Type 0) (t : Tiny P A) (content : Bytes) (d0 : Devices (List His
       started mode = ends t.global shape0 settled (starting mode)
 
       pub starts : (mode : Mode) → IsRun shape0 settled (played t.global shape0 settled (starting mode))
-      starts mode = goes_on t.global shape0 settled (starting mode) (((s P A t).idle, tt) ⨟ tt)
+      starts mode = goes_on t.global shape0 settled (starting mode) (((s P A t).idle, room_for_first shape0.geometry) ⨟ tt)
 
       quiet : Quiet shape0.geometry known.images desk_then durable.metadata
       quiet = elim known.known.stands [ inl q ↦ q | inr broken ↦ absurd (let busy = broken.busy in cc) ]
@@ -219,7 +220,7 @@ module _ (P A : Type 0) (t : Tiny P A) (content : Bytes) (d0 : Devices (List His
       next = next_commit P A t dirty read on
 
       pub slot : (first : Option Root) × IsInSlot (map newest read) 0 first
-      slot = some_slot P A Writeback shape0.geometry read (omega (arith, read_size, t.within.meta_from))
+      slot = some_slot P A Writeback shape0.geometry false read (omega (arith, read_size, t.within.meta_from))
 
       abbrev pub opening : List (Move P A)
       opening =
@@ -239,7 +240,7 @@ module _ (P A : Type 0) (t : Tiny P A) (content : Bytes) (d0 : Devices (List His
       pub opens : (mode : Mode) → (mode ≡ Passthrough → dirty ≡ false) → IsRun shape0 (started mode) (played t.global shape0 (started mode) opening)
       opens mode clean = goes_on t.global shape0 (started mode) opening (
           (refl, refl, refl)
-          ⨟ (refl, refl, first_read P A mode shape0.geometry read t.alloc t.global t.meta_sectors slot.0 slot.1 (omega (arith, t.within.meta_from)))
+          ⨟ (refl, refl, first_read P A mode shape0.geometry false read t.alloc t.global t.meta_sectors slot.0 slot.1 (omega (arith, t.within.meta_from)))
           ⨟ (refl, refl, root_read P A t dirty read on mode (t.meta_sectors - 1) t.alloc t.global slot.0 slot.1 (omega (arith, t.within.meta_from)))
           ⨟ (refl, refl, all_read P A t dirty read on mode clean (t.meta_sectors - 1 - 1) t.global)
           ⨟ (refl, refl, (comes_next next read NodesSynced WriteRoot read_size refl refl, root_does next read on.more refl))

@@ -144,11 +144,14 @@ module _ (P A : Type 0) (f : Formatted P A 0 Writethrough) (content : Bytes) whe
     top : first_root.top ≡ None
     top = (none_then P A (down_at P A 0 Writethrough f)).top
 
+    first_sizes : first_root.geometry ≡ shape_here.geometry
+    first_sizes = (none_then P A (down_at P A 0 Writethrough f)).geometry_is
+
     later : first_root.generation + 2 < 2 ^ 64
     later = omega (arith, s.later)
 
     abbrev down_then : Down P A
-    down_then = again P A f.policy f.alloc Writethrough s (stood P 0 Writethrough s) first_root f.metadata known.images known.known refl top refl refl later f.size all_lands cache_left origin_left
+    down_then = again P A f.policy f.alloc Writethrough s (stood P 0 Writethrough s) first_root f.metadata known.images known.known refl top refl refl first_sizes later f.size all_lands cache_left origin_left
 
     last_stretches : (n : Notes) → PassesThrough shape_here (there own) n (drop 1 (to_write_half shape_here content))
     last_stretches n = (
@@ -158,7 +161,7 @@ module _ (P A : Type 0) (f : Formatted P A 0 Writethrough) (content : Bytes) whe
       (
         played f.global shape_here (down P A down_then) (opening P A down_then),
         goes_on f.global shape_here (down P A down_then) (opening P A down_then) (opening_may P A down_then),
-        (refl, again_shown P A f.policy f.alloc Writethrough s (stood P 0 Writethrough s) first_root f.metadata known.images known.known refl top refl refl later f.size all_lands cache_left origin_left content refl refl),
+        (refl, again_shown P A f.policy f.alloc Writethrough s (stood P 0 Writethrough s) first_root f.metadata known.images known.known refl top refl refl first_sizes later f.size all_lands cache_left origin_left content refl refl),
         tt,
       ),
     )

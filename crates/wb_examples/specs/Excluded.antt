@@ -66,7 +66,7 @@ abbrev pub having_entered : List Position → Doing
 having_entered positions = record (at_job (Write first_sector newer)) { entered = positions }
 
 abbrev pub opening : List Dev → Doing
-opening failed = record (at_job (Open Writeback)) { failed = failed }
+opening failed = record (at_job (Open Writeback false)) { failed = failed }
 
 -- its answer is right, where this is shown after it
 abbrev pub IsAnsweredRightly : ℕ → Doing → Answer → List Bytes → Type 0

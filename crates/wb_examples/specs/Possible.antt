@@ -312,7 +312,7 @@ to_suspend shape content =
     (λ w n. IsPromoted w)
     ∷ (λ w n. IsWrittenTo content w × IsSealed true w)
     ∷ (λ w n. AboutToAnswer Suspend w × IsStored true w × IsFloorAt 0 n)
-    ∷ (λ w n. FirstIsAt (Open Writeback) w × IsFloorAt 1 n)
+    ∷ (λ w n. FirstIsAt (Open Writeback false) w × IsFloorAt 1 n)
     ∷ (λ w n. IsSealed true w × StandsIn Writeback w × (slice_get (shown shape w) 0 ≡ Some content))
     ∷ []
 

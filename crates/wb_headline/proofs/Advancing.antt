@@ -204,7 +204,7 @@ module _ (P A : Type 0) (shape : Shape) (images : Images) (t : Target P) (commit
         let so = parts step coming s' g.desk g.turned in
         let u = led_on shape.geometry images c l.of devices.metadata new l.under does in
         let same : u.now.committed ≡ images.committed = ap (λ (i : Images). i.committed) u.kept.are ∙ committed_now in
-        let known' : AtDesk shape.geometry u.now t.desk (Some c') new = record { is = k.is; stands = record { of = l.of; under = u.kept; edited = l.edited; places = l.places; generation = l.generation; busy = l.busy } } in
+        let known' : AtDesk shape.geometry u.now t.desk (Some c') new = record { is = k.is; stands = record { of = l.of; under = u.kept; edited = l.edited; places = l.places; same = l.same; generation = l.generation; busy = l.busy } } in
         let readable = kept_readable shape.geometry u.now new P A (Stands t) (Some c') known' in
         let runs_now = f.phase.running l.of.new running_now in
         let there : s'.running ≡ locations l.of.new = so.3 ∙ runs_now.0 in

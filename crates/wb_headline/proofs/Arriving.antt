@@ -1,5 +1,5 @@
 -- Where no target stands after it, an event of the abstract world tells its clerk nothing and leads to a site that agrees; so a crash is followed.
-use Rattle.std.proofs.Common.{◌≡◌, ◌≢◌, ◌∙◌, ℕ, Option, Some, None, refl, sym, ap, subst, length, slice_get, ◌⊎◌, List}
+use Rattle.std.proofs.Common.{◌≡◌, ◌≢◌, ◌∙◌, ℕ, Option, Some, None, refl, sym, ap, subst, length, slice_get, List}
 use Rattle.std.proofs.lemmas.List.{length-replicate, length-map}
 use Rattle.wb_types.specs.declared.mode.Mode.{Mode}
 use Rattle.wb_link.specs.Tables.{Script}
@@ -26,7 +26,7 @@ use Rattle.wb_disk.proofs.Crashes.{Crashed-crashed_from}
 use Rattle.wb_promise.specs.Effects.{all_crashed, after_crash, all_resting}
 use Rattle.wb_simulation.proofs.Opening.{openings_followed}
 use Rattle.wb_headline.proofs.Events.{Reached, event_reaches}
-use Rattle.wb_headline.proofs.Following.{AtStage, IsOver, many, size, Sized, DevicesFollow, PhaseFollows, Followed, Goes}
+use Rattle.wb_headline.proofs.Following.{IsFollowed, many, size, Sized, DevicesFollow, PhaseFollows, Followed, Goes}
 
 -- it leaves nobody at anything, and nothing is noted of it
 pub record Quietens (v : Site) (e : Event) (m : AbstractNotes) : Type 0 where
@@ -138,7 +138,7 @@ module _ (P A : Type 0) (shape : Shape) where
 
     -- an opening is at work
     pub opens : (mode : Mode) (reading : Option (ReadSteps A)) (commit : Option RunningCommit) → MetadataKept {P = P} {A = A} shape.geometry images (Opens mode reading) commit devices.metadata →
-        ((a : ℕ) (x : Actor) (job : Job) (plan : Plan) → slice_get actors a ≡ Some x → x.task ≡ Some (job, plan) → AtStage mode reading commit later plan phase ⊎ IsOver plan phase) →
+        ((a : ℕ) (x : Actor) (job : Job) (plan : Plan) → slice_get actors a ≡ Some x → x.task ≡ Some (job, plan) → IsFollowed mode reading commit later plan phase) →
         Goes P A shape (record { devices = devices; commit = commit; phase = Opens mode reading; actors = actors }) n
     opens mode reading commit known each = record {
       images = images;
@@ -153,7 +153,7 @@ module _ (P A : Type 0) (shape : Shape) where
         phase = record {
           later = later;
           devices_follow = follow;
-          each = λ a x job plan e t. subst (λ (p : PhaseThere). AtStage mode reading commit later plan p ⊎ IsOver plan p) (sym r.phase_is) (each a x job plan e t);
+          each = λ a x job plan e t. subst (λ (p : PhaseThere). IsFollowed mode reading commit later plan p) (sym r.phase_is) (each a x job plan e t);
         };
       };
     }

@@ -75,7 +75,7 @@ module _ (sectors : ℕ) where
   device_each shape mode n a doing job step got read all l r = put_each n.doings a doing all l
 
   finished_each : (n : Notes) (a : ℕ) (doing : Doing) (job : Job) (shown : List Bytes) → AllNotedSo n.doings → AllNotedSo (finished_note n a doing job shown).doings
-  finished_each n a doing (Open mode) shown all = λ b d e. absurd (let same : ◌≡◌ {A = Option Doing} None (Some d) = replicated (length n.doings) b None (Some d) e in cc)
+  finished_each n a doing (Open mode second) shown all = λ b d e. absurd (let same : ◌≡◌ {A = Option Doing} None (Some d) = replicated (length n.doings) b None (Some d) e in cc)
   finished_each n a doing job shown all = none_each n.doings a all
 
   step_each : (shape : Shape) (mode : Mode) (shown : List Bytes) (n : Notes) (a : ℕ) (o : Option (Option Doing)) (next : Want) (got : Got) (read : List Bytes) → slice_get n.doings a ≡ o → AllNotedSo n.doings → ((doing : Doing) (step : DeviceStep) → o ≡ Some (Some doing) → next ≡ Device step → Gave shape n doing.job step got read) →
@@ -86,7 +86,7 @@ module _ (sectors : ℕ) where
   step_each shape mode shown n a o next got read e all r = all
 
   starting_each : (n : Notes) (job : Job) → AllNotedSo n.doings → AllNotedSo (starting n job).doings
-  starting_each n (Open mode) all = nobody_each n.doings
+  starting_each n (Open mode second) all = nobody_each n.doings
   starting_each n job all = all
 
   module _ (shape : Shape) (mode : Mode) (shown : List Bytes) (n : Notes) (read : List Bytes) (sized : length n.finished ≡ sectors) (all : AllNotedSo n.doings) where

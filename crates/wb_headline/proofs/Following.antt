@@ -1,5 +1,5 @@
 -- A state of a run, with its clerk's notes, and the site of the abstract world that follows it.
-use Rattle.std.proofs.Common.{◌≡◌, ◌≢◌, ◌⊎◌, ℕ, Bool, false, List, [], ◌∷◌, Option, Some, None, length, slice_get}
+use Rattle.std.proofs.Common.{◌≡◌, ◌≢◌, ◌++◌, ◌⊎◌, ℕ, Bool, false, List, [], ◌∷◌, Option, Some, None, length, slice_get}
 use Rattle.wb_types.specs.declared.mode.Mode.{Mode}
 use Rattle.wb_types.specs.declared.mode.Dev.TheVariants.{Metadata, Cache, Origin}
 use Rattle.wb_disk.specs.Device.{History}
@@ -9,7 +9,7 @@ use Rattle.wb_meta.specs.declared.read_steps.ReadSteps.TheVariants.{Done as AllR
 use Rattle.wb_meta.specs.declared.read_steps.State.{State as StoredThere}
 use Rattle.wb_devices.specs.Clean.{entries_of}
 use Rattle.wb_tasks.specs.Tables.{Opening}
-use Rattle.wb_tasks.specs.Plan.{Plan}
+use Rattle.wb_tasks.specs.Plan.{Plan, node_writes, opening_root}
 use Rattle.wb_tasks.specs.declared.step.Answer.TheVariants.{Done as Finished}
 use Rattle.wb_tasks.specs.declared.step.DeviceStep.TheVariants.{Sync, ReadMetadata, WriteRoot}
 use Rattle.wb_tasks.specs.declared.step.Want.{Want}
@@ -23,6 +23,7 @@ use Rattle.wb_promise.specs.Clerk.{Notes}
 use Rattle.wb_promise.specs.Happenings.{most_for}
 use Rattle.wb_runs.proofs.Images.{Images, later_of}
 use Rattle.wb_runs.proofs.Metadata.{MetadataKept}
+use Rattle.wb_runs.proofs.Underway.{is_written}
 use Rattle.wb_link.specs.World.{AbstractActor}
 use Rattle.wb_link.specs.Clerk.{AbstractNotes}
 use Rattle.wb_link.specs.Openings.{Site, AbstractPhase as PhaseThere, Stands as StandsThere, Gone as GoneThere, Opens as OpensThere, Learnt, Stage, Settling, Caching, Basing, Looking, Rooting, Renewing, Answering}
@@ -78,11 +79,31 @@ pub record AtStage {A : Type 0} (mode : Mode) (reading : Option (ReadSteps A)) (
   pub phase_is : phase ≡ OpensThere mode stage
   pub read : HasReadAt stage reading commit later
 
+-- What is left of it where metadata are written anew: so many nodes, the sync behind them, and the root.
+abbrev pub anew_at : (total count first : ℕ) → Plan
+anew_at total count first = record { job = Opening total; steps = node_writes count first ++ Device (Sync Metadata) ∷ opening_root; answer = Finished }
+
+-- The abstract one is then at its root, and nothing was written there.
+pub record AtNodes {A : Type 0} (mode : Mode) (reading : Option (ReadSteps A)) (commit : Option RunningCommit) (later : Option Stored) (plan : Plan) (phase : PhaseThere) : Type 0 where
+  pub total : ℕ
+  pub count : ℕ
+  pub first : ℕ
+  pub learnt : Learnt
+  pub is : plan ≡ anew_at total count first
+  pub phase_is : phase ≡ OpensThere mode (Rooting learnt)
+  pub read : HasLearnt reading commit learnt
+  pub unwritten : is_written read.running.steps ≡ false
+  pub alone : later ≡ None
+
 -- Refused, it has only to answer, and the abstract one is over.
 pub record IsOver (plan : Plan) (phase : PhaseThere) : Type 0 where
   pub nothing : plan.steps ≡ []
   pub refused : plan.answer ≢ Finished
   pub phase_is : phase ≡ GoneThere
+
+-- So it is of who opens.
+abbrev pub IsFollowed : {A : Type 0} → Mode → Option (ReadSteps A) → Option RunningCommit → Option Stored → Plan → PhaseThere → Type 0
+IsFollowed mode reading commit later plan phase = AtStage mode reading commit later plan phase ⊎ AtNodes mode reading commit later plan phase ⊎ IsOver plan phase
 
 -- ---- a state
 
@@ -135,7 +156,7 @@ module _ (P A : Type 0) (shape : Shape) where
   pub record OpeningFollows (images : Images) (mode : Mode) (reading : Option (ReadSteps A)) (commit : Option RunningCommit) (devices : Devices (List History)) (actors : List Actor) (v : Site) : Type 0 where
     pub later : Option Stored
     pub devices_follow : DevicesFollow images later devices v
-    pub each : (a : ℕ) (x : Actor) (job : Job) (plan : Plan) → slice_get actors a ≡ Some x → x.task ≡ Some (job, plan) → AtStage mode reading commit later plan v.phase ⊎ IsOver plan v.phase
+    pub each : (a : ℕ) (x : Actor) (job : Job) (plan : Plan) → slice_get actors a ≡ Some x → x.task ≡ Some (job, plan) → IsFollowed mode reading commit later plan v.phase
 
   abbrev pub PhaseFollows : Images → Phase P A → Option RunningCommit → Devices (List History) → List Actor → Site → Type 0
   PhaseFollows images (Stands t) commit devices actors v = TargetFollows images t devices actors v

@@ -6,7 +6,6 @@ use Rattle.std.proofs.lemmas.Bool.{cases_eq}
 use Rattle.std.proofs.lemmas.List.Elements.{Contains-append_cases, Contains-append_left, Contains-append_right}
 use Rattle.wb_types.proofs.Lists.{set_cases}
 use Rattle.wb_types.specs.declared.entry.Entry.{Entry}
-use Rattle.wb_types.specs.declared.geometry.Geometry.{Geometry}
 use Rattle.wb_types.specs.declared.number.OBlock.{OBlock}
 use Rattle.wb_types.specs.declared.number.CBlock.{CBlock}
 use Rattle.wb_types.specs.declared.refusal.Refusal.{Refusal}
@@ -471,7 +470,7 @@ module _ (P A : Type 0) (shape : Shape) (images : Images) (t : Target P) (commit
           by_job (Invalidate block) jt = of_it (doing (Invalidate block) jt).part.block.0 (doing (Invalidate block) jt).of_block
           by_job Flush jt = (let r = doing Flush jt in absurd (own (Flushing r.blocks (most P A shape false)) (Cell (Seal b place dirty)) r.job is_seal))
           by_job Suspend jt = (let r = doing Suspend jt in absurd (own (Suspending r.blocks (most P A shape true)) (Cell (Seal b place dirty)) r.job is_seal))
-          by_job (Open mode) jt = absurd (doing (Open mode) jt)
+          by_job (Open mode second) jt = absurd (doing (Open mode second) jt)
           by_job (Migrate m block) jt =
               let c = carried now shape.geometry.origin_blocks f.site.world f.phase.agrees a x m block plan ex jt suits (Cell (Seal b place dirty)) is_seal tt in
               of_it c.part.block.0 c.of_block
@@ -609,7 +608,7 @@ module _ (P A : Type 0) (shape : Shape) (images : Images) (t : Target P) (commit
         let first = begins_by plan (Desk (Unmap bl)) (sym e) (λ v q. absurd (cc)) in
         let r' : IsSealed bl None first.0 × SealsRight None first.0 = subst (λ (us : List Want). SealsRight (place_of t.desk.tree.entries bl.0) us) first.1 (right job plan xt Own bl holds) in
         let inside = (mapped_within unknowing t.desk bl.0 c known.is.kept gone.1).1 in
-        moved job plan xt (Unmap bl) e bl None new (subst (λ (g : Geometry). bl.0 < g.origin_blocks) known.is.geometry inside) holds here
+        moved job plan xt (Unmap bl) e bl None new (subst (λ (blocks : ℕ). bl.0 < blocks) known.is.sizes.origin_blocks inside) holds here
         (λ i not. ap (λ (es : List (Option Entry)). place_of es i) gone.2.entries ∙ sym (left i) ∙ changed_other (located t.desk.tree.entries) bl.0 i None not)
         (λ answer. subst (λ (us : List Want). (dirty : Bool) × (first_step (later_steps us) answer ≡ Cell (Seal bl None dirty))) (sym first.1) (sealed_next bl None first.0 answer r'.0))
         (subst (λ (o : Option ℕ). SealsRight o (after plan Done).steps) here (subst (λ (us : List Want). SealsRight None (later_steps us)) (sym first.1) r'.1))
@@ -645,7 +644,7 @@ module _ (P A : Type 0) (shape : Shape) (images : Images) (t : Target P) (commit
         let first = begins_by plan (Desk (Map bl c)) (sym e) (λ v q. absurd (cc)) in
         let r : IsSealed bl (Some c) first.0 × SealsRight (Some c.0) first.0 = subst (λ (us : List Want). SealsRight (place_of t.desk.tree.entries bl.0) us) first.1 (right job plan xt Own bl holds) in
         let inside = named_inside unknowing t.desk c.0 bl.0 en.live known.is.kept are en.there en.named in
-        moved job plan xt (Map bl c) e bl (Some c) new (subst (λ (g : Geometry). bl.0 < g.origin_blocks) known.is.geometry inside) holds here
+        moved job plan xt (Map bl c) e bl (Some c) new (subst (λ (blocks : ℕ). bl.0 < blocks) known.is.sizes.origin_blocks inside) holds here
         (λ i not. ap (λ (es : List (Option Entry)). place_of es i) changed.entries ∙ sym (entered i) ∙ changed_other (located t.desk.tree.entries) bl.0 i (Some c.0) not)
         (λ answer. subst (λ (us : List Want). (dirty : Bool) × (first_step (later_steps us) answer ≡ Cell (Seal bl (Some c) dirty))) (sym first.1) (sealed_next bl (Some c) first.0 answer r.0))
         (subst (λ (o : Option ℕ). SealsRight o (after plan Done).steps) here (subst (λ (us : List Want). SealsRight (Some c.0) (later_steps us)) (sym first.1) r.1))
@@ -663,7 +662,7 @@ module _ (P A : Type 0) (shape : Shape) (images : Images) (t : Target P) (commit
           let first = begins_by plan (Desk (Unmap bl)) (sym e) (λ v q. absurd (cc)) in
           let r' : IsSealed bl None first.0 × SealsRight None first.0 = subst (λ (us : List Want). SealsRight (place_of t.desk.tree.entries bl.0) us) first.1 (right job plan xt Own bl holds) in
           let inside = (mapped_within unknowing t.desk bl.0 c known.is.kept at).1 in
-          moved job plan xt (Unmap bl) e bl None new (subst (λ (g : Geometry). bl.0 < g.origin_blocks) known.is.geometry inside) holds here
+          moved job plan xt (Unmap bl) e bl None new (subst (λ (blocks : ℕ). bl.0 < blocks) known.is.sizes.origin_blocks inside) holds here
           (λ i not. ap (λ (es : List (Option Entry)). place_of es i) gone.0.entries ∙ sym (left i) ∙ changed_other (located t.desk.tree.entries) bl.0 i None not)
           (λ answer. subst (λ (us : List Want). (dirty : Bool) × (first_step (later_steps us) answer ≡ Cell (Seal bl None dirty))) (sym first.1) (sealed_next bl None first.0 answer r'.0))
           (subst (λ (o : Option ℕ). SealsRight o (after plan Done).steps) here (subst (λ (us : List Want). SealsRight None (later_steps us)) (sym first.1) r'.1))

@@ -56,7 +56,6 @@ use Rattle.wb_simulation.specs.Actors.{IsAmong, IsAmongOthers, AreAmongOthers}
 use Rattle.wb_simulation.proofs.Opened.{found_at}
 use Rattle.wb_tree.specs.declared.image.Image.{Image}
 use Rattle.wb_tree.specs.Mapping.{Mapping}
-use Rattle.wb_types.specs.declared.geometry.Geometry.{Geometry}
 use Rattle.wb_types.specs.declared.refusal.Refusal.{Refusal}
 use Rattle.wb_words.specs.declared.step.CellStep.TheVariants.{Look}
 use Rattle.wb_words.specs.declared.word.Word.TheVariants.{Fail}
@@ -123,7 +122,7 @@ suspend_gives_done P A shape w x t (Sync Metadata) got read chosen p g = g.1
 suspend_gives_done P A shape w x t (Sync device) got read chosen p g = g.1
 suspend_gives_done P A shape w x t (WriteNode number) got read chosen p g = g.1
 suspend_gives_done P A shape w x t WriteRoot got read chosen p g = g.1
-suspend_gives_done P A shape w x t (ReadMetadata left) got read chosen p g = absurd (subst (λ (q : Phase P A). OfReading q (λ mode was. DoesRead mode shape.geometry left was w.devices.metadata w.commit got chosen)) p g.2)
+suspend_gives_done P A shape w x t (ReadMetadata left) got read chosen p g = absurd (subst (λ (q : Phase P A). OfReading q (λ mode was. DoesRead mode shape.geometry false left was w.devices.metadata w.commit got chosen)) p g.2)
 suspend_gives_done P A shape w x t step got read chosen p g = absurd g
 
 -- who is at nothing has no task
@@ -179,7 +178,7 @@ module _ (P A : Type 0) (shape : Shape) (images : Images) (t : Target P) (commit
           let inside = found.3 in
           let is = found.2 in
           let size_is = known.is.kept.mapping.size in
-          let same = ap (λ (g : Geometry). g.cache_blocks) known.is.geometry in
+          let same = known.is.sizes.cache_blocks in
           (omega (arith, inside, is, size_is, same), are.all block c (mapped_there P t.desk known.is.kept block.0 c at))
 
       by_job : (job : Job) (chosen : Chosen P A) → StartsAs shape w a job Started chosen → Keeping (phase_given {P = P} {A = A} (Stands t) job chosen) (slice_set actors a (given shape t.desk.mode x job chosen))

@@ -1,5 +1,5 @@
 -- One recursion over a run: what each kind of event leads to, and that every answer on the way is right.
-use Rattle.std.proofs.Common.{false, true, arith, ◌≡◌, ◌∙◌, inl, inr, ℕ, List, [], ◌∷◌, Option, Some, None, All, refl, sym, ap, subst, length, slice_get, slice_set}
+use Rattle.std.proofs.Common.{Bool, false, true, arith, ◌≡◌, ◌∙◌, inl, inr, ℕ, List, [], ◌∷◌, Option, Some, None, All, refl, sym, ap, subst, length, slice_get, slice_set}
 use Rattle.wb_types.specs.declared.mode.Mode.{Mode}
 use Rattle.wb_types.specs.declared.mode.Mode.TheVariants.{Writeback, Writethrough, Passthrough}
 use Rattle.wb_types.specs.declared.refusal.Refusal.{Refusal}
@@ -90,18 +90,18 @@ module _ (P A : Type 0) (shape : Shape) where
         by_job (Invalidate block) xt d g = invalidation_steps P A shape b.goes.images t commit devices actors n b.goes.known b.goes.followed b.used.here a x ex plan suits d.doing d.is block xt d.job_is next got read chosen e g
         by_job Flush xt d g = commit_steps P A shape b.goes.images t commit devices actors n b.goes.known b.goes.followed b.used.here b.used.suited b.keeping a x ex plan d.doing d.is suits false xt d.job_is next got read chosen (asked d.doing d.is) e g
         by_job Suspend xt d g = commit_steps P A shape b.goes.images t commit devices actors n b.goes.known b.goes.followed b.used.here b.used.suited b.keeping a x ex plan d.doing d.is suits true xt d.job_is next got read chosen (asked d.doing d.is) e g
-        by_job (Open mode) xt d g = absurd (subst (λ (o : Option (Job × Plan)). TaskHere {P = P} {A = A} (Stands t) o) xt (b.linked.here a x ex))
+        by_job (Open mode second) xt d g = absurd (subst (λ (o : Option (Job × Plan)). TaskHere {P = P} {A = A} (Stands t) o) xt (b.linked.here a x ex))
         by_job (Migrate migration block) xt d g = any_step P A shape t commit devices actors n b a x migration block plan d.doing ex xt d.is d.job_is next got read chosen e g
         by_job (Replace old new) xt d g = absurd (never_replaces P A shape b.goes.images t commit devices actors n b.goes.known b.goes.followed a x ex old new plan xt)
     step_by_phase Gone b job plan xt d next got read chosen e g = absurd (subst (λ (o : Option (Job × Plan)). TaskHere {P = P} {A = A} Gone o) xt (b.linked.here a x ex))
     step_by_phase (Opens mode reading) b job plan xt d next got read chosen e g = by_job job xt d g (subst (λ (o : Option (Job × Plan)). TaskHere {P = P} {A = A} (Opens mode reading) o) xt (b.linked.here a x ex))
       where
-        keeps : (m : Mode) → x.task ≡ Some (Open m, plan) → (v : Want) → v ≡ want plan → Gives shape (in_phase (Opens mode reading)) x (Open m) v got read chosen → Keeps (Opens mode reading) v got chosen
-        keeps m jt (End answer) e g = opening_keeps P A shape b.goes.images devices commit mode reading actors n b.goes.known b.goes.followed b.linked.alone b.keeping a x ex m plan jt b.inside.cache b.inside.origin got read answer chosen e g
-        keeps m jt v e g = none_goes P A shape (Opens mode reading) devices actors a x v got ex b.keeping
+        keeps : (m : Mode) (second : Bool) → x.task ≡ Some (Open m second, plan) → (v : Want) → v ≡ want plan → Gives shape (in_phase (Opens mode reading)) x (Open m second) v got read chosen → Keeps (Opens mode reading) v got chosen
+        keeps m second jt (End answer) e g = opening_keeps P A shape b.goes.images devices commit mode reading actors n b.goes.known b.goes.followed b.linked.alone b.keeping a x ex m second plan jt b.inside.cache b.inside.origin got read answer chosen e g
+        keeps m second jt v e g = none_goes P A shape (Opens mode reading) devices actors a x v got ex b.keeping
 
         by_job : (job : Job) → x.task ≡ Some (job, plan) → (d : Noted shape Writeback job plan (slice_get n.doings a)) → Gives shape (in_phase (Opens mode reading)) x job next got read chosen → InPhase {P = P} {A = A} (Opens mode reading) job → Stepped_to P A shape (in_phase (Opens mode reading)) n a x job next got read chosen d.doing × Keeps (Opens mode reading) next got chosen
-        by_job (Open m) xt d g h = (opening_steps P A shape b.goes.images devices commit mode reading actors n b.goes.known b.goes.followed b.linked.alone b.keeping a x ex m d.doing d.job_is b.inside.cache b.inside.origin plan xt (Open m) x.buffer next got read chosen e g, keeps m xt next e g)
+        by_job (Open m second) xt d g h = (opening_steps P A shape b.goes.images devices commit mode reading actors n b.goes.known b.goes.followed b.linked.alone b.keeping a x ex m second d.doing d.job_is b.inside.cache b.inside.origin plan xt (Open m second) x.buffer next got read chosen e g, keeps m second xt next e g)
         by_job job xt d g h = absurd h
 
     keep_fault : (phase : Phase P A) → Whole P A shape (in_phase phase) n → (job : Job) (plan : Plan) → x.task ≡ Some (job, plan) → (choice : Choice) (next : Want) (chosen : Chosen P A) → next ≡ want plan → MayFailAt devices choice next → Keeps phase next Fault chosen
@@ -125,14 +125,14 @@ module _ (P A : Type 0) (shape : Shape) where
         by_job (Invalidate block) xt d = invalidation_faults P A shape b.goes.images t commit devices actors n b.goes.known b.goes.followed b.used.here a x ex plan suits d.doing d.is block xt d.job_is choice next read chosen e m
         by_job Flush xt d = commit_faults P A shape b.goes.images t commit devices actors n b.goes.known b.goes.followed b.used.here b.used.suited b.keeping a x ex plan d.doing d.is suits false xt d.job_is choice next read chosen e m g
         by_job Suspend xt d = commit_faults P A shape b.goes.images t commit devices actors n b.goes.known b.goes.followed b.used.here b.used.suited b.keeping a x ex plan d.doing d.is suits true xt d.job_is choice next read chosen e m g
-        by_job (Open mode) xt d = absurd (subst (λ (o : Option (Job × Plan)). TaskHere {P = P} {A = A} (Stands t) o) xt (b.linked.here a x ex))
+        by_job (Open mode second) xt d = absurd (subst (λ (o : Option (Job × Plan)). TaskHere {P = P} {A = A} (Stands t) o) xt (b.linked.here a x ex))
         by_job (Migrate migration block) xt d = any_fault P A shape t commit devices actors n b a x migration block plan d.doing ex xt d.is d.job_is choice next read chosen e m g
         by_job (Replace old new) xt d = absurd (never_replaces P A shape b.goes.images t commit devices actors n b.goes.known b.goes.followed a x ex old new plan xt)
     fault_by_phase Gone b job plan xt d choice next read chosen e m g = absurd (subst (λ (o : Option (Job × Plan)). TaskHere {P = P} {A = A} Gone o) xt (b.linked.here a x ex))
     fault_by_phase (Opens mode reading) b job plan xt d choice next read chosen e m g = by_job job xt d (subst (λ (o : Option (Job × Plan)). TaskHere {P = P} {A = A} (Opens mode reading) o) xt (b.linked.here a x ex))
       where
         by_job : (job : Job) → x.task ≡ Some (job, plan) → (d : Noted shape Writeback job plan (slice_get n.doings a)) → InPhase {P = P} {A = A} (Opens mode reading) job → Faulted_to P A shape (in_phase (Opens mode reading)) n a x choice job next read chosen d.doing
-        by_job (Open md) xt d h = opening_faults P A shape b.goes.images devices commit mode reading actors n b.goes.known b.goes.followed b.linked.alone b.keeping a x ex md d.doing d.job_is b.inside.cache b.inside.origin plan xt (Open md) x.buffer choice next read chosen e g
+        by_job (Open md second) xt d h = opening_faults P A shape b.goes.images devices commit mode reading actors n b.goes.known b.goes.followed b.linked.alone b.keeping a x ex md second d.doing d.job_is b.inside.cache b.inside.origin plan xt (Open md second) x.buffer choice next read chosen e g
         by_job job xt d h = absurd h
 
   -- whoever has a task does its next step, done or failing
@@ -160,9 +160,9 @@ module _ (P A : Type 0) (shape : Shape) where
   abbrev Begun_to : State P A → Notes → ℕ → Job → Chosen P A → Type 0
   Begun_to w n a job chosen = Onward (started shape w a job chosen) (put (starting n job) a (Some (begun n (begun_as job))))
 
-  start_opening : (w : State P A) (n : Notes) → Whole P A shape w n → (a : ℕ) (x : Actor) (mode : Mode) (chosen : Chosen P A) → slice_get w.actors a ≡ Some x → (¬ IsOutOfPlace w.phase (Open mode)) → Begun_to w n a (Open mode) chosen
-  start_opening w n b a x mode chosen ex place = put_there (cleared w (Open mode)) (put (starting n (Open mode)) a (Some (begun n (Open mode)))) a resting (Open mode) chosen (there_rests w.actors a x ex)
-      (opening_starts P A shape b.goes.images w n b.goes.known b.goes.followed a mode (given shape Writeback resting (Open mode) chosen) place refl, none_set (all_resting w.actors) a (given shape Writeback resting (Open mode) chosen) (λ order h. absurd (omega (arith, h.1))) (none_rest w.actors))
+  start_opening : (w : State P A) (n : Notes) → Whole P A shape w n → (a : ℕ) (x : Actor) (mode : Mode) (second : Bool) (chosen : Chosen P A) → slice_get w.actors a ≡ Some x → (¬ IsOutOfPlace w.phase (Open mode second)) → Begun_to w n a (Open mode second) chosen
+  start_opening w n b a x mode second chosen ex place = put_there (cleared w (Open mode second)) (put (starting n (Open mode second)) a (Some (begun n (Open mode second)))) a resting (Open mode second) chosen (there_rests w.actors a x ex)
+      (opening_starts P A shape b.goes.images w n b.goes.known b.goes.followed a mode second (given shape Writeback resting (Open mode second) chosen) place refl, none_set (all_resting w.actors) a (given shape Writeback resting (Open mode second) chosen) (λ order h. absurd (omega (arith, h.1))) (none_rest w.actors))
 
   module _ (t : Target P) (commit : Option RunningCommit) (devices : Devices (List History)) (actors : List Actor) (n : Notes) (b : Whole P A shape (at_target P A shape t commit devices actors) n) (a : ℕ) (x : Actor) (ex : slice_get actors a ≡ Some x) (xt : x.task ≡ None) where
     abbrev w_now : State P A
@@ -181,7 +181,7 @@ module _ (P A : Type 0) (shape : Shape) where
       its job chosen g = subst (λ (o : Option Actor). StartGives shape (Stands t) o job Started chosen) ex g
 
       start_at_target : (job : Job) (chosen : Chosen P A) → (¬ IsOutOfPlace {P = P} {A = A} (Stands t) job) → StartsAs shape w_now a job Started chosen → Begun_to w_now n a job chosen
-      start_at_target (Open mode) chosen place g = start_opening w_now n b a x mode chosen ex place
+      start_at_target (Open mode second) chosen place g = start_opening w_now n b a x mode second chosen ex place
       start_at_target (Read extent) (Cut cut) place g = goes_and (Read extent) (Cut cut) g (read_starts P A shape b.goes.images t commit devices actors n b.goes.known b.goes.followed a x ex xt extent cut among holds_none g.0 g.1)
       start_at_target (Write extent content) (Cut cut) place g = goes_and (Write extent content) (Cut cut) g (write_starts P A shape b.goes.images t commit devices actors n b.goes.known b.goes.followed a x ex xt extent content cut among holds_none g.0 g.1)
       start_at_target (Invalidate block) Plain place g = goes_and (Invalidate block) Plain g (invalidation_starts P A shape b.goes.images t commit devices actors n b.goes.known b.goes.followed a x ex xt block among holds_none (passes place))
@@ -217,7 +217,7 @@ module _ (P A : Type 0) (shape : Shape) where
   start_by_phase w (Stands t) e n b a x job chosen ex xt alone place g =
       let is : record { devices = w.devices; commit = w.commit; phase = Stands t; actors = w.actors } ≡ w = λ i. record w { phase = sym e i } in
       subst (λ (v : State P A). Begun_to v n a job chosen) is (start_at_target t w.commit w.devices w.actors n (subst (λ (v : State P A). Whole P A shape v n) (sym is) b) a x ex xt (all_among w alone) job chosen place (subst (λ (v : State P A). StartsAs shape v a job Started chosen) (sym is) g))
-  start_by_phase w phase e n b a x (Open mode) chosen ex xt alone place g = start_opening w n b a x mode chosen ex (subst (λ (p : Phase P A). ¬ IsOutOfPlace p (Open mode)) (sym e) place)
+  start_by_phase w phase e n b a x (Open mode second) chosen ex xt alone place g = start_opening w n b a x mode second chosen ex (subst (λ (p : Phase P A). ¬ IsOutOfPlace p (Open mode second)) (sym e) place)
   start_by_phase w phase e n b a x job chosen ex xt alone place g = absurd (place (λ z. z))
 
   -- ---- every event
@@ -246,18 +246,18 @@ module _ (P A : Type 0) (shape : Shape) where
   read_by_phase devices commit (Opens mode reading) actors n b a x job plan ex xt d device e read chosen next g = by_job job (subst (λ (o : Option (Job × Plan)). TaskHere {P = P} {A = A} (Opens mode reading) o) xt (b.linked.here a x ex)) g
     where
       by_job : (job : Job) → InPhase {P = P} {A = A} (Opens mode reading) job → Gives shape (record { devices = devices; commit = commit; phase = Opens mode reading; actors = actors }) x job (Device (ReadExtent device e)) Done read chosen → GivesLatest shape n job e read
-      by_job (Open m) h g = absurd g
+      by_job (Open m second) h g = absurd g
       by_job job h g = absurd h
   read_by_phase devices commit (Stands t) actors n b a x job plan ex xt d device e read chosen next g = absurd g
 
   -- ---- what an opening shows
 
-  shows_by_phase : (devices : Devices (List History)) (commit : Option RunningCommit) (phase : Phase P A) (actors : List Actor) (n : Notes) → Whole P A shape (record { devices = devices; commit = commit; phase = phase; actors = actors }) n → (a : ℕ) (x : Actor) (opened_in : Mode) (plan : Plan) → slice_get actors a ≡ Some x → x.task ≡ Some (Open opened_in, plan) →
-      (got : Got) (read : List Bytes) (chosen : Chosen P A) → End Finished ≡ want plan → Gives shape (record { devices = devices; commit = commit; phase = phase; actors = actors }) x (Open opened_in) (End Finished) got read chosen → ShowsAllowed n (shown_in shape devices (phase_then shape phase (End Finished) got chosen))
-  shows_by_phase devices commit (Stands t) actors n b a x opened_in plan ex xt got read chosen next g = absurd (subst (λ (o : Option (Job × Plan)). TaskHere {P = P} {A = A} (Stands t) o) xt (b.linked.here a x ex))
-  shows_by_phase devices commit Gone actors n b a x opened_in plan ex xt got read chosen next g = absurd (subst (λ (o : Option (Job × Plan)). TaskHere {P = P} {A = A} Gone o) xt (b.linked.here a x ex))
-  shows_by_phase devices commit (Opens mode reading) actors n b a x opened_in plan ex xt got read chosen next g =
-      opening_shows P A shape b.goes.images devices commit mode reading actors n b.goes.known b.goes.followed b.linked.alone b.keeping a x ex opened_in plan xt b.inside.cache b.inside.origin got read chosen next g
+  shows_by_phase : (devices : Devices (List History)) (commit : Option RunningCommit) (phase : Phase P A) (actors : List Actor) (n : Notes) → Whole P A shape (record { devices = devices; commit = commit; phase = phase; actors = actors }) n → (a : ℕ) (x : Actor) (opened_in : Mode) (second : Bool) (plan : Plan) → slice_get actors a ≡ Some x → x.task ≡ Some (Open opened_in second, plan) →
+      (got : Got) (read : List Bytes) (chosen : Chosen P A) → End Finished ≡ want plan → Gives shape (record { devices = devices; commit = commit; phase = phase; actors = actors }) x (Open opened_in second) (End Finished) got read chosen → ShowsAllowed n (shown_in shape devices (phase_then shape phase (End Finished) got chosen))
+  shows_by_phase devices commit (Stands t) actors n b a x opened_in second plan ex xt got read chosen next g = absurd (subst (λ (o : Option (Job × Plan)). TaskHere {P = P} {A = A} (Stands t) o) xt (b.linked.here a x ex))
+  shows_by_phase devices commit Gone actors n b a x opened_in second plan ex xt got read chosen next g = absurd (subst (λ (o : Option (Job × Plan)). TaskHere {P = P} {A = A} Gone o) xt (b.linked.here a x ex))
+  shows_by_phase devices commit (Opens mode reading) actors n b a x opened_in second plan ex xt got read chosen next g =
+      opening_shows P A shape b.goes.images devices commit mode reading actors n b.goes.known b.goes.followed b.linked.alone b.keeping a x ex opened_in second plan xt b.inside.cache b.inside.origin got read chosen next g
 
   module _ (w : State P A) (n : Notes) (b : Whole P A shape w n) (a : ℕ) where
     read_rightly : (device : Dev) (ext : Extent) (read : List Bytes) (chosen : Chosen P A) (o : Option Actor) → slice_get w.actors a ≡ o → OfSome o (λ x. OfSome x.task (λ doing. (Device (ReadExtent device ext) ≡ want doing.1) × Gives shape w x doing.0 (Device (ReadExtent device ext)) Done read chosen)) → IsGiven shape n (slice_get n.doings a) ext read
@@ -281,7 +281,7 @@ module _ (P A : Type 0) (shape : Shape) where
             (by_job task.0 task.1 xt h.0 h.1))
           where
             by_job : (job : Job) (plan : Plan) → x.task ≡ Some (job, plan) → End Finished ≡ want plan → Gives shape w x job (End Finished) got read chosen → ShownBy n (shown_in shape w.devices (phase_then shape w.phase (End Finished) got chosen)) job
-            by_job (Open m) plan xt next g = shows_by_phase w.devices w.commit w.phase w.actors n b a x m plan e xt got read chosen next g
+            by_job (Open m second) plan xt next g = shows_by_phase w.devices w.commit w.phase w.actors n b a x m second plan e xt got read chosen next g
             by_job job plan xt next g = tt
 
   -- ---- one happening
@@ -321,8 +321,8 @@ module _ (P A : Type 0) (shape : Shape) where
       by_job : (job : Job) (answer : Answer) → IsCovered doing job answer → ((refusal : Refusal) → answer ≡ Refuses refusal → RefusedBy doing job refusal) → (answer ≡ Finished → ShownBy n shown_now job) → IsRightAnswer n shown_now doing job answer
       by_job (Read extent) Finished c r s = (c, latest doing refl)
       by_job (Write extent content) Finished c r s = c
-      by_job (Open mode) Finished c r s = s refl
-      by_job (Open mode) (Refuses refusal) c r s = r refusal refl
+      by_job (Open mode second) Finished c r s = s refl
+      by_job (Open mode second) (Refuses refusal) c r s = r refusal refl
       by_job job answer c r s = tt
   right_doing n shown_now (Some None) answer latest covers refuses _ = absurd covers
   right_doing n shown_now None answer latest covers refuses _ = absurd covers

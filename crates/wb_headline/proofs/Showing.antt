@@ -26,6 +26,7 @@ use Rattle.wb_types.specs.declared.geometry.Geometry.{Geometry}
 use Rattle.wb_simulation.proofs.BitLocations.{image_mapping}
 use Rattle.wb_meta.specs.Representing.{Represents, Stored, all_of}
 use Rattle.wb_meta.specs.Roots.{AreOneOf, StoredIsOf}
+use Rattle.wb_meta.specs.Sizes.{AreSameSizes}
 use Rattle.wb_runs.proofs.Images.{Images}
 use Rattle.wb_runs.proofs.Metadata.{MetadataKept}
 use Rattle.wb_link.specs.Openings.{Site}
@@ -142,26 +143,30 @@ state_allowed sectors actors g v m committed later devices state r d (inr e) b o
     ap (λ f. at_location f v.world.shared.cache (v.world.shared.running b) b o) d.origin ∙ ap (λ f. at_location (by_block sectors zeros devices.origin) f (v.world.shared.running b) b o) d.cache
     ∙ ap (λ l. at_location (by_block sectors zeros devices.origin) (by_block sectors zeros devices.cache) (l b) b o) runs.1)) k)
 
+-- a mapping of as many blocks
+pub sized_mapping : (one other : Geometry) (entries : List (Option Entry)) → AreSameSizes one other → IsMapping one.cache_blocks one.origin_blocks entries → IsMapping other.cache_blocks other.origin_blocks entries
+sized_mapping one other entries same mapping = subst (λ (blocks : ℕ). IsMapping other.cache_blocks blocks entries) same.origin_blocks (subst (λ (blocks : ℕ). IsMapping blocks one.origin_blocks entries) same.cache_blocks mapping)
+
 -- a state that is represented has each block once
-mapping_of : (g : Geometry) (sectors : List Bytes) (state : Stored) → Represents sectors state.root state.found → state.root.geometry ≡ g → IsMapping g.cache_blocks g.origin_blocks state.found.entries
-mapping_of g sectors state r e = subst (λ (x : Geometry). IsMapping x.cache_blocks x.origin_blocks state.found.entries) e (image_mapping state.root r.nodes state.found.mapping (all_of state.found) r.reads r.mapping)
+mapping_of : (g : Geometry) (sectors : List Bytes) (state : Stored) → Represents sectors state.root state.found → AreSameSizes state.root.geometry g → IsMapping g.cache_blocks g.origin_blocks state.found.entries
+mapping_of g sectors state r same = sized_mapping state.root.geometry g state.found.entries same (image_mapping state.root r.nodes state.found.mapping (all_of state.found) r.reads r.mapping)
 
 module _ (P A : Type 0) (shape : Shape) (images : Images) (w : State P A) (n : Notes) (known : MetadataKept shape.geometry images w.phase w.commit w.devices.metadata) (f : Followed P A shape images w n) (cache_size : length w.devices.cache ≡ cache_sector_count shape) (origin_size : length w.devices.origin ≡ sector_count shape) where
   pub crash_consistent : CrashConsistent shape n w.devices
-  crash_consistent metadata cache origin left_metadata left_cache left_origin = by_state d.later d.agree (d.agree.images.read.represents metadata left_metadata) d.agree.images.read.later_geometry
+  crash_consistent metadata cache origin left_metadata left_cache left_origin = by_state d.later d.agree (d.agree.images.read.represents metadata left_metadata) d.agree.images.read.later_sizes
     where
       d : Rattle.wb_headline.proofs.Arriving.Agreeing P A shape images w.devices f.site
       d = agreeing P A shape images w.phase w.commit w.devices w.actors f.site known f.phase
 
-      shows : (state : Stored) (later : Option Stored) → DevicesAgree shape.geometry (size P A shape) images.committed later w.devices f.site.world.shared → (state ≡ images.committed) ⊎ (later ≡ Some state) → state.root.geometry ≡ shape.geometry → Represents metadata state.root state.found → ShowsOpened shape n metadata cache origin
-      shows state later agree one geometry r = record {
+      shows : (state : Stored) (later : Option Stored) → DevicesAgree shape.geometry (size P A shape) images.committed later w.devices f.site.world.shared → (state ≡ images.committed) ⊎ (later ≡ Some state) → AreSameSizes state.root.geometry shape.geometry → Represents metadata state.root state.found → ShowsOpened shape n metadata cache origin
+      shows state later agree one same r = record {
         stored = state;
         represents = r;
-        shows = shows_allowed shape n f.notes f.notes_agree.histories f.notes_agree.floors f.sized.sectors w.devices cache_size origin_size state.found.entries (mapping_of shape.geometry metadata state r geometry)
+        shows = shows_allowed shape n f.notes f.notes_agree.histories f.notes_agree.floors f.sized.sectors w.devices cache_size origin_size state.found.entries (mapping_of shape.geometry metadata state r same)
             (state_allowed (size P A shape) (many P A shape) shape.geometry f.site f.notes images.committed later w.devices state f.reached agree one) cache origin left_cache left_origin;
       }
 
       by_state : (later : Option Stored) → DevicesAgree shape.geometry (size P A shape) images.committed later w.devices f.site.world.shared → AreOneOf images.committed later metadata → StoredIsOf shape.geometry later → ShowsOpened shape n metadata cache origin
-      by_state None agree r g = shows images.committed None agree (inl refl) agree.images.read.same_geometry r
-      by_state (Some state) agree (inl r) g = shows images.committed (Some state) agree (inl refl) agree.images.read.same_geometry r
+      by_state None agree r g = shows images.committed None agree (inl refl) agree.images.read.sizes r
+      by_state (Some state) agree (inl r) g = shows images.committed (Some state) agree (inl refl) agree.images.read.sizes r
       by_state (Some state) agree (inr r) g = shows state (Some state) agree (inr refl) g r

@@ -171,21 +171,21 @@ module _ (P A : Type 0) (shape : Shape) (images : Images) (w : State P A) (n : N
   may_open (Opens mode reading) e not = inl (subst (λ (q : Phase P A). Rattle.wb_headline.proofs.Following.PhaseFollows P A shape images q w.commit w.devices w.actors f.site) e f.phase).devices_follow.down
 
   -- an opening begins
-  pub opening_starts : (a : ℕ) (mode : Mode) (y : Actor) → (OfTarget w.phase (λ t. t.words.fail ≡ 0) → ⊥) → y.task ≡ Some (Open mode, table (task_job shape Writeback y.awaiting (Open mode) [] [])) →
-      Goes P A shape (record { devices = w.devices; commit = None; phase = Opens mode None; actors = slice_set (all_resting w.actors) a y }) (put (record n { doings = nobody n.doings }) a (Some (begun n (Open mode))))
-  opening_starts a mode y not yt =
+  pub opening_starts : (a : ℕ) (mode : Mode) (second : Bool) (y : Actor) → (OfTarget w.phase (λ t. t.words.fail ≡ 0) → ⊥) → y.task ≡ Some (Open mode second, table (task_job shape Writeback y.awaiting (Open mode second) [] [])) →
+      Goes P A shape (record { devices = w.devices; commit = None; phase = Opens mode None; actors = slice_set (all_resting w.actors) a y }) (put (record n { doings = nobody n.doings }) a (Some (begun n (Open mode second))))
+  opening_starts a mode second y not yt =
       let d = agreeing P A shape images w.phase w.commit w.devices w.actors f.site known f.phase in
       let l = openings_followed.begins shape.geometry (size P A shape) images.committed d.later mode f.site w.devices d.agree (may_open w.phase refl not) in
-      let n' = put (record n { doings = nobody n.doings }) a (Some (begun n (Open mode))) in
-      let same : SameSectors n n' = record { histories = refl; finished = refl; floors = refl; doings = length-set (nobody n.doings) a (Some (begun n (Open mode))) ∙ length-map n.doings (λ (o : Option Doing). None) } in
+      let n' = put (record n { doings = nobody n.doings }) a (Some (begun n (Open mode second))) in
+      let same : SameSectors n n' = record { histories = refl; finished = refl; floors = refl; doings = length-set (nobody n.doings) a (Some (begun n (Open mode second))) ∙ length-map n.doings (λ (o : Option Doing). None) } in
       let v = arrives P A shape images w n n' f same images.committed d.later (OpensThere mode Settling) w.devices l (λ e. absurd (cc)) in
       opens P A shape images d.later (OpensThere mode Settling) w.devices n' v (λ e. absurd (cc)) (slice_set (all_resting w.actors) a y)
       (sized_so P A shape w.actors (slice_set (all_resting w.actors) a y) n n' same (length-set (all_resting w.actors) a y ∙ length-map w.actors (λ (z : Actor). resting)) f.sized) mode None None
       (kept_readable shape.geometry images w.devices.metadata P A w.phase w.commit known)
       (λ b z job plan e zt. elim (set_cases (all_resting w.actors) a b y z e) [
         | inl here ↦
-            let both : Some (Open mode, table (task_job shape Writeback y.awaiting (Open mode) [] [])) ≡ Some (job, plan) = sym yt ∙ ap (λ (q : Actor). q.task) (sym here.1) ∙ zt in
-            let is = (Rattle.std.proofs.lemmas.Option.some_pair_parts (Open mode) job (table (task_job shape Writeback y.awaiting (Open mode) [] [])) plan both).1 in
+            let both : Some (Open mode second, table (task_job shape Writeback y.awaiting (Open mode second) [] [])) ≡ Some (job, plan) = sym yt ∙ ap (λ (q : Actor). q.task) (sym here.1) ∙ zt in
+            let is = (Rattle.std.proofs.lemmas.Option.some_pair_parts (Open mode second) job (table (task_job shape Writeback y.awaiting (Open mode second) [] [])) plan both).1 in
             inl (record { total = shape.geometry.meta_sectors; left = shape.geometry.meta_sectors; stage = Settling; is = sym is; phase_is = refl; read = (refl, refl) })
         | inr other ↦ absurd (let none : z.task ≡ None = (rests w.actors b z other.1).0 in let bad : None ≡ Some (job, plan) = sym none ∙ zt in cc)
       ])

@@ -38,6 +38,7 @@ use Rattle.wb_promise.specs.States.{Shape, Phase, Actor, Target, Stands}
 use Rattle.wb_promise.specs.Effects.{awaiting_then, buffer_then, seen_then, share_by, orders_then}
 use Rattle.wb_promise.specs.Clerk.{Notes, Doing, device_note, finished_note, made_durable}
 use Rattle.wb_runs.proofs.Imaged.{begun_entries, begun_root}
+use Rattle.wb_runs.proofs.Sizes.{read_by_sizes}
 use Rattle.wb_runs.proofs.Images.{Images, later_of}
 use Rattle.wb_runs.proofs.Underway.{Underway, Readable, images_of, is_written}
 use Rattle.wb_link.specs.World.{Shared}
@@ -82,10 +83,10 @@ module _ (g : Geometry) (images : Images) (commit : RunningCommit) (of : Commit)
   failed_read bad = by_steps commit.steps (step_fails of.image of.old.root.geometry.meta_sectors of.before old new commit.steps u.can.places u.come (subst (λ (i : Image). FailsStep i commit.steps old new) (sym u.image) bad))
     where
       two : MayBeReadAs of.old.root.geometry of.old (Some of.new) new → Readable g (images_of of true) new
-      two m = record { read = subst (λ (x : Geometry). MayBeReadAs x of.old (Some of.new) new) u.same m }
+      two m = record { read = read_by_sizes of.old.root.geometry g of.old (Some of.new) new u.sizes m }
 
       by_steps : (steps : CommitSteps) → HasFailed of.image of.before steps new → Readable g (images_of of (failed_written steps)) new
-      by_steps (NodesWritten count) f = record { read = subst (λ (x : Geometry). MayBeReadAs x of.old None new) u.same (after_failed_node of u.can count new f) }
+      by_steps (NodesWritten count) f = record { read = read_by_sizes of.old.root.geometry g of.old None new u.sizes (after_failed_node of u.can count new f) }
       by_steps NodesSynced f = two (after_failure of u.can NodesSynced new f)
       by_steps RootWritten f = two (after_failure of u.can RootWritten new f)
       by_steps Committed f = absurd f

@@ -169,7 +169,7 @@ abbrev pub finished_note : Notes → ℕ → Doing → Job → List Bytes → No
 finished_note n a doing (Write extent content) shown = record n { finished = all_raised n.finished doing.entered; doings = slice_set n.doings a None }
 finished_note n a doing Flush shown = made_durable n a doing
 finished_note n a doing Suspend shown = made_durable n a doing
-finished_note n a doing (Open mode) shown = begins (length n.doings) shown
+finished_note n a doing (Open mode second) shown = begins (length n.doings) shown
 finished_note n a doing job shown = put n a None
 
 -- a step of an actor that is at something
@@ -181,7 +181,7 @@ noted_step shape mode shown n a doing next got read = n
 
 -- An opening's start, as a crash, ends what everybody is at. The histories stay.
 abbrev pub starting : Notes → Job → Notes
-starting n (Open mode) = record n { doings = nobody n.doings }
+starting n (Open mode second) = record n { doings = nobody n.doings }
 starting n job = n
 
 abbrev pub noted_what : Shape → Mode → List Bytes → Notes → Event → What → List Bytes → Notes

@@ -96,7 +96,7 @@ abbrev pub led : Option RunningCommit → Got → Option RunningCommit
 led (Some commit) Done = Some (record commit { steps = steps_after commit.image commit.steps })
 led commit got = None
 
--- of the opening's root, once all was read
+-- of what an opening writes, once all was read
 abbrev pub reached_commit : {P A : Type 0} → Chosen P A → Option RunningCommit → Option RunningCommit
 reached_commit (Reaches reading commit) old = commit
 reached_commit chosen old = None
@@ -190,7 +190,7 @@ seals_of stored = sealing_steps stored.root.clean 0 (entries_of stored)
 abbrev pub target_over : {P A : Type 0} → Shape → Mode → P → Stored A → Target P
 target_over shape mode policy stored = record {
   words = words_by (fresh_words shape.geometry.origin_blocks) (seals_of stored);
-  desk = opened shape.geometry (stored.root.generation + 1) stored.tree stored.used.items mode policy shape.threshold (count_by is_some stored.tree.entries);
+  desk = opened stored.root.geometry (stored.root.generation + 1) stored.tree stored.used.items mode policy shape.threshold (count_by is_some stored.tree.entries);
 }
 
 abbrev pub phase_over : {P A : Type 0} → Shape → Mode → P → Option (ReadSteps A) → Phase P A
@@ -357,7 +357,7 @@ given shape mode x job chosen = record x {
 
 -- An opening drops the target that has failed, and whatever anybody was at.
 abbrev pub cleared : {P A : Type 0} → State P A → Job → State P A
-cleared w (Open mode) = record { devices = w.devices; commit = None; phase = Opens mode None; actors = all_resting w.actors }
+cleared w (Open mode second) = record { devices = w.devices; commit = None; phase = Opens mode None; actors = all_resting w.actors }
 cleared w job = w
 
 abbrev pub started : {P A : Type 0} → Shape → State P A → ℕ → Job → Chosen P A → State P A

@@ -1,6 +1,6 @@
 -- What an event may do in a state.
-use Rattle.std.specs.Prelude.{◌≡◌, ◌≢◌, ◌≤◌, ◌<◌, ◌+◌, ◌-◌, ◌/◌, ◌^◌, ◌&&◌, ◌==◌, ◌⊎◌, ℕ, Bool, true, false, List, [], Option, Some, None, All, Contains, length, map, slice_get, slice_index, if◌then◌else◌, nat_le, nat_lt}
-use Rattle.wb_types.specs.Limits.{most_nodes}
+use Rattle.std.specs.Prelude.{◌≡◌, ◌≢◌, ◌≤◌, ◌<◌, ◌+◌, ◌-◌, ◌*◌, ◌/◌, ◌^◌, ◌&&◌, ◌==◌, ◌⊎◌, ℕ, Bool, true, false, List, [], Option, Some, None, All, Contains, IfSome, length, map, slice_get, slice_index, if◌then◌else◌, nat_le, nat_lt}
+use Rattle.wb_types.specs.Limits.{dirty_nodes, most_nodes, node_count}
 use Rattle.wb_types.specs.declared.extent.Extent.{Extent}
 use Rattle.wb_types.specs.declared.geometry.Geometry.{Geometry}
 use Rattle.wb_types.specs.Extents.{IsCutInto}
@@ -8,7 +8,9 @@ use Rattle.wb_types.specs.declared.mode.Mode.{Mode}
 use Rattle.wb_types.specs.declared.mode.Mode.TheVariants.{Writeback, Passthrough}
 use Rattle.wb_types.specs.declared.mode.Dev.TheVariants.{Metadata, Cache, Origin}
 use Rattle.wb_types.specs.declared.refusal.Refusal.{Refusal}
-use Rattle.wb_types.specs.declared.refusal.Refusal.TheVariants.{Range, Crosses, Busy, Memory}
+use Rattle.wb_types.specs.declared.version.Version.{Version}
+use Rattle.wb_types.specs.declared.version.Version.TheVariants.{One, Two}
+use Rattle.wb_types.specs.declared.refusal.Refusal.TheVariants.{Range, Crosses, Busy, Memory, Geometry as TooSmall}
 use Rattle.wb_types.specs.declared.number.OBlock.{OBlock}
 use Rattle.wb_types.specs.declared.number.CBlock.{CBlock}
 use Rattle.wb_types.specs.declared.number.Place.{Place}
@@ -21,6 +23,7 @@ use Rattle.wb_tree.specs.Mapping.{Mapping}
 use Rattle.wb_tree.specs.declared.image.Image.{Image}
 use Rattle.wb_meta.specs.Steps.{DoesStep, coming_step}
 use Rattle.wb_meta.specs.Reads.{ReadingGoesOn, StopsBy, AreStepsOn, IsDone, sectors_read}
+use Rattle.wb_meta.specs.Sizes.{AreSameSizes}
 use Rattle.wb_meta.specs.States.{IsOfReading}
 use Rattle.wb_meta.specs.declared.read_steps.ReadSteps.{ReadSteps}
 use Rattle.wb_meta.specs.declared.commit_steps.CommitStep.{CommitStep}
@@ -98,7 +101,7 @@ extent_of (Read extent) = extent
 extent_of (Write extent content) = extent
 extent_of Flush = record { first = 0; count = 0 }
 extent_of Suspend = record { first = 0; count = 0 }
-extent_of (Open mode) = record { first = 0; count = 0 }
+extent_of (Open mode second) = record { first = 0; count = 0 }
 extent_of (Invalidate block) = record { first = 0; count = 0 }
 extent_of (Migrate migration block) = record { first = 0; count = 0 }
 extent_of (Replace old new) = record { first = 0; count = 0 }
@@ -135,9 +138,28 @@ abbrev pub write_job : Mode → BlockRange → BlockJob
 write_job Passthrough part = Displacing part
 write_job mode part = Writing part
 
--- the most nodes of an image of this geometry, clean or not
+-- the most nodes of an image of these sizes in either version, clean or not
 abbrev pub most_for : Geometry → Bool → ℕ
-most_for geometry clean = most_nodes geometry.version clean geometry.cache_blocks
+most_for geometry clean = most_nodes Two clean geometry.cache_blocks
+
+-- the version that an opening asks for
+abbrev pub version_asked : Bool → Version
+version_asked false = One
+version_asked true = Two
+
+-- the metadata of these sizes have room for it
+abbrev pub has_room_for : Bool → Geometry → Bool
+has_room_for second sizes = nat_le (2 + 2 * node_count sizes.cache_blocks + dirty_nodes (version_asked second) sizes.cache_blocks) sizes.meta_sectors
+
+-- whether a job asks for the second version
+abbrev pub asks_second : Job → Bool
+asks_second (Open mode second) = second
+asks_second job = false
+
+-- The geometry that an opening asks for: of these sizes, and where there is room for the version that it asks for, of that one.
+pub record IsAsked (sizes : Geometry) (second : Bool) (asked : Geometry) : Type 0 where
+  pub sizes_are : AreSameSizes asked sizes
+  pub version : has_room_for second sizes ≡ true → asked.version ≡ version_asked second
 
 -- The task of a job, whose sectors are cut so, or which looks at the seals of these blocks, over a target of this mode. A flush serves the
 -- replacements that wait for it; a replacement begins with the demotion of the block that leaves.
@@ -146,7 +168,7 @@ task_job shape mode awaiting (Read extent) cut looks = OnBlock (Reading (block_r
 task_job shape mode awaiting (Write extent content) cut looks = OnBlock (write_job mode (block_range shape mode extent cut))
 task_job shape mode awaiting Flush cut looks = Flushing (blocks_left awaiting) (most_for shape.geometry false)
 task_job shape mode awaiting Suspend cut looks = Suspending looks (most_for shape.geometry true)
-task_job shape mode awaiting (Open opened_in) cut looks = Opening shape.geometry.meta_sectors
+task_job shape mode awaiting (Open opened_in second) cut looks = Opening shape.geometry.meta_sectors
 task_job shape mode awaiting (Invalidate block) cut looks = OnBlock (Invalidating (invalidated_range shape block))
 task_job shape mode awaiting (Migrate migration block) cut looks = OnBlock (Migrating migration (migrated_range shape block cut))
 task_job shape mode awaiting (Replace old new) cut looks = OnBlock (Migrating Demote (migrated_range shape old cut))
@@ -173,7 +195,7 @@ job_refusal shape (Read extent) = extent_refusal shape extent
 job_refusal shape (Write extent content) = extent_refusal shape extent
 job_refusal shape Flush = None
 job_refusal shape Suspend = None
-job_refusal shape (Open mode) = None
+job_refusal shape (Open mode second) = if has_room_for second shape.geometry then None else Some TooSmall
 job_refusal shape (Invalidate block) = if nat_lt block.0 shape.geometry.origin_blocks then None else Some Range
 job_refusal shape (Migrate migration block) = None
 job_refusal shape (Replace old new) = None
@@ -197,7 +219,7 @@ HasTask w a = AtWork w a (λ job s. Unit {0})
 -- A job is not started where this holds: an opening where a target stands that has not failed; an invalidation where none stands in passthrough;
 -- any other where no target stands.
 abbrev pub IsOutOfPlace : {P A : Type 0} → Phase P A → Job → Type 0
-IsOutOfPlace phase (Open mode) = OfTarget phase (λ t. t.words.fail ≡ 0)
+IsOutOfPlace phase (Open mode second) = OfTarget phase (λ t. t.words.fail ≡ 0)
 IsOutOfPlace phase (Invalidate block) = ¬ OfTarget phase (λ t. t.desk.mode ≡ Passthrough)
 IsOutOfPlace phase job = ¬ OfTarget phase (λ t. Unit {0})
 
@@ -270,15 +292,6 @@ abbrev pub HasGeneration : Option RunningCommit → Type 0
 HasGeneration None = Unit {0}
 HasGeneration (Some commit) = commit.image.root.generation < 2 ^ 64
 
--- An opening in this mode has read one sector more. Its reading goes on, and all is read, or it is refused: for what stands there, for want
--- of memory, for a root of another geometry, since no generation is left, or in passthrough where the metadata were not left clean.
-abbrev pub DoesRead : {P A : Type 0} → Mode → Geometry → ℕ → ReadSteps A → List History → Option RunningCommit → Got → Chosen P A → Type 0
-DoesRead {P} {A} mode geometry left was device commit got (Reaches after commit') = (got ≢ Fault)
-    × (((now : ReadSteps A) × ReadingGoesOn was device now × AreStepsOn (length device) now × HasComeIn mode geometry left now commit got after commit'
-    × (sectors_read now ≡ sectors_read was + 1) × HasGeneration commit')
-    ⊎ ((refusal : Refusal) × IsOfReading refusal × StopsBy was device refusal × (got ≡ got_of_refusal refusal) × (after ≡ None) × (commit' ≡ commit)))
-DoesRead mode geometry left was device commit got chosen = ⊥
-
 -- a node has all its words, and numbers that their bytes hold
 pub record IsWholeNode (node : Node) : Type 0 where
   pub words : length node.words ≡ 32
@@ -289,6 +302,16 @@ pub record IsWholeNode (node : Node) : Type 0 where
 -- so has each of an image
 abbrev pub AreWhole : Image → Type 0
 AreWhole image = All (λ (node : Place × Node). IsWholeNode node.1) image.nodes.items
+
+-- An opening in this mode has read one sector more. Its reading goes on, and all is read, which may be written anew in the second version; or
+-- it is refused: for what stands there, for want of memory, for a root of other sizes, since no generation is left, or in passthrough where
+-- the metadata were not left clean.
+abbrev pub DoesRead : {P A : Type 0} → Mode → Geometry → Bool → ℕ → ReadSteps A → List History → Option RunningCommit → Got → Chosen P A → Type 0
+DoesRead {P} {A} mode geometry second left was device commit got (Reaches after commit') = (got ≢ Fault)
+    × (((now : ReadSteps A) × ReadingGoesOn was device now × AreStepsOn (length device) now × ((asked : Geometry) × IsAsked geometry second asked × HasComeIn mode asked left now commit got after commit')
+    × (sectors_read now ≡ sectors_read was + 1) × HasGeneration commit' × IfSome commit' (λ running. AreWhole running.image))
+    ⊎ ((refusal : Refusal) × IsOfReading refusal × StopsBy was device refusal × (got ≡ got_of_refusal refusal) × (after ≡ None) × (commit' ≡ commit)))
+DoesRead mode geometry second left was device commit got chosen = ⊥
 
 -- A commit begins, of an image of the desk's tree, with at most so many nodes; or the desk refuses it. Where dirty bits were seen its root
 -- is marked clean, and what is read of its image has them, and hints, whatever these are.
@@ -354,13 +377,13 @@ Gives shape w x job (Device (Sync Metadata)) got read chosen = (read ≡ []) × 
 Gives shape w x job (Device (Sync device)) got read chosen = IsPlain read chosen × (got ≡ Done)
 Gives shape w x job (Device (WriteNode number)) got read chosen = (read ≡ []) × (got ≡ Done) × DoesPut w.commit (WriteNode number) w.devices.metadata chosen
 Gives shape w x job (Device WriteRoot) got read chosen = (read ≡ []) × (got ≡ Done) × DoesPut w.commit WriteRoot w.devices.metadata chosen
-Gives shape w x job (Device (ReadMetadata left)) got read chosen = (read ≡ []) × (w.commit ≡ None) × OfReading w.phase (λ mode was. DoesRead mode shape.geometry left was w.devices.metadata w.commit got chosen)
+Gives shape w x job (Device (ReadMetadata left)) got read chosen = (read ≡ []) × (w.commit ≡ None) × OfReading w.phase (λ mode was. DoesRead mode shape.geometry (asks_second job) left was w.devices.metadata w.commit got chosen)
 Gives shape w x job (Desk (Arrive most)) got read chosen = (read ≡ []) × OfTarget w.phase (λ t. DoesArrive most t.desk got chosen)
 Gives shape w x job (Desk (Ask most)) got read chosen = (read ≡ []) × OfTarget w.phase (λ t. DoesAsk x.share most t.desk got chosen)
 Gives shape w x job (Desk (BeginCommit most)) got read chosen = (read ≡ []) × OfTarget w.phase (λ t. DoesBegin (Some x.seen) most t.desk got chosen)
 Gives shape w x job (Desk EndCommit) got read chosen = IsPlain read chosen × (got ≡ Done) × OfTarget w.phase (λ t. is_all_done w.commit ≡ true)
 Gives shape w x job (Desk BreakCommit) got read chosen = IsPlain read chosen × (got ≡ Done) × OfTarget w.phase (λ t. Unit {0})
-Gives shape w x (Open mode) (End Finished) got read chosen = (read ≡ []) × (got ≡ Done) × DoesOpen w.phase w.commit chosen
+Gives shape w x (Open mode second) (End Finished) got read chosen = (read ≡ []) × (got ≡ Done) × DoesOpen w.phase w.commit chosen
 Gives shape w x job (End answer) got read chosen = IsPlain read chosen × (got ≡ Done)
 Gives shape w x job next got read chosen = ⊥
 
@@ -441,7 +464,7 @@ StartGives shape phase actor (Replace old new) what chosen =
     MigrationStarts (whole_block (block_size shape) old) phase (λ desk. KeepsReplacement desk (orders_in actor) old new) (λ cache. ReplaceOrder old new cache) what chosen
 StartGives shape phase actor job (Refused refusal) Plain = job_refusal shape job ≡ Some refusal
 StartGives shape phase actor Flush Started Plain = Unit {0}
-StartGives shape phase actor (Open mode) Started Plain = Unit {0}
+StartGives shape phase actor (Open mode second) Started Plain = job_refusal shape (Open mode second) ≡ None
 StartGives shape phase actor (Invalidate block) Started Plain = job_refusal shape (Invalidate block) ≡ None
 StartGives shape phase actor (Read extent) Started (Cut cut) = (extent_refusal shape extent ≡ None) × IsCutInto extent cut
 StartGives shape phase actor (Write extent content) Started (Cut cut) = (extent_refusal shape extent ≡ None) × IsCutInto extent cut

@@ -1,5 +1,5 @@
 -- What is promised of every run.
-use Rattle.std.specs.Prelude.{◌≡◌, ◌≤◌, ◌+◌, ◌*◌, ◌/◌, ◌%◌, ◌==◌, ℕ, suc, List, [], ◌∷◌, Option, Some, None, All, IsPermutation, Contains, map, length, slice_get, unwrap_or, if◌then◌else◌}
+use Rattle.std.specs.Prelude.{◌≡◌, ◌≤◌, ◌+◌, ◌*◌, ◌/◌, ◌%◌, ◌==◌, ℕ, suc, Bool, List, [], ◌∷◌, Option, Some, None, All, IsPermutation, Contains, map, length, slice_get, unwrap_or, if◌then◌else◌}
 use Rattle.wb_types.specs.declared.entry.Entry.{Entry}
 use Rattle.wb_types.specs.Extents.{sectors_in, rising}
 use Rattle.wb_types.specs.declared.mode.Mode.TheVariants.{Passthrough}
@@ -87,7 +87,7 @@ abbrev pub MayRefuse : Doing → Refusal → Type 0
 MayRefuse doing (Io device) = Contains doing.failed device
 MayRefuse doing Memory = Unit {0}
 MayRefuse doing GenerationEnd = Unit {0}
-MayRefuse doing NotClean = doing.job ≡ Open Passthrough
+MayRefuse doing NotClean = (second : Bool) × (doing.job ≡ Open Passthrough second)
 MayRefuse doing refusal = ⊥
 
 -- A read that is finished was given each of its sectors exactly once, and each with the latest write to it. A write
@@ -95,8 +95,8 @@ MayRefuse doing refusal = ⊥
 abbrev pub IsRightAnswer : Notes → List Bytes → Doing → Job → Answer → Type 0
 IsRightAnswer n shown doing (Read extent) Finished = IsPermutation (sectors_in extent) (map (λ (r : Reading). r.sector) doing.readings) × All IsLatest doing.readings
 IsRightAnswer n shown doing (Write extent content) Finished = IsPermutation (sectors_in extent) (map (λ (p : Position). p.sector) doing.entered)
-IsRightAnswer n shown doing (Open mode) Finished = ShowsAllowed n shown
-IsRightAnswer n shown doing (Open mode) (Refuses refusal) = MayRefuse doing refusal
+IsRightAnswer n shown doing (Open mode second) Finished = ShowsAllowed n shown
+IsRightAnswer n shown doing (Open mode second) (Refuses refusal) = MayRefuse doing refusal
 IsRightAnswer n shown doing job answer = Unit {0}
 
 abbrev pub DoingRightly : Notes → List Bytes → Option (Option Doing) → Answer → Type 0
@@ -127,7 +127,7 @@ CrashConsistent shape n devices = (metadata cache origin : List Bytes) → MayLe
 
 -- An opening that is answered done shows of each sector what is allowed.
 abbrev pub ShownBy : Notes → List Bytes → Job → Type 0
-ShownBy n shown (Open mode) = ShowsAllowed n shown
+ShownBy n shown (Open mode second) = ShowsAllowed n shown
 ShownBy n shown job = Unit {0}
 
 abbrev pub ShowsRightly : Notes → List Bytes → Option (Option Doing) → Type 0

@@ -14,9 +14,11 @@ pub enum Job {
     /// Makes durable what a flush does, with a root that is marked clean and the dirty bits and hints of what is mapped, and leaves the target
     /// suspended. It is alone: its start is refused `Busy` where anybody has a task, and none starts before its answer.
     Suspend,
-    /// Opens a target in this mode over what the devices hold. In passthrough it is refused `NotClean` where these do not tell that all copies
-    /// in the cache are as the origin has them.
-    Open(Mode),
+    /// Opens a target in this mode over what the devices hold, and asks for metadata of the second version or not: those of the first are
+    /// written anew then, and those of the second stay so in any case. Its start is refused `Geometry` where the metadata device is too small
+    /// for the second version. In passthrough it is refused `NotClean` where the devices do not tell that all copies in the cache are as the
+    /// origin has them.
+    Open(Mode, bool),
     /// In passthrough alone: takes this block out of the cache, if it is there, without a copy.
     Invalidate(OBlock),
     /// Moves this block between the origin and the cache, under an order of the desk. Its start gives the order, and is refused

@@ -126,12 +126,12 @@ is_passthrough Writethrough = inr (λ e. absurd (cc))
 is_passthrough Passthrough = inl refl
 
 pub out_of_place : {P A : Type 0} (phase : Phase P A) (job : Job) → Decided (IsOutOfPlace phase job)
-out_of_place (Stands t) (Open mode) = elim (cases_eq t.words.fail 0) [
+out_of_place (Stands t) (Open mode second) = elim (cases_eq t.words.fail 0) [
   | inl fine ↦ inl fine
   | inr failed ↦ inr failed
 ]
-out_of_place Gone (Open mode) = inr (λ o. o)
-out_of_place (Opens m r) (Open mode) = inr (λ o. o)
+out_of_place Gone (Open mode second) = inr (λ o. o)
+out_of_place (Opens m r) (Open mode second) = inr (λ o. o)
 out_of_place (Stands t) (Invalidate block) = elim (is_passthrough t.desk.mode) [
   | inl past ↦ inr (λ o. o past)
   | inr other ↦ inl other

@@ -6,6 +6,7 @@ use Rattle.wb_types.specs.declared.entry.Entry.{Entry}
 use Rattle.wb_types.specs.declared.mode.Mode.{Mode}
 use Rattle.wb_types.specs.declared.mode.Mode.TheVariants.{Writeback, Writethrough, Passthrough}
 use Rattle.wb_types.specs.declared.extent.Extent.{Extent}
+use Rattle.wb_types.specs.declared.mode.Dev.TheVariants.{Metadata}
 use Rattle.wb_types.specs.declared.number.OBlock.{OBlock}
 use Rattle.wb_types.specs.declared.number.CBlock.{CBlock}
 use Rattle.wb_types.specs.declared.refusal.Refusal.{Refusal}
@@ -21,7 +22,7 @@ use Rattle.wb_tasks.specs.declared.step.Migration.{Migration}
 use Rattle.wb_tasks.specs.declared.step.Migration.TheVariants.{Promote, Demote, Clean}
 use Rattle.wb_tasks.specs.Tables.{BlockRange, BlockJob, Reading, Writing, Displacing, Invalidating, Migrating, TaskJob, OnBlock, Flushing, Suspending, Opening, cache_extent, place_read, read_step, write_step, read_count, write_count, copies, ending, work}
 use Rattle.wb_tasks.proofs.Working.{work_has}
-use Rattle.wb_tasks.specs.Plan.{Plan, want, after, after_look, after_fault, after_refusal, after_more, after_ticket, node_writes, root_steps, begun_steps, steps_seeing, release_orders, lets_go, gives_up, may_take, exchange, is_worn, gives_back, work_of, seal_looks}
+use Rattle.wb_tasks.specs.Plan.{Plan, want, after, after_look, after_fault, after_refusal, after_more, after_ticket, node_writes, opening_root, root_steps, begun_steps, steps_seeing, release_orders, lets_go, gives_up, may_take, exchange, is_worn, gives_back, work_of, seal_looks}
 use Rattle.wb_tasks.specs.declared.step.Answer.{Answer}
 use Rattle.wb_tasks.specs.declared.step.DeviceStep.{DeviceStep}
 use Rattle.wb_tasks.specs.declared.step.DeviceStep.TheVariants.{Read as ReadExtent, Write as WriteExtent, Sync, ReadMetadata, WriteNode, WriteRoot}
@@ -278,11 +279,16 @@ module _ (shape : Shape) where
   closing_inside zero first = (tt, (tt, (tt, (tt, (tt, tt)))))
   closing_inside (suc count) first = (tt, closing_inside count (first + 1))
 
+  -- an opening's nodes, and its root
+  anew_inside : (count first : ℕ) → AllInside shape (node_writes count first ++ Device (Sync Metadata) ∷ opening_root)
+  anew_inside zero first = (tt, (tt, (tt, tt)))
+  anew_inside (suc count) first = (tt, anew_inside count (first + 1))
+
   begun_inside : (job : TaskJob) (nodes : ℕ) → AllInside shape (begun_steps job nodes)
   begun_inside (OnBlock job) nodes = (tt, (tt, nodes_inside nodes 0))
   begun_inside (Flushing serves most) nodes = (tt, (tt, nodes_inside nodes 0))
   begun_inside (Suspending blocks most) nodes = (tt, (tt, closing_inside nodes 0))
-  begun_inside (Opening left) nodes = (tt, (tt, nodes_inside nodes 0))
+  begun_inside (Opening left) nodes = anew_inside nodes 0
 
   fault_inside : (job : TaskJob) (step : DeviceStep) → AllInside shape (Rattle.wb_tasks.specs.Plan.after_fault_of job step)
   fault_inside (OnBlock job) (ReadExtent d e) = (tt, gives_up_inside job)

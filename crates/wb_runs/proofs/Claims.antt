@@ -44,7 +44,7 @@ sectors_entered doing = map (λ (p : Position). p.sector) doing.entered
 abbrev pub JobClaim : Shape → Mode → Job → Plan → Doing → Type 0
 JobClaim shape mode (Read extent) plan doing = Moving shape mode extent (λ part. OnBlock (ReadingPart part)) plan (sectors_read doing)
 JobClaim shape mode (Write extent content) plan doing = Moving shape mode extent (λ part. OnBlock (write_job mode part)) plan (sectors_entered doing)
-JobClaim shape mode (Open opened_in) plan doing = OpenClaim plan doing
+JobClaim shape mode (Open opened_in second) plan doing = OpenClaim plan doing
 JobClaim shape mode job plan doing = Unit {0}
 
 -- what is noted of who has written, where that is entered

@@ -13,6 +13,7 @@ use Rattle.wb_disk.specs.Device.{History}
 use Rattle.wb_tree.specs.Mapping.{Mapping, IsSound}
 use Rattle.wb_tree.specs.Edits.{IsChangedAt, IsEdited}
 use Rattle.wb_tree.proofs.Stored.Edited.{edited-more}
+use Rattle.wb_space.specs.Places.{noted, unused, place_count}
 use Rattle.wb_meta.proofs.Round.{stored_edited}
 use Rattle.wb_policy.specs.declared.order.Order.{Order}
 use Rattle.wb_policy.specs.declared.order.Order.TheVariants.{Promote, Replace, Demote, Clean}
@@ -169,8 +170,8 @@ can_unmap {P} desk b kept sound = elim (is_unmappable desk b) [
 
 module _ (P : Type 0) (g : Geometry) (images : Images) (desk : DeskState P) (commit : Option RunningCommit) (device : List History) where
   -- the same metadata, of another desk with the same tree, space and generation
-  same_standing : (desk' : DeskState P) → desk'.tree ≡ desk.tree → desk'.space.places ≡ desk.space.places → desk'.space.committing ≡ desk.space.committing → desk'.generation ≡ desk.generation → Standing g images desk commit device → Standing g images desk' commit device
-  same_standing desk' tree places committing generation s = by_commit commit s
+  same_standing : (desk' : DeskState P) → desk'.tree ≡ desk.tree → desk'.space.places ≡ desk.space.places → desk'.space.committing ≡ desk.space.committing → desk'.generation ≡ desk.generation → desk'.geometry ≡ desk.geometry → Standing g images desk commit device → Standing g images desk' commit device
+  same_standing desk' tree places committing generation geometry s = by_commit commit s
     where
       by_commit : (commit : Option RunningCommit) → Standing g images desk commit device → Standing g images desk' commit device
       by_commit None (inl q) = inl (record {
@@ -179,9 +180,9 @@ module _ (P : Type 0) (g : Geometry) (images : Images) (desk : DeskState P) (com
         used = q.used;
         stores = subst (λ (m : Mapping). Rattle.wb_meta.specs.Imaging.DeviceStores m device q.stored q.used) (sym tree) q.stores;
         all_used = q.all_used;
-        places = ap (λ (p : Rattle.wb_space.specs.Places.PlacesInUse). p.committed) places ∙ q.places;
+        places = ap (λ (p : Rattle.wb_space.specs.Places.PlacesInUse). p.committed) places ∙ q.places ∙ ap (λ (x : Geometry). noted q.used (unused (place_count x))) (sym geometry);
         generation = generation ∙ q.generation;
-        same = q.same;
+        same = q.same ∙ sym geometry;
         idle = committing ∙ q.idle;
       })
       by_commit None (inr b) = inr (record { readable = b.readable; busy = committing ∙ b.busy })
@@ -189,14 +190,15 @@ module _ (P : Type 0) (g : Geometry) (images : Images) (desk : DeskState P) (com
         of = l.of;
         under = l.under;
         edited = subst (λ (m : Mapping). Rattle.wb_tree.specs.Edits.IsEdited l.of.tree m) (sym tree) l.edited;
-        places = ap (λ (p : Rattle.wb_space.specs.Places.PlacesInUse). p.running) places ∙ l.places;
+        places = ap (λ (p : Rattle.wb_space.specs.Places.PlacesInUse). p.running) places ∙ l.places ∙ ap (λ (x : Geometry). noted l.of.used (unused (place_count x))) (sym geometry);
+        same = l.same ∙ sym geometry;
         generation = l.generation ∙ ap (λ (n : ℕ). n + 1) (sym generation);
         busy = committing ∙ l.busy;
       }
 
   -- the same metadata, of another desk whose tree was edited, with the same places and generation
-  edited_stands : (desk' : DeskState P) → IsEdited desk.tree desk'.tree → IsSound desk'.tree → desk'.space.places ≡ desk.space.places → desk'.space.committing ≡ desk.space.committing → desk'.generation ≡ desk.generation → Standing g images desk commit device → Standing g images desk' commit device
-  edited_stands desk' edited sound places committing generation s = by_commit commit s
+  edited_stands : (desk' : DeskState P) → IsEdited desk.tree desk'.tree → IsSound desk'.tree → desk'.space.places ≡ desk.space.places → desk'.space.committing ≡ desk.space.committing → desk'.generation ≡ desk.generation → desk'.geometry ≡ desk.geometry → Standing g images desk commit device → Standing g images desk' commit device
+  edited_stands desk' edited sound places committing generation geometry s = by_commit commit s
     where
       by_commit : (commit : Option RunningCommit) → Standing g images desk commit device → Standing g images desk' commit device
       by_commit None (inl q) = inl (record {
@@ -205,9 +207,9 @@ module _ (P : Type 0) (g : Geometry) (images : Images) (desk : DeskState P) (com
         used = q.used;
         stores = stored_edited desk.tree desk'.tree device q.stored q.used q.stores edited sound;
         all_used = q.all_used;
-        places = ap (λ (p : Rattle.wb_space.specs.Places.PlacesInUse). p.committed) places ∙ q.places;
+        places = ap (λ (p : Rattle.wb_space.specs.Places.PlacesInUse). p.committed) places ∙ q.places ∙ ap (λ (x : Geometry). noted q.used (unused (place_count x))) (sym geometry);
         generation = generation ∙ q.generation;
-        same = q.same;
+        same = q.same ∙ sym geometry;
         idle = committing ∙ q.idle;
       })
       by_commit None (inr b) = inr (record { readable = b.readable; busy = committing ∙ b.busy })
@@ -215,7 +217,8 @@ module _ (P : Type 0) (g : Geometry) (images : Images) (desk : DeskState P) (com
         of = l.of;
         under = l.under;
         edited = edited-more l.of.tree desk.tree desk'.tree l.edited edited;
-        places = ap (λ (p : Rattle.wb_space.specs.Places.PlacesInUse). p.running) places ∙ l.places;
+        places = ap (λ (p : Rattle.wb_space.specs.Places.PlacesInUse). p.running) places ∙ l.places ∙ ap (λ (x : Geometry). noted l.of.used (unused (place_count x))) (sym geometry);
+        same = l.same ∙ sym geometry;
         generation = l.generation ∙ ap (λ (n : ℕ). n + 1) (sym generation);
         busy = committing ∙ l.busy;
       }
@@ -223,12 +226,12 @@ module _ (P : Type 0) (g : Geometry) (images : Images) (desk : DeskState P) (com
   pub mapped_stands : (b : OBlock) (c : CBlock) (tree : Mapping) (policy : P) → AtDesk g images desk commit device → MayMap desk b c → IsChangedAt desk.tree tree c.0 (Some (entry_of b)) → AtDesk g images (mapped desk c tree policy) commit device
   mapped_stands b c tree policy k may changed = record {
     is = record {
-      geometry = k.is.geometry;
+      sizes = k.is.sizes;
       kept = mapped_kept unknowing desk b c tree policy k.is.kept k.is.orders may changed tt;
       orders = orders_over desk.orders c may.live k.is.orders may.there may.taken;
       sound = changed.sound;
     };
-    stands = edited_stands (mapped desk c tree policy) changed.edited changed.sound refl refl refl k.stands;
+    stands = edited_stands (mapped desk c tree policy) changed.edited changed.sound refl refl refl refl k.stands;
   }
 
   -- its order is over once a block has left its cache block, but a replacement's
@@ -243,12 +246,12 @@ module _ (P : Type 0) (g : Geometry) (images : Images) (desk : DeskState P) (com
   left_stands : (c : CBlock) (tree : Mapping) (policy : P) (b : OBlock) → AtDesk g images desk commit device → IsMappedAt (holdings desk) b.0 c.0 → IsRemoved (order_at desk.orders.slots c.0) → IsChangedAt desk.tree tree c.0 None → AtDesk g images (unmapped desk c tree policy) commit device
   left_stands c tree policy b k at removed changed = record {
     is = record {
-      geometry = k.is.geometry;
+      sizes = k.is.sizes;
       kept = unmapped_kept unknowing desk b c tree policy k.is.kept at removed changed tt;
       orders = orders_past_kept c (order_at desk.orders.slots c.0) refl removed k.is.orders;
       sound = changed.sound;
     };
-    stands = edited_stands (unmapped desk c tree policy) changed.edited changed.sound refl refl refl k.stands;
+    stands = edited_stands (unmapped desk c tree policy) changed.edited changed.sound refl refl refl refl k.stands;
   }
 
   -- a block loses its entry, or there is none to lose
@@ -262,24 +265,24 @@ module _ (P : Type 0) (g : Geometry) (images : Images) (desk : DeskState P) (com
   pub reserved_stands : (c : CBlock) (order : Order) → AtDesk g images desk commit device → MayReserve desk c order → AtDesk g images (reserved desk c order false) commit device
   reserved_stands c order k may = record {
     is = record {
-      geometry = k.is.geometry;
+      sizes = k.is.sizes;
       kept = reserved_kept unknowing desk c order false k.is.kept may;
       orders = given_kept desk.orders c (record { order = order; sectors = sectors_asked desk.geometry order; threshold = desk.threshold; number = desk.orders.given; waits = false }) k.is.orders
           (record { vacant = may.give.vacant; idle = may.give.idle; room = may.give.room; number = refl });
       sound = k.is.sound;
     };
-    stands = same_standing (reserved desk c order false) refl refl refl refl k.stands;
+    stands = same_standing (reserved desk c order false) refl refl refl refl refl k.stands;
   }
 
   released_stands : (c : CBlock) (live : LiveOrder) → order_at desk.orders.slots c.0 ≡ Some live → live.waits ≡ false → AtDesk g images desk commit device → AtDesk g images (released desk c) commit device
   released_stands c live there taken k = record {
     is = record {
-      geometry = k.is.geometry;
+      sizes = k.is.sizes;
       kept = released_kept unknowing desk c k.is.kept;
       orders = orders_over desk.orders c live k.is.orders there taken;
       sound = k.is.sound;
     };
-    stands = same_standing (released desk c) refl refl refl refl k.stands;
+    stands = same_standing (released desk c) refl refl refl refl refl k.stands;
   }
 
   -- an order is given up

@@ -8,6 +8,7 @@ use Rattle.wb_format.specs.declared.root.Root.{Root}
 use Rattle.wb_tree.specs.Reading.{nothing_found}
 use Rattle.wb_meta.specs.Formats.{IsFormatted}
 use Rattle.wb_meta.specs.Representing.{Represents, alone}
+use Rattle.wb_meta.proofs.Sizes.{alike_sizes}
 use Rattle.wb_runs.proofs.Images.{Images, one_image}
 use Rattle.wb_runs.proofs.Underway.{Readable}
 
@@ -42,5 +43,5 @@ none_images g device b = one_image (record { root = b.root; found = alone (nothi
 -- what is known of them where no target stands
 pub none_readable : (g : Geometry) (device : List History) (b : HasNoTree g device) → length device ≡ g.meta_sectors → Readable g (none_images g device b) device
 none_readable g device b size = record {
-  read = record { size = size; same_geometry = b.geometry_is; later_geometry = tt; represents = b.represents };
+  read = record { size = size; sizes = alike_sizes b.root.geometry g b.geometry_is; later_sizes = tt; represents = b.represents };
 }

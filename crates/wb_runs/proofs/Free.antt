@@ -128,7 +128,7 @@ is_suspend Suspend = inl refl
 is_suspend (Read extent) = inr (λ e. absurd (cc))
 is_suspend (Write extent content) = inr (λ e. absurd (cc))
 is_suspend Flush = inr (λ e. absurd (cc))
-is_suspend (Open mode) = inr (λ e. absurd (cc))
+is_suspend (Open mode second) = inr (λ e. absurd (cc))
 is_suspend (Invalidate block) = inr (λ e. absurd (cc))
 is_suspend (Migrate migration block) = inr (λ e. absurd (cc))
 is_suspend (Replace old new) = inr (λ e. absurd (cc))
@@ -226,12 +226,12 @@ module _ (P A : Type 0) (shape : Shape) (policy : P) (first : ReadSteps A) (begi
             (flush_gives P A shape w.devices w.commit w.actors k.actor t kept.base.known.images known f.answer (Flushes f.blocks f.most) f.point f.of f.at (subst (λ (p : Plan). ¬ Awaits t.desk k.actor.share (want p)) f.is goes_on))
         stands t known leader Suspend s f c goes_on = subst (λ (p : Plan). CanGive {P = P} {A = A} shape (At (Stands t)) k.actor Suspend (want p)) (sym f.is)
             (flush_gives P A shape w.devices w.commit w.actors k.actor t kept.base.known.images known f.answer (Suspends f.blocks f.most) f.point f.of f.at (subst (λ (p : Plan). ¬ Awaits t.desk k.actor.share (want p)) f.is goes_on))
-        stands t known leader (Open mode) s f c goes_on = absurd s
+        stands t known leader (Open mode second) s f c goes_on = absurd s
         stands t known leader (Replace old new) s f c goes_on = absurd f
 
         opens : (mode : Mode) (reading : Option (ReadSteps A)) → AtOpening shape.geometry kept.base.known.images reading w.commit w.devices.metadata → (job : Job) → IsOpeningJob mode job → OpenJob reading w.commit job k.plan → CanGive {P = P} {A = A} shape (At (Opens mode reading)) k.actor job (want k.plan)
-        opens mode reading known (Open m') o f = subst (λ (p : Plan). CanGive {P = P} {A = A} shape (At (Opens mode reading)) k.actor (Open m') (want p)) (sym f.is)
-            (open_gives P A shape w.devices w.commit w.actors k.actor mode m' reading kept.base.known.images known f.sectors policy first begins f.point f.at)
+        opens mode reading known (Open m' second) o f = subst (λ (p : Plan). CanGive {P = P} {A = A} shape (At (Opens mode reading)) k.actor (Open m' second) (want p)) (sym f.is)
+            (open_gives P A shape w.devices w.commit w.actors k.actor mode m' second reading kept.base.known.images known f.sectors policy first begins f.point f.at)
         opens mode reading known (Read extent) o f = absurd o
         opens mode reading known (Write extent content) o f = absurd o
         opens mode reading known Flush o f = absurd o
@@ -252,12 +252,12 @@ module _ (P A : Type 0) (shape : Shape) (policy : P) (first : ReadSteps A) (begi
             (flush_falters P A shape w.devices w.commit w.actors k.actor t kept.base.known.images known f.answer (Flushes f.blocks f.most) choice f.point f.at (subst (λ (p : Plan). MayFailAt w.devices choice (want p)) f.is m))
         stands t known leader Suspend s f c = subst (λ (p : Plan). CanFalter {P = P} {A = A} (At (Stands t)) choice (want p)) (sym f.is)
             (flush_falters P A shape w.devices w.commit w.actors k.actor t kept.base.known.images known f.answer (Suspends f.blocks f.most) choice f.point f.at (subst (λ (p : Plan). MayFailAt w.devices choice (want p)) f.is m))
-        stands t known leader (Open mode) s f c = absurd s
+        stands t known leader (Open mode second) s f c = absurd s
         stands t known leader (Replace old new) s f c = absurd f
 
         opens : (mode : Mode) (reading : Option (ReadSteps A)) → AtOpening shape.geometry kept.base.known.images reading w.commit w.devices.metadata → (job : Job) → IsOpeningJob mode job → OpenJob reading w.commit job k.plan → CanFalter {P = P} {A = A} (At (Opens mode reading)) choice (want k.plan)
-        opens mode reading known (Open m') o f = subst (λ (p : Plan). CanFalter {P = P} {A = A} (At (Opens mode reading)) choice (want p)) (sym f.is)
-            (open_falters P A shape w.devices w.commit w.actors k.actor mode m' reading kept.base.known.images known f.sectors policy first begins choice f.point f.at (subst (λ (p : Plan). MayFailAt w.devices choice (want p)) f.is m))
+        opens mode reading known (Open m' second) o f = subst (λ (p : Plan). CanFalter {P = P} {A = A} (At (Opens mode reading)) choice (want p)) (sym f.is)
+            (open_falters P A shape w.devices w.commit w.actors k.actor mode m' second reading kept.base.known.images known f.sectors policy first begins choice f.point f.at (subst (λ (p : Plan). MayFailAt w.devices choice (want p)) f.is m))
         opens mode reading known (Read extent) o f = absurd o
         opens mode reading known (Write extent content) o f = absurd o
         opens mode reading known Flush o f = absurd o
@@ -346,7 +346,11 @@ module _ (P A : Type 0) (shape : Shape) (policy : P) (first : ReadSteps A) (begi
       by_phase idle (Stands t) e = record { what = Started; read = []; chosen = Looks (mapped_in t.desk.tree.entries); may = (refl, applies, (idle, subst (λ (p : Phase P A). OfTarget p (λ u. AreMapped u.desk (mapped_in t.desk.tree.entries))) (sym e) (record { each = mapped_each t.desk.tree.entries; all = mapped_all t.desk.tree.entries }))) }
       by_phase idle Gone e = absurd (applies (inr (inr (inr (λ o. subst (λ (p : Phase P A). OfTarget p (λ t. Unit {0})) e o)))))
       by_phase idle (Opens mode reading) e = absurd (applies (inr (inr (inr (λ o. subst (λ (p : Phase P A). OfTarget p (λ t. Unit {0})) e o)))))
-  starts w a (Open mode) applies = record { what = Started; read = []; chosen = Plain; may = (refl, applies, tt) }
+  starts w a (Open mode second) applies = by_refusal (job_refusal shape (Open mode second)) refl
+    where
+      by_refusal : (o : Option Refusal) → job_refusal shape (Open mode second) ≡ o → HasHappening shape w (Start a (Open mode second))
+      by_refusal (Some r) e = record { what = Refused r; read = []; chosen = Plain; may = (refl, applies, e) }
+      by_refusal None e = record { what = Started; read = []; chosen = Plain; may = (refl, applies, e) }
   starts w a (Invalidate block) applies = by_refusal (job_refusal shape (Invalidate block)) refl
     where
       by_refusal : (o : Option Refusal) → job_refusal shape (Invalidate block) ≡ o → HasHappening shape w (Start a (Invalidate block))

@@ -36,6 +36,6 @@ given_keeps Holds keeps (Stands t) (Write extent content) chosen holds = holds
 given_keeps Holds keeps (Stands t) Flush chosen holds = holds
 given_keeps Holds keeps (Stands t) Suspend chosen holds = holds
 given_keeps Holds keeps (Stands t) (Invalidate block) chosen holds = holds
-given_keeps Holds keeps (Stands t) (Open mode) chosen holds = holds
+given_keeps Holds keeps (Stands t) (Open mode second) chosen holds = holds
 given_keeps Holds keeps Gone job chosen holds = holds
 given_keeps Holds keeps (Opens mode reading) job chosen holds = holds

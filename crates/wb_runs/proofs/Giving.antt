@@ -68,7 +68,7 @@ use Rattle.wb_runs.proofs.Passing.{WritesOwn, write_own}
 use Rattle.wb_runs.proofs.Desks.{is_live, can_unmap}
 use Rattle.wb_runs.proofs.Plans.{plan_of}
 use Rattle.wb_runs.proofs.Readings.{generation_fits, can_read}
-use Rattle.wb_tasks.specs.Points.{OpenPoint, AtFirst, AtCache, AtOrigin, AtRead, AtRoot, AtRootSync, AtEnd, AtRefusal, open_left, open_answer}
+use Rattle.wb_tasks.specs.Points.{OpenPoint, AtFirst, AtCache, AtOrigin, AtRead, AtNodes, AtRoot, AtRootSync, AtEnd, AtRefusal, open_left, open_answer}
 use Rattle.wb_runs.proofs.Points.{Runs, FlushPoint, ToLook, ToBegin, ToSyncCache, ToSyncOrigin, ToWriteNodes, ToWriteRoot, ToSyncRoot, ToEnd, ToSetFailed, ToRelease, AtFlush, AtOpen, CommitJob, Flushes, Suspends, task_of, doing_of, begin_of, commit_left, IsOf, ToSetSuspended, ToAsk, ToBreak}
 
 -- ---- reads
@@ -91,7 +91,7 @@ come_size image before Committed now come = come.safe.grew.size
 
 -- the device has the size that the image is for
 same_size : (g : Geometry) (images : Images) (c : RunningCommit) (of : _) (device : List History) → Underway g images c of device → length device ≡ c.image.root.geometry.meta_sectors
-same_size g images c of device u = come_size of.image of.before c.steps device u.come ∙ u.can.size ∙ ap (λ (x : Geometry). x.meta_sectors) (sym u.can.same_geometry ∙ ap (λ r. r.geometry) u.can.root_is) ∙ ap (λ (i : Image). i.root.geometry.meta_sectors) u.image
+same_size g images c of device u = come_size of.image of.before c.steps device u.come ∙ u.can.size ∙ sym u.can.sizes.meta_sectors ∙ ap (λ r. r.geometry.meta_sectors) u.can.root_is ∙ ap (λ (i : Image). i.root.geometry.meta_sectors) u.image
 
 -- so does the commit that runs, if any does
 abbrev AllFit : Option RunningCommit → List History → Type 0
@@ -486,7 +486,7 @@ module _ (P A : Type 0) (shape : Shape) (devices : Devices (List History)) (comm
 
   -- ---- an opening
 
-  module _ (mode m' : Mode) (reading : Option (ReadSteps A)) (images : Images) (known : AtOpening shape.geometry images reading commit devices.metadata) (n : ℕ) (policy : P) (first : ReadSteps A) (begins : sectors_read first ≡ 0) where
+  module _ (mode m' : Mode) (second : Bool) (reading : Option (ReadSteps A)) (images : Images) (known : AtOpening shape.geometry images reading commit devices.metadata) (n : ℕ) (policy : P) (first : ReadSteps A) (begins : sectors_read first ≡ 0) where
     abbrev v : State P A
     v = record { devices = devices; commit = commit; phase = Opens mode reading; actors = actors }
 
@@ -497,27 +497,30 @@ module _ (P A : Type 0) (shape : Shape) (devices : Devices (List History)) (comm
     opens_fit = opening_fits P A shape.geometry images reading commit devices.metadata known
 
     reads_on : (left : ℕ) (r : Option (ReadSteps A)) (c : Option RunningCommit) → c ≡ None → AtOpening shape.geometry images r c devices.metadata → OfSome r (λ was. sectors_read was ≡ 0 → 1 ≤ left) →
-        CanGive {P = P} {A = A} shape (record { devices = devices; commit = c; phase = Opens mode r; actors = actors }) x (Open m') (Device (ReadMetadata left))
+        CanGive {P = P} {A = A} shape (record { devices = devices; commit = c; phase = Opens mode r; actors = actors }) x (Open m' second) (Device (ReadMetadata left))
     reads_on left (Some was) None e k o = let some : 1 ≤ length devices.metadata = omega (arith, k.found.read.size, shape.geometry.within.meta_from) in
-        let r = can_read P A mode shape.geometry devices.metadata images left was k o some in record { got = r.got; read = []; chosen = r.chosen; gives = (refl, refl, r.does) }
+        let r = can_read P A mode shape.geometry second devices.metadata images left was k o some in record { got = r.got; read = []; chosen = r.chosen; gives = (refl, refl, r.does) }
     reads_on left None c e k o = absurd o
     reads_on left r (Some c) e k o = absurd (cc)
 
-    answers : (r : Option (ReadSteps A)) (c : Option RunningCommit) → AtOpening shape.geometry images r c devices.metadata → Runs 0 Committed c →
+    answers : (r : Option (ReadSteps A)) (c : Option RunningCommit) → AtOpening shape.geometry images r c devices.metadata → (nodes : ℕ) → Runs nodes Committed c →
         OfReading {P = P} {A = A} (Opens mode r) (λ mode reading. IsDone reading) × (Rattle.wb_stage.specs.Stages.is_all_done c ≡ true)
-    answers r None k at = absurd at
-    answers None (Some c) k at = absurd k
-    answers (Some reading) (Some c) k at = (subst (λ (x : ReadSteps A). IsDone x) (sym k.all) tt, ap (λ (s : CommitSteps). Rattle.wb_devices.specs.Committing.is_committed s) at.2)
+    answers r None k nodes at = absurd at
+    answers None (Some c) k nodes at = absurd k
+    answers (Some reading) (Some c) k nodes at = (subst (λ (x : ReadSteps A). IsDone x) (sym k.all) tt, ap (λ (s : CommitSteps). Rattle.wb_devices.specs.Committing.is_committed s) at.2)
 
-    pub open_gives : (point : OpenPoint) → AtOpen n point reading commit → CanGive shape v x (Open m') (want (O point))
+    pub open_gives : (point : OpenPoint) → AtOpen n point reading commit → CanGive shape v x (Open m' second) (want (O point))
     open_gives AtFirst at = record { got = Done; read = []; chosen = Begins first; gives = (refl, refl, subst (λ (c : Option RunningCommit). Rattle.wb_promise.specs.Happenings.DoesSync {P = P} {A = A} (Opens mode reading) c devices.metadata (Begins first)) (sym at.0) begins) }
     open_gives AtCache at = record { got = Done; read = []; chosen = Plain; gives = ((refl, refl), refl) }
     open_gives AtOrigin at = record { got = Done; read = []; chosen = Plain; gives = ((refl, refl), refl) }
     open_gives (AtRead left) at = reads_on left reading commit at.0 known at.1
-    open_gives AtRoot at = let p = puts_root P A 0 commit devices.metadata at opens_fit in record { got = Done; read = []; chosen = p.0; gives = (refl, refl, p.1) }
-    open_gives AtRootSync at = let s = syncs_next P A 0 commit devices.metadata RootWritten at opens_fit (λ i e. refl) in
+    open_gives (AtNodes zero from) at = let all : from + 0 ≡ from = omega arith in let s = syncs_next P A (from + 0) commit devices.metadata (NodesWritten from) at opens_fit (λ i e. none_coming from i (e ∙ all)) in
         record { got = Done; read = []; chosen = Plain; gives = (refl, refl, subst (λ (c : Option RunningCommit). Rattle.wb_promise.specs.Happenings.DoesSync {P = P} {A = A} (Opens mode reading) c devices.metadata Plain) (sym s.1) (s.2, refl)) }
-    open_gives AtEnd at = record { got = Done; read = []; chosen = Opened policy; gives = (refl, refl, answers reading commit known at) }
+    open_gives (AtNodes (suc left) from) at = let p = puts_node P A left from commit devices.metadata at opens_fit in record { got = Done; read = []; chosen = p.0; gives = (refl, refl, p.1) }
+    open_gives AtRoot at = let p = puts_root P A at.0 commit devices.metadata at.1 opens_fit in record { got = Done; read = []; chosen = p.0; gives = (refl, refl, p.1) }
+    open_gives AtRootSync at = let s = syncs_next P A at.0 commit devices.metadata RootWritten at.1 opens_fit (λ i e. refl) in
+        record { got = Done; read = []; chosen = Plain; gives = (refl, refl, subst (λ (c : Option RunningCommit). Rattle.wb_promise.specs.Happenings.DoesSync {P = P} {A = A} (Opens mode reading) c devices.metadata Plain) (sym s.1) (s.2, refl)) }
+    open_gives AtEnd at = record { got = Done; read = []; chosen = Opened policy; gives = (refl, refl, answers reading commit known at.0 at.1) }
     open_gives (AtRefusal refusal) at = record { got = Done; read = []; chosen = Plain; gives = ((refl, refl), refl) }
 
     pub open_falters : (choice : Choice) (point : OpenPoint) → AtOpen n point reading commit → Rattle.wb_promise.specs.Happenings.MayFailAt devices choice (want (O point)) → CanFalter v choice (want (O point))
@@ -525,8 +528,11 @@ module _ (P A : Type 0) (shape : Shape) (devices : Devices (List History)) (comm
     open_falters choice AtCache at m = record { chosen = Plain; falters = refl }
     open_falters choice AtOrigin at m = record { chosen = Plain; falters = refl }
     open_falters choice (AtRead left) at m = record { chosen = Plain; falters = (refl, at.0) }
-    open_falters choice AtRoot at m = let p = fails_root P A 0 commit choice devices.metadata at opens_fit in record { chosen = p.0; falters = p.1 }
-    open_falters choice AtRootSync at m = let s = syncs_next P A 0 commit devices.metadata RootWritten at opens_fit (λ i e. refl) in
+    open_falters choice (AtNodes zero from) at m = let all : from + 0 ≡ from = omega arith in let s = syncs_next P A (from + 0) commit devices.metadata (NodesWritten from) at opens_fit (λ i e. none_coming from i (e ∙ all)) in
+        record { chosen = Plain; falters = (refl, subst (λ (c : Option RunningCommit). Rattle.wb_promise.specs.Happenings.FailsSync {P = P} {A = A} (Opens mode reading) c devices.metadata) (sym s.1) (s.2, tt)) }
+    open_falters choice (AtNodes (suc left) from) at m = let p = fails_node P A left from commit choice devices.metadata at opens_fit in record { chosen = p.0; falters = p.1 }
+    open_falters choice AtRoot at m = let p = fails_root P A at.0 commit choice devices.metadata at.1 opens_fit in record { chosen = p.0; falters = p.1 }
+    open_falters choice AtRootSync at m = let s = syncs_next P A at.0 commit devices.metadata RootWritten at.1 opens_fit (λ i e. refl) in
         record { chosen = Plain; falters = (refl, subst (λ (c : Option RunningCommit). Rattle.wb_promise.specs.Happenings.FailsSync {P = P} {A = A} (Opens mode reading) c devices.metadata) (sym s.1) (s.2, tt)) }
     open_falters choice AtEnd at m = absurd m
     open_falters choice (AtRefusal refusal) at m = absurd m

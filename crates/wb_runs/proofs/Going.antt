@@ -29,14 +29,15 @@ use Rattle.wb_devices.specs.Opened.{HasCome, got_of_refusal}
 use Rattle.wb_promise.specs.declared.job.Job.{Job}
 use Rattle.wb_promise.specs.declared.job.Job.TheVariants.{Open}
 use Rattle.wb_promise.specs.States.{Shape, State, Actor, Target, Stands, Opens}
-use Rattle.wb_promise.specs.Happenings.{Chosen, Plain, Begins, Reaches, Commits, OfSome, HasGeneration, DoesSync, DoesRead, DoesBegin, Gives, Falters, DoesLead, DoesArrive, DoesAsk}
+use Rattle.wb_promise.specs.Happenings.{Chosen, Plain, Begins, Reaches, Commits, OfSome, AreWhole, HasGeneration, DoesSync, DoesRead, DoesBegin, Gives, Falters, DoesLead, DoesArrive, DoesAsk}
 use Rattle.wb_promise.specs.Effects.{commit_then, reading_then, task_then}
 use Rattle.wb_runs.proofs.Plans.{plan_of}
 use Rattle.wb_runs.proofs.Metadata.{AtDesk}
 use Rattle.wb_runs.proofs.Images.{Images}
-use Rattle.wb_runs.proofs.Making.{image_small, small_opening}
-use Rattle.wb_tasks.specs.Points.{OpenPoint, AtFirst, AtCache, AtOrigin, AtRead, AtRoot, AtRootSync, AtEnd, AtRefusal, open_left, open_answer}
+use Rattle.wb_runs.proofs.Making.{image_small, small_opening, whole_small}
+use Rattle.wb_tasks.specs.Points.{OpenPoint, AtFirst, AtCache, AtOrigin, AtRead, AtNodes, AtRoot, AtRootSync, AtEnd, AtRefusal, open_left, open_answer}
 use Rattle.wb_runs.proofs.Points.{Runs, CommitJob, Flushes, Suspends, task_of, doing_of, begin_of, first_looks, following, FlushPoint, ToLook, ToBegin, ToSyncCache, ToSyncOrigin, ToWriteNodes, ToWriteRoot, ToSyncRoot, ToEnd, ToSetSuspended, ToSetFailed, ToRelease, commit_left, IsOf, AtFlush, IsLeading, FlushAt, FlushTask, AtOpen, OpenAt, ask_of, ToAsk, ToBreak}
+use Rattle.std.specs.Prelude.{IfSome}
 use Rattle.std.proofs.lemmas.List.{append_assoc}
 use Rattle.wb_words.specs.declared.step.CellStep.TheVariants.{SetFailed, SetSuspended, Look}
 use Rattle.wb_tasks.specs.declared.step.DeskStep.TheVariants.{Arrive, Ask, BeginCommit}
@@ -304,7 +305,7 @@ module _ (P A : Type 0) (shape : Shape) (t : Target P) (commit : Option RunningC
 
 -- ---- an opening
 
-module _ (P A : Type 0) (shape : Shape) (mode m' : Mode) (reading : Option (ReadSteps A)) (commit : Option RunningCommit) (w : State P A) (n : ℕ) where
+module _ (P A : Type 0) (shape : Shape) (mode m' : Mode) (second : Bool) (reading : Option (ReadSteps A)) (commit : Option RunningCommit) (w : State P A) (n : ℕ) where
   abbrev O : OpenPoint → Plan
   O point = plan_of (Opening n) (open_left n point) (open_answer point)
 
@@ -322,21 +323,30 @@ module _ (P A : Type 0) (shape : Shape) (mode m' : Mode) (reading : Option (Read
         (record { sectors = n; point = AtCache; is = refl; at = (refl, k) })
     syncs_first None e k g ch d = absurd d
 
-    reads : (left : ℕ) (was : ReadSteps A) → commit ≡ None → (ch : Chosen P A) → DoesRead mode shape.geometry left was w.devices.metadata commit got ch →
+    reads : (left : ℕ) (was : ReadSteps A) → commit ≡ None → (ch : Chosen P A) → DoesRead mode shape.geometry second left was w.devices.metadata commit got ch →
         OpenAt (reading_then (Some was) (want (O (AtRead left))) got ch) (commit_then {P = P} {A = A} (Opens mode (Some was)) commit (want (O (AtRead left))) got ch) (after (O (AtRead left)) got)
-    reads left was e (Reaches r c) (fine, inl more) = elim more.3 [
+    reads left was e (Reaches r c) (fine, inl more) = elim more.3.2 [
       | inl in_time ↦ by_got got fine in_time.0
       | inr unclean ↦ subst (λ (x : Got). OpenAt r c (after (O (AtRead left)) x)) (sym unclean.1) (refuses r c NotClean _ refl)
     ]
       where
-        by_got : (got : Got) → (got ≢ Fault) → HasCome shape.geometry left more.0 commit got r c → OpenAt r c (after (O (AtRead left)) got)
+        by_got : (got : Got) → (got ≢ Fault) → HasCome more.3.0 left more.0 commit got r c → OpenAt r c (after (O (AtRead left)) got)
         by_got More f h = record {
           sectors = n;
           point = AtRead (left - 1);
           is = refl;
           at = (h.3 ∙ e, subst (λ (x : Option (ReadSteps A)). OfSome x (λ now. sectors_read now ≡ 0 → 1 ≤ left - 1)) (sym h.1) (λ z. absurd (omega (arith, z, more.4))));
         }
-        by_got Done f h = record { sectors = n; point = AtRoot; is = refl; at = subst (λ (x : Option RunningCommit). Runs 0 NodesSynced x) (sym h.2.commit_is) (ap (λ (xs : List (Place × Node)). length xs) h.2.opens.no_nodes, small_opening h.2.next.image h.2.opens.no_nodes (subst (λ (x : Option RunningCommit). HasGeneration x) h.2.commit_is more.5), h.2.steps) }
+        by_got Done f h = record { sectors = n; point = AtRoot; is = refl; at = (0, subst (λ (x : Option RunningCommit). Runs 0 NodesSynced x) (sym h.2.commit_is) (ap (λ (xs : List (Place × Node)). length xs) h.2.opens.no_nodes, small_opening h.2.next.image h.2.opens.no_nodes (subst (λ (x : Option RunningCommit). HasGeneration x) h.2.commit_is more.5), h.2.steps)) }
+        by_got (Began nodes) f h =
+            let all : nodes ≡ 0 + nodes = omega arith in
+            let whole : AreWhole h.2.next.image = subst (λ (x : Option RunningCommit). IfSome x (λ running. AreWhole running.image)) h.2.commit_is more.6 in
+            record {
+              sectors = n;
+              point = AtNodes nodes 0;
+              is = refl;
+              at = subst (λ (x : Option RunningCommit). Runs (0 + nodes) (NodesWritten 0) x) (sym h.2.commit_is) (sym h.2.count ∙ all, whole_small h.2.next.image (subst (λ (x : Option RunningCommit). HasGeneration x) h.2.commit_is more.5) whole, h.2.steps);
+            }
         by_got (GotRefused refusal) f h = refuses r c refusal _ refl
         by_got Fault f h = absurd (f refl)
         by_got got f h = absurd h
@@ -347,19 +357,19 @@ module _ (P A : Type 0) (shape : Shape) (mode m' : Mode) (reading : Option (Read
         by_refusal refusal h = subst (λ (x : Got). OpenAt r c (after (O (AtRead left)) x)) (sym h) (refuses r c refusal _ refl)
     reads left was e ch g = absurd g
 
-    on_reading : (left : ℕ) (r : Option (ReadSteps A)) → commit ≡ None → Rattle.wb_promise.specs.States.OfReading {P = P} {A = A} (Opens mode r) (λ mode was. DoesRead mode shape.geometry left was w.devices.metadata commit got chosen) →
+    on_reading : (left : ℕ) (r : Option (ReadSteps A)) → commit ≡ None → Rattle.wb_promise.specs.States.OfReading {P = P} {A = A} (Opens mode r) (λ mode was. DoesRead mode shape.geometry second left was w.devices.metadata commit got chosen) →
         OpenAt (reading_then r (want (O (AtRead left))) got chosen) (commit_then {P = P} {A = A} (Opens mode r) commit (want (O (AtRead left))) got chosen) (after (O (AtRead left)) got)
     on_reading left (Some was) e g = reads left was e chosen g
     on_reading left None e g = absurd g
 
-    led_on : got ≡ Done → (steps steps' : CommitSteps) → Runs 0 steps commit → ((image : Image) → length image.nodes.items ≡ 0 → steps_after image steps ≡ steps') → Runs 0 steps' (Rattle.wb_promise.specs.Effects.led commit got)
-    led_on e steps steps' r f = subst (λ (g : Got). Runs 0 steps' (Rattle.wb_promise.specs.Effects.led commit g)) (sym e) (leads_on 0 commit steps r steps' f)
+    led_on : (nodes : ℕ) → got ≡ Done → (steps steps' : CommitSteps) → Runs nodes steps commit → ((image : Image) → length image.nodes.items ≡ nodes → steps_after image steps ≡ steps') → Runs nodes steps' (Rattle.wb_promise.specs.Effects.led commit got)
+    led_on nodes e steps steps' r f = subst (λ (g : Got). Runs nodes steps' (Rattle.wb_promise.specs.Effects.led commit g)) (sym e) (leads_on nodes commit steps r steps' f)
 
     on_to : (p q : OpenPoint) (r' : Option (ReadSteps A)) (c' : Option RunningCommit) → got ≡ Done → after (O p) Done ≡ O q → AtOpen n q r' c' → OpenAt r' c' (after (O p) got)
     on_to p q r' c' e is at = subst (λ (x : Got). OpenAt r' c' (after (O p) x)) (sym e) (record { sectors = n; point = q; is = is; at = at })
 
-    pub open_moves : (point : OpenPoint) → AtOpen n point reading commit → Gives shape here x (Open m') (want (O point)) got read chosen →
-        Rattle.wb_runs.proofs.Points.OpenTask (reading_then reading (want (O point)) got chosen) (commit_then {P = P} {A = A} (Opens mode reading) commit (want (O point)) got chosen) (task_then (Some (Open m', O point)) (want (O point)) got)
+    pub open_moves : (point : OpenPoint) → AtOpen n point reading commit → Gives shape here x (Open m' second) (want (O point)) got read chosen →
+        Rattle.wb_runs.proofs.Points.OpenTask (reading_then reading (want (O point)) got chosen) (commit_then {P = P} {A = A} (Opens mode reading) commit (want (O point)) got chosen) (task_then (Some (Open m' second, O point)) (want (O point)) got)
     open_moves AtFirst at g = syncs_first commit at.0 at.1 g.1 chosen g.2
     open_moves AtCache at g = on_to AtCache AtOrigin reading commit g.1 refl at
     open_moves AtOrigin at g = on_to AtOrigin (AtRead n) reading commit g.1 refl (at.0, any reading at.1)
@@ -368,17 +378,26 @@ module _ (P A : Type 0) (shape : Shape) (mode m' : Mode) (reading : Option (Read
         any None o = absurd o
         any (Some was) o = λ z. o
     open_moves (AtRead left) at g = on_reading left reading at.0 g.2
-    open_moves AtRoot at g = on_to AtRoot AtRootSync _ _ g.1 refl (led_on g.1 NodesSynced RootWritten at (λ i e. refl))
-    open_moves AtRootSync at g = on_to AtRootSync AtEnd _ _ g.1 refl (led_on g.1 RootWritten Committed at (λ i e. refl))
+    open_moves (AtNodes zero from) at g =
+        let all : from + 0 ≡ from = omega arith in
+        on_to (AtNodes zero from) AtRoot _ _ g.1 refl (from + 0, led_on (from + 0) g.1 (NodesWritten from) NodesSynced at (λ i e. nodes_over from i (e ∙ all)))
+    open_moves (AtNodes (suc left) from) at g =
+        let more : from + suc left ≡ from + 1 + left = omega arith in
+        on_to (AtNodes (suc left) from) (AtNodes left (from + 1)) _ _ g.1 refl
+        (subst (λ (k : ℕ). Runs k (NodesWritten (from + 1)) (Rattle.wb_promise.specs.Effects.led commit got)) more (led_on (from + suc left) g.1 (NodesWritten from) (NodesWritten (from + 1)) at (node_over left from)))
+    open_moves AtRoot at g = on_to AtRoot AtRootSync _ _ g.1 refl (at.0, led_on at.0 g.1 NodesSynced RootWritten at.1 (λ i e. refl))
+    open_moves AtRootSync at g = on_to AtRootSync AtEnd _ _ g.1 refl (at.0, led_on at.0 g.1 RootWritten Committed at.1 (λ i e. refl))
     open_moves AtEnd at g = tt
     open_moves (AtRefusal refusal) at g = tt
 
   pub open_fails : (choice : Choice) (chosen : Chosen P A) (point : OpenPoint) → Falters here choice (want (O point)) chosen →
-      Rattle.wb_runs.proofs.Points.OpenTask (reading_then reading (want (O point)) Fault chosen) (commit_then {P = P} {A = A} (Opens mode reading) commit (want (O point)) Fault chosen) (task_then (Some (Open m', O point)) (want (O point)) Fault)
+      Rattle.wb_runs.proofs.Points.OpenTask (reading_then reading (want (O point)) Fault chosen) (commit_then {P = P} {A = A} (Opens mode reading) commit (want (O point)) Fault chosen) (task_then (Some (Open m' second, O point)) (want (O point)) Fault)
   open_fails choice chosen AtFirst g = refuses _ _ (Io Metadata) _ refl
   open_fails choice chosen AtCache g = refuses _ _ (Io Cache) _ refl
   open_fails choice chosen AtOrigin g = refuses _ _ (Io Origin) _ refl
   open_fails choice chosen (AtRead left) g = refuses _ _ (Io Metadata) _ refl
+  open_fails choice chosen (AtNodes zero from) g = refuses _ _ (Io Metadata) _ refl
+  open_fails choice chosen (AtNodes (suc left) from) g = refuses _ _ (Io Metadata) _ refl
   open_fails choice chosen AtRoot g = refuses _ _ (Io Metadata) _ refl
   open_fails choice chosen AtRootSync g = refuses _ _ (Io Metadata) _ refl
   open_fails choice chosen AtEnd g = absurd g

@@ -33,6 +33,10 @@ pub root_of_image : (bits : Option (List Bool)) (m n : Mapping) (plan : ImagePla
 root_of_image None m n plan image is = (is.root_generation, is.root_clean)
 root_of_image (Some bits) m n plan image is = (is.root_generation, is.root_clean)
 
+pub geometry_of_image : (bits : Option (List Bool)) (m n : Mapping) (plan : ImagePlan) (image : Image) → IsImageOf bits m n plan image → image.root.geometry ≡ plan.geometry
+geometry_of_image None m n plan image is = is.root_geometry
+geometry_of_image (Some bits) m n plan image is = is.root_geometry
+
 pub entries_read : (bits : Option (List Bool)) (image : Image) (n : Mapping) → (found_of_image bits image n).entries ≡ with_bits bits n.entries
 entries_read None image n = refl
 entries_read (Some bits) image n = refl

@@ -159,7 +159,7 @@ module _ (P A : Type 0) (shape : Shape) where
   plain_read w actor got read chosen Flush d e g = absurd g
   plain_read w actor got read chosen Suspend d e g = absurd g
   plain_read w actor got read chosen (Invalidate block) d e g = absurd g
-  plain_read w actor got read chosen (Open mode) d e g = absurd g
+  plain_read w actor got read chosen (Open mode second) d e g = absurd g
   plain_read w actor got read chosen (Migrate migration block) d e g = g.1.1
   plain_read w actor got read chosen (Replace old new) d e g = absurd g
 
@@ -200,7 +200,7 @@ module _ (P A : Type 0) (shape : Shape) where
   cell_given w actor got read chosen Flush step g = g.1
   cell_given w actor got read chosen Suspend step g = g.1
   cell_given w actor got read chosen (Invalidate block) step g = g.1
-  cell_given w actor got read chosen (Open mode) step g = g.1
+  cell_given w actor got read chosen (Open mode second) step g = g.1
   cell_given w actor got read chosen (Migrate migration block) step g = g.1
   cell_given w actor got read chosen (Replace old new) step g = g.1
 
@@ -221,7 +221,7 @@ module _ (P A : Type 0) (shape : Shape) where
 
   -- the seals after it
   opened_seals : (mode : Mode) (reading : Option (ReadSteps A)) (commit : Option RunningCommit) (got : Got) (chosen : Chosen P A) (m : List History) (i : Images) → MetadataKept {P = P} {A = A} shape.geometry i (phase_opened shape mode reading chosen) None m → SealsHere shape (phase_opened shape mode reading chosen)
-  opened_seals mode (Some (AllRead stored)) commit got (Opened policy) m i k = sealed_inside shape stored.root.clean 0 (entries_of stored) (fresh_words shape.geometry.origin_blocks) (omega (arith, k.is.kept.mapping.size, length-with_bits stored.dirty stored.tree.entries)) (fresh_inside shape.geometry.cache_blocks shape.geometry.origin_blocks)
+  opened_seals mode (Some (AllRead stored)) commit got (Opened policy) m i k = sealed_inside shape stored.root.clean 0 (entries_of stored) (fresh_words shape.geometry.origin_blocks) (omega (arith, k.is.kept.mapping.size, k.is.sizes.cache_blocks, length-with_bits stored.dirty stored.tree.entries)) (fresh_inside shape.geometry.cache_blocks shape.geometry.origin_blocks)
   opened_seals mode (Some (Begun alloc global)) commit got (Opened policy) m i k = tt
   opened_seals mode (Some (FirstSlotRead alloc global first)) commit got (Opened policy) m i k = tt
   opened_seals mode (Some (RootFound global root loader nodes)) commit got (Opened policy) m i k = tt
@@ -331,7 +331,7 @@ module _ (P A : Type 0) (shape : Shape) where
   table_inside w n a Flush chosen b g mode awaiting = (tt, (tt, (tt, tt)))
   table_inside w n a Suspend (Looks looks) b g mode awaiting = (tt, (tt, looks_inside shape looks (Rattle.wb_promise.specs.Happenings.most_for shape.geometry true)))
   table_inside w n a Suspend chosen b g mode awaiting = absurd g
-  table_inside w n a (Open opened_in) chosen b g mode awaiting = (tt, (tt, (tt, (tt, (tt, (tt, (tt, tt)))))))
+  table_inside w n a (Open opened_in second) chosen b g mode awaiting = (tt, (tt, (tt, (tt, (tt, (tt, (tt, tt)))))))
   table_inside w n a (Invalidate block) chosen b g mode awaiting = (tt, (tt, (tt, tt)))
   table_inside w n a (Migrate migration block) chosen b g mode awaiting =
       let kept = orders_of_actor w a (slice_get w.actors a) (λ x e order m. b.used.orders a x e order (in_orders x order m)) in
@@ -348,7 +348,7 @@ module _ (P A : Type 0) (shape : Shape) where
   rest_inside actors a x e = subst (λ (v : Actor). PlanInside shape v.task) (sym (all_rest actors a x e)) tt
 
   clear : (w : State P A) (job : Job) → Inside shape w → Inside shape (cleared w job)
-  clear w (Open mode) i = record { cache = i.cache; origin = i.origin; seals = tt; tasks = rest_inside w.actors }
+  clear w (Open mode second) i = record { cache = i.cache; origin = i.origin; seals = tt; tasks = rest_inside w.actors }
   clear w (Read extent) i = i
   clear w (Write extent content) i = i
   clear w Flush i = i

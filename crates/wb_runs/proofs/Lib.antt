@@ -1,3 +1,4 @@
+pub mod Sizes
 pub mod Imaged
 pub mod Images
 pub mod Underway

@@ -1,5 +1,5 @@
 -- Every run is linked: so whoever answers done has moved each of its sectors once, and an opening that is refused has a cause.
-use Rattle.std.proofs.Common.{◌≡◌, ◌≢◌, ◌∙◌, inl, inr, ℕ, zero, suc, List, [], ◌∷◌, Option, Some, None, refl, sym, ap, subst, arith, length, slice_get, slice_set, replicate}
+use Rattle.std.proofs.Common.{◌≡◌, ◌≢◌, ◌∙◌, inl, inr, ℕ, zero, suc, Bool, List, [], ◌∷◌, Option, Some, None, refl, sym, ap, subst, arith, length, slice_get, slice_set, replicate}
 use Rattle.std.proofs.lemmas.Bool.{cases_eq}
 use Rattle.std.proofs.lemmas.Option.{slice_get_within}
 use Rattle.wb_types.specs.declared.mode.Mode.{Mode}
@@ -41,7 +41,7 @@ use Rattle.wb_runs.proofs.Passing.{target_stands}
 use Rattle.wb_runs.proofs.Claims.{JobClaim, NotedClaim, TaskClaim, AllClaim, Noted, claim_set, noted_of, read_ends, write_ends}
 use Rattle.wb_runs.proofs.Ruling.{each_set}
 use Rattle.wb_runs.proofs.Using.{UsedRightly, used_what, used_start}
-use Rattle.wb_runs.proofs.Opening.{IsOpeningJob, IsServed, InPhase, open_refuses, opens_in}
+use Rattle.wb_runs.proofs.Opening.{IsServed, InPhase, open_refuses, opens_in}
 use Rattle.wb_runs.proofs.Linking.{TaskHere, IsTask, AtPhase, Linked, others_stay, claims_on, claims_failed}
 
 all_none : (doings : List (Option Doing)) (b : ℕ) (o : Option Doing) → slice_get doings b ≡ Some o → slice_get (nobody doings) b ≡ Some None
@@ -154,7 +154,7 @@ module _ (P A : Type 0) (shape : Shape) where
       by_job (Invalidate block) s = set_other n.doings a b None o
       by_job (Migrate migration block) s = set_other n.doings a b None o
       by_job (Replace old new) s = set_other n.doings a b None o
-      by_job (Open opened_in) s = absurd s
+      by_job (Open opened_in second) s = absurd s
 
   answer_mine : (mode : Mode) (shown : List Bytes) (n : Notes) (a : ℕ) (doing : Doing) (job : Job) (answer : Answer) (got : Got) (read : List Bytes) → IsServed job → doing.job ≡ job → slice_get n.doings a ≡ Some (Some doing) → slice_get (noted_step shape mode shown n a (Some (Some doing)) (End answer) got read).doings a ≡ Some None
   answer_mine mode shown n a doing job (Refuses refusal) got read s j e = set_there n.doings a (Some doing) None e
@@ -168,7 +168,7 @@ module _ (P A : Type 0) (shape : Shape) where
       by_job (Invalidate block) s = set_there n.doings a (Some doing) None e
       by_job (Migrate migration block) s = set_there n.doings a (Some doing) None e
       by_job (Replace old new) s = set_there n.doings a (Some doing) None e
-      by_job (Open opened_in) s = absurd s
+      by_job (Open opened_in second) s = absurd s
 
   module _ (shown : List Bytes) (w : State P A) (n : Notes) (l : LinkedTo w n) (a : ℕ) (x : Actor) (e : slice_get w.actors a ≡ Some x) (job : Job) (plan : Plan) (xt : x.task ≡ Some (job, plan)) (answer : Answer) (got : Got) (read : List Bytes) (chosen : Chosen P A)
       (d : Noted shape (mode_of w.phase) job plan (slice_get n.doings a)) where
@@ -208,8 +208,8 @@ module _ (P A : Type 0) (shape : Shape) where
       | inr o ↦ let old = sym (set_other w.actors a b y' o) ∙ f in noted_there shape (mode_of w.phase) z.task (slice_get n.doings b) (l.claims b z old)
     ]
 
-    opens_end : (mode : Mode) (reading : Option (ReadSteps A)) (opener : ℕ) → ((b : ℕ) (z : Actor) → slice_get w.actors b ≡ Some z → IsTask z.task → b ≡ opener) → (mode' : Mode) → job ≡ Open mode' → Linked shape (phase_opened shape mode reading chosen) (slice_set w.actors a y') n'
-    opens_end mode reading opener alone mode' j = by_answer answer refl
+    opens_end : (mode : Mode) (reading : Option (ReadSteps A)) (opener : ℕ) → ((b : ℕ) (z : Actor) → slice_get w.actors b ≡ Some z → IsTask z.task → b ≡ opener) → (mode' : Mode) (second : Bool) → job ≡ Open mode' second → Linked shape (phase_opened shape mode reading chosen) (slice_set w.actors a y') n'
+    opens_end mode reading opener alone mode' second j = by_answer answer refl
       where
         none : (b : ℕ) (z : Actor) → slice_get (slice_set w.actors a y') b ≡ Some z → z.task ≡ None
         none = all_rest_then opener alone
@@ -238,7 +238,7 @@ module _ (P A : Type 0) (shape : Shape) where
     answers (Opens mode reading) p =
         let alone = subst (λ (q : Phase P A). AtPhase q w.actors) p l.alone in
         let o = opens_in mode job (subst (λ (q : Phase P A). InPhase q job) p (subst (λ (t : Option (Job × Plan)). TaskHere w.phase t) xt (l.here a x e))) in
-        opens_end mode reading alone.0 alone.1 mode o
+        opens_end mode reading alone.0 alone.1 mode o.0 o.1
 
   -- ---- whoever takes a step
 
@@ -334,7 +334,7 @@ module _ (P A : Type 0) (shape : Shape) where
   same_here (Stands t) Flush chosen (Some task) h = h
   same_here (Stands t) Suspend chosen (Some task) h = h
   same_here (Stands t) (Invalidate block) chosen (Some task) h = h
-  same_here (Stands t) (Open mode) chosen (Some task) h = h
+  same_here (Stands t) (Open mode second) chosen (Some task) h = h
   same_here Gone job chosen (Some task) h = h
   same_here (Opens mode reading) job chosen (Some task) h = h
 
@@ -364,7 +364,7 @@ module _ (P A : Type 0) (shape : Shape) where
   same_alone t Flush chosen actors = tt
   same_alone t Suspend chosen actors = tt
   same_alone t (Invalidate block) chosen actors = tt
-  same_alone t (Open mode) chosen actors = tt
+  same_alone t (Open mode second) chosen actors = tt
 
   abbrev Started_so : List Bytes → State P A → Notes → ℕ → Job → Chosen P A → Option Actor → Type 0
   Started_so shown w n a job chosen o = LinkedTo (with_actor (cleared w job) o (λ x. record (cleared w job) { phase = phase_given (cleared w job).phase job chosen; actors = slice_set (cleared w job).actors a (given shape (mode_of (cleared w job).phase) x job chosen) })) (noted_what shape (mode_of w.phase) shown n (Start a job) Started [])
@@ -384,9 +384,9 @@ module _ (P A : Type 0) (shape : Shape) where
   served_starts (Opens mode reading) actors n a x y job plan chosen l e xt yt s c there = absurd (there (λ z. z))
 
   starts : (shown : List Bytes) (w : State P A) (n : Notes) (a : ℕ) (job : Job) (chosen : Chosen P A) → LinkedTo w n → (¬ DoesNotApply w (Start a job)) → StartsAs shape w a job Started chosen → Started_so shown w n a job chosen (slice_get (cleared w job).actors a)
-  starts shown w n a (Open mode) chosen l applies gives = by_actor (slice_get (all_resting w.actors) a) refl
+  starts shown w n a (Open mode second) chosen l applies gives = by_actor (slice_get (all_resting w.actors) a) refl
     where
-      by_actor : (o : Option Actor) → slice_get (all_resting w.actors) a ≡ o → Started_so shown w n a (Open mode) chosen o
+      by_actor : (o : Option Actor) → slice_get (all_resting w.actors) a ≡ o → Started_so shown w n a (Open mode second) chosen o
       by_actor None f = absurd (found (slice_get w.actors a) refl)
         where
           found : (o : Option Actor) → slice_get w.actors a ≡ o → ⊥
@@ -394,17 +394,17 @@ module _ (P A : Type 0) (shape : Shape) where
           found (Some x) g = let r = there_rests w.actors a x g in let bad : Some resting ≡ None = sym r ∙ f in absurd (cc)
       by_actor (Some x) f =
           let r = rests w.actors a x f in
-          let m = begun n (Open mode) in
-          let y : Actor = given shape Writeback x (Open mode) chosen in
+          let m = begun n (Open mode second) in
+          let y : Actor = given shape Writeback x (Open mode second) chosen in
           let old = all_idle (mode_of w.phase) w.actors n l.claims in
           let mine = set_there (nobody n.doings) a None (Some m) (old a x f).1 in
-          let yt : y.task ≡ Some (Open mode, table (task_job shape Writeback [] (Open mode) (cut_of chosen) (looks_of chosen))) = refl in
+          let yt : y.task ≡ Some (Open mode second, table (task_job shape Writeback [] (Open mode second) (cut_of chosen) (looks_of chosen))) = refl in
           record {
             claims = λ b z g. elim (cases_eq b a) [
               | inl s ↦ let is : Some y ≡ Some z = sym (set_there (all_resting w.actors) a x y f) ∙ ap (slice_get (slice_set (all_resting w.actors) a y)) (sym s) ∙ g in
                   let same : y ≡ z = cc in
                   subst (λ (k : ℕ). TaskClaim shape Writeback z.task (slice_get (slice_set (nobody n.doings) a (Some m)) k)) (sym s) (subst (λ (v : Actor). TaskClaim shape Writeback v.task (slice_get (slice_set (nobody n.doings) a (Some m)) a)) same
-                  (subst (λ (o : Option (Option Doing)). NotedClaim shape Writeback (Open mode) (table (task_job shape Writeback [] (Open mode) (cut_of chosen) (looks_of chosen))) o) (sym mine) (refl, record { left = shape.geometry.meta_sectors; job_is = refl; fine = tt; cause = λ q h. absurd (cc) })))
+                  (subst (λ (o : Option (Option Doing)). NotedClaim shape Writeback (Open mode second) (table (task_job shape Writeback [] (Open mode second) (cut_of chosen) (looks_of chosen))) o) (sym mine) (refl, record { left = shape.geometry.meta_sectors; job_is = refl; fine = tt; cause = λ q h. absurd (cc) })))
               | inr o ↦ let was = old b z (sym (set_other (all_resting w.actors) a b y o) ∙ g) in
                   subst (λ (t : Option (Job × Plan)). TaskClaim shape Writeback t (slice_get (slice_set (nobody n.doings) a (Some m)) b)) (sym was.0) (set_other (nobody n.doings) a b (Some m) o ∙ was.1)
             ];
@@ -507,7 +507,7 @@ module _ (P A : Type 0) (shape : Shape) where
   -- ---- answers
 
   refused_by : (mode : Mode) (job : Job) (plan : Plan) (doing : Doing) (refusal : Refusal) → JobClaim shape mode job plan doing → End (Refuses refusal) ≡ want plan → RefusedBy doing job refusal
-  refused_by mode (Open opened_in) plan doing refusal c e = open_refuses plan doing refusal c e
+  refused_by mode (Open opened_in second) plan doing refusal c e = open_refuses plan doing refusal c e
   refused_by mode (Read extent) plan doing refusal c e = tt
   refused_by mode (Write extent content) plan doing refusal c e = tt
   refused_by mode Flush plan doing refusal c e = tt

@@ -97,7 +97,7 @@ module _ (shape : Shape) (mode : Mode) (shown : List Bytes) (n : Notes) (a : ℕ
       nothing Flush z m mid = refl
       nothing Suspend z m mid = refl
       nothing (Invalidate block) z m mid = refl
-      nothing (Open opened_in) z m mid = refl
+      nothing (Open opened_in second) z m mid = refl
       nothing (Migrate migration block) z m mid = refl
       nothing (Replace old new) z m mid = refl
 
@@ -238,29 +238,29 @@ module _ (P A : Type 0) (shape : Shape) where
     unclaimed job (End answer) got read u z j = absurd z
     unclaimed (Read extent) next got read u z j = absurd u
     unclaimed (Write extent content) next got read u z j = absurd u
-    unclaimed (Open opened_in) next got read u z j = absurd u
+    unclaimed (Open opened_in second) next got read u z j = absurd u
 
-    open_goes : (opened_in : Mode) (next : Want) (got : Got) (read : List Bytes) (chosen : Chosen P A) → NoAnswer next → doing.job ≡ Open opened_in → JobClaim shape mode (Open opened_in) plan doing → next ≡ want plan → Gives shape w x (Open opened_in) next got read chosen → InPhase w.phase (Open opened_in) → Then_of (Open opened_in) next got read
-    open_goes opened_in next got read chosen z j c h g at = by_next next z (subst (λ (v : Want). IsOpenNext v) (sym h) (open_next plan doing c)) h g
+    open_goes : (opened_in : Mode) (second : Bool) (next : Want) (got : Got) (read : List Bytes) (chosen : Chosen P A) → NoAnswer next → doing.job ≡ Open opened_in second → JobClaim shape mode (Open opened_in second) plan doing → next ≡ want plan → Gives shape w x (Open opened_in second) next got read chosen → InPhase w.phase (Open opened_in second) → Then_of (Open opened_in second) next got read
+    open_goes opened_in second next got read chosen z j c h g at = by_next next z (subst (λ (v : Want). IsOpenNext v) (sym h) (open_next plan doing c)) h g
       where
-        on : (step : DeviceStep) → Device step ≡ want plan → Comes got → ((refusal : Refusal) → Causes step got refusal → Rattle.wb_promise.specs.Headline.MayRefuse (failing doing step got) refusal) → Then_of (Open opened_in) (Device step) got read
-        on step h comes why = plain_device shape mode shown n a x doing noted (Open opened_in) plan j step got read tt (open_on plan doing (failing doing step got) step got c h comes (still_refuses doing step got) why)
+        on : (step : DeviceStep) → Device step ≡ want plan → Comes got → ((refusal : Refusal) → Causes step got refusal → Rattle.wb_promise.specs.Headline.MayRefuse (failing doing step got) refusal) → Then_of (Open opened_in second) (Device step) got read
+        on step h comes why = plain_device shape mode shown n a x doing noted (Open opened_in second) plan j step got read tt (open_on plan doing (failing doing step got) step got c h comes (still_refuses doing step got) why)
 
         done : (step : DeviceStep) → got ≡ Done → (refusal : Refusal) → Causes step got refusal → Rattle.wb_promise.specs.Headline.MayRefuse (failing doing step got) refusal
         done step e refusal c = absurd (subst (λ (v : Got). Causes step v refusal) e c)
 
-        by_next : (next : Want) → NoAnswer next → IsOpenNext next → next ≡ want plan → Gives shape w x (Open opened_in) next got read chosen → Then_of (Open opened_in) next got read
+        by_next : (next : Want) → NoAnswer next → IsOpenNext next → next ≡ want plan → Gives shape w x (Open opened_in second) next got read chosen → Then_of (Open opened_in second) next got read
         by_next (Device (Sync Metadata)) z i h g = on (Sync Metadata) h (subst Comes (sym g.1) tt) (done (Sync Metadata) g.1)
         by_next (Device (Sync Cache)) z i h g = on (Sync Cache) h (subst Comes (sym g.1) tt) (done (Sync Cache) g.1)
         by_next (Device (Sync Origin)) z i h g = on (Sync Origin) h (subst Comes (sym g.1) tt) (done (Sync Origin) g.1)
         by_next (Device WriteRoot) z i h g = on WriteRoot h (subst Comes (sym g.1) tt) (done WriteRoot g.1)
-        by_next (Device (ReadMetadata left)) z i h g = on (ReadMetadata left) h (reading_comes P A shape images w.devices.metadata doing left w.phase w.commit got chosen g.2) (reading_why P A shape images w.devices.metadata doing left w.phase w.commit got chosen known g.1 g.2 (subst (λ (q : Job). InPhase w.phase q) (sym j) at))
+        by_next (Device (ReadMetadata left)) z i h g = on (ReadMetadata left) h (reading_comes P A shape images w.devices.metadata doing second left w.phase w.commit got chosen g.2) (reading_why P A shape images w.devices.metadata doing second left w.phase w.commit got chosen known g.1 g.2 (subst (λ (q : Job). InPhase w.phase q) (sym j) at))
         by_next (End answer) z i h g = absurd z
         by_next (Cell step) z i h g = absurd i
         by_next (Desk step) z i h g = absurd i
         by_next (Device (ReadExtent d e)) z i h g = absurd i
         by_next (Device (WriteExtent d e)) z i h g = absurd i
-        by_next (Device (WriteNode k)) z i h g = absurd i
+        by_next (Device (WriteNode k)) z i h g = on (WriteNode k) h (subst Comes (sym g.1) tt) (done (WriteNode k) g.1)
 
     -- a step of any job that is no answer
     pub claims_on : (job : Job) (next : Want) (got : Got) (read : List Bytes) (chosen : Chosen P A) → NoAnswer next → doing.job ≡ job → JobClaim shape mode job plan doing → next ≡ want plan → Gives shape w x job next got read chosen → InPhase w.phase job → Then_of job next got read
@@ -268,7 +268,7 @@ module _ (P A : Type 0) (shape : Shape) where
     claims_on (Write extent content) next got read chosen z j c h g at = write_goes extent content next got read chosen z j c h g
     claims_on Flush next got read chosen z j c h g at = unclaimed Flush next got read tt z j
     claims_on Suspend next got read chosen z j c h g at = unclaimed Suspend next got read tt z j
-    claims_on (Open opened_in) next got read chosen z j c h g at = open_goes opened_in next got read chosen z j c h g at
+    claims_on (Open opened_in second) next got read chosen z j c h g at = open_goes opened_in second next got read chosen z j c h g at
     claims_on (Invalidate block) next got read chosen z j c h g at = unclaimed (Invalidate block) next got read tt z j
     claims_on (Migrate migration block) next got read chosen z j c h g at = unclaimed (Migrate migration block) next got read tt z j
     claims_on (Replace old new) next got read chosen z j c h g at = unclaimed (Replace old new) next got read tt z j
@@ -298,4 +298,4 @@ module _ (P A : Type 0) (shape : Shape) where
     claims_failed (Invalidate block) step read j c h = unclaimed (Invalidate block) (Device step) Fault read tt tt j
     claims_failed (Migrate migration block) step read j c h = unclaimed (Migrate migration block) (Device step) Fault read tt tt j
     claims_failed (Replace old new) step read j c h = unclaimed (Replace old new) (Device step) Fault read tt tt j
-    claims_failed (Open opened_in) step read j c h = plain_device shape mode shown n a x doing noted (Open opened_in) plan j step Fault read tt (open_on plan doing (failing doing step Fault) step Fault c h tt (still_refuses doing step Fault) (fault_why doing step))
+    claims_failed (Open opened_in second) step read j c h = plain_device shape mode shown n a x doing noted (Open opened_in second) plan j step Fault read tt (open_on plan doing (failing doing step Fault) step Fault c h tt (still_refuses doing step Fault) (fault_why doing step))

@@ -108,11 +108,14 @@ changes_new m = both_of (IsBelow (levels m) 0 1) (λ (n : NodeName). place_of m 
 
 -- ---- each image can be spelled
 
-pub image_small : {P : Type 0} (desk : DeskState P) (tree : Mapping) (c : RunningCommit) (hint_of : P → ℕ → ℕ) (seen : Option (List Bool)) → HasBegun hint_of seen desk c.image (commit_begun desk tree c.image) → AreWhole c.image → IsSmall c.image
-image_small desk tree c hint_of seen begun whole = record {
-  root = let next = (begun_root hint_of seen desk tree c.image begun).0 in omega (arith, next, begun.may.next);
-  nodes = λ k node e. all_at (λ (n : Place × Node). IsWholeNode n.1) c.image.nodes.items k node (recursion_from_All (λ (n : Place × Node). IsWholeNode n.1) c.image.nodes.items whole) e;
+pub whole_small : (image : Image) → image.root.generation < 2 ^ 64 → AreWhole image → IsSmall image
+whole_small image root whole = record {
+  root = root;
+  nodes = λ k node e. all_at (λ (n : Place × Node). IsWholeNode n.1) image.nodes.items k node (recursion_from_All (λ (n : Place × Node). IsWholeNode n.1) image.nodes.items whole) e;
 }
+
+pub image_small : {P : Type 0} (desk : DeskState P) (tree : Mapping) (c : RunningCommit) (hint_of : P → ℕ → ℕ) (seen : Option (List Bool)) → HasBegun hint_of seen desk c.image (commit_begun desk tree c.image) → AreWhole c.image → IsSmall c.image
+image_small desk tree c hint_of seen begun whole = let next = (begun_root hint_of seen desk tree c.image begun).0 in whole_small c.image (omega (arith, next, begun.may.next)) whole
 
 -- so can that of an opening, which has no node
 pub small_opening : (image : Image) → image.nodes.items ≡ [] → image.root.generation < 2 ^ 64 → IsSmall image
@@ -276,7 +279,7 @@ desk_begins heap P A g images desk commit device known once most enough may =
     let is = image_is heap desk.tree desk.geometry plan.free plan.generation can kept.mapping may.next in
     let tree = planned desk.tree plan.free in
     let few = many heap desk.tree desk.geometry plan.free plan.generation can kept.mapping may.next in
-    let sized = ap (λ (x : Geometry). node_count x.cache_blocks) known.is.geometry in (
+    let sized = ap (λ (n : ℕ). node_count n) known.is.sizes.cache_blocks in (
       length im.nodes.items,
       (
         Commits (record { image = im; steps = NodesWritten 0; placed = have_places desk.tree tree plan im are is }) tree,

@@ -1,14 +1,16 @@
 -- What the metadata of every run are read as: one state or, while a commit runs or after it failed, one of two. And what is known of
 -- them where no commit runs, while one does, and as far as an opening has read them: between commits they store the desk's tree.
-use Rattle.std.proofs.Common.{◌≡◌, ◌∙◌, ◌⊎◌, ◌+◌, inl, inr, ℕ, Bool, true, false, List, Option, Some, None, refl, sym, ap, subst, length, map, if◌then◌else◌}
+use Rattle.std.proofs.Common.{◌≡◌, ◌∙◌, ◌⊎◌, ◌+◌, ◌++◌, append-nil, inl, inr, ℕ, Bool, true, false, List, Option, Some, None, refl, sym, ap, subst, length, map, if◌then◌else◌}
 use Rattle.wb_types.specs.declared.entry.Entry.{Entry}
 use Rattle.wb_types.specs.declared.geometry.Geometry.{Geometry}
 use Rattle.wb_types.specs.declared.mode.Mode.{Mode}
 use Rattle.wb_types.specs.declared.number.Place.{Place}
+use Rattle.wb_types.proofs.Versions.{one_version}
+use Rattle.wb_types.specs.declared.version.Version.TheVariants.{One}
 use Rattle.wb_disk.specs.Device.{History, newest}
 use Rattle.std.specs.List.{count_by}
 use Rattle.std.specs.Prelude.{is_some}
-use Rattle.wb_tree.specs.Mapping.{Mapping, IsSound, AreInside}
+use Rattle.wb_tree.specs.Mapping.{Mapping, IsSound, AreInside, used_places}
 use Rattle.wb_dirty.specs.ImageReading.{with_bits}
 use Rattle.wb_tree.specs.Edits.{IsEdited}
 use Rattle.wb_tree.proofs.Stored.Edited.{edited-none}
@@ -26,6 +28,11 @@ use Rattle.wb_meta.proofs.Round.{stored_edited}
 use Rattle.wb_orders.specs.Orders.{AreOrders}
 use Rattle.wb_orders.proofs.Kept.{none_kept}
 use Rattle.wb_meta.specs.Openings.{IsOpening}
+use Rattle.wb_meta.specs.Sizes.{AreSameSizes}
+use Rattle.wb_meta.proofs.Sizes.{alike_sizes, swapped_sizes}
+use Rattle.wb_meta.specs.Conversions.{written_anew}
+use Rattle.wb_meta.proofs.BitsPlaces.{alone_places}
+use Rattle.wb_meta.proofs.Converting.{conversion_begins}
 use Rattle.wb_meta.specs.Imaging.{DeviceStores, IsPlanned, IsAllUsed}
 use Rattle.wb_policy.specs.Law.{Holdings}
 use Rattle.wb_desk.specs.Desks.{DeskState, DeskInvariant}
@@ -38,11 +45,13 @@ use Rattle.wb_devices.specs.declared.running.RunningCommit.{RunningCommit}
 use Rattle.wb_stage.specs.Asking.{ended}
 use Rattle.wb_devices.specs.Committing.{is_committed}
 use Rattle.wb_devices.specs.Opened.{HasNextRoot}
-use Rattle.wb_meta.specs.Roots.{MayBeReadAs, Commit, commit_of, opening_of}
+use Rattle.wb_devices.specs.Converting.{Converts, conversion_plan}
+use Rattle.wb_meta.specs.Roots.{Commit, commit_of, opening_of}
 use Rattle.wb_meta.proofs.Leading.{commit_begins, opening_begins}
 use Rattle.wb_meta.proofs.Deciding.{stored_is_read, read_is_committed}
 use Rattle.wb_promise.specs.States.{Phase, Stands, Gone, Opens}
-use Rattle.wb_runs.proofs.Imaged.{begun_desk, root_of_image, entries_read}
+use Rattle.wb_runs.proofs.Sizes.{joined_sizes, read_by_sizes, sized_by}
+use Rattle.wb_runs.proofs.Imaged.{begun_desk, geometry_of_image, root_of_image, entries_read}
 use Rattle.wb_runs.proofs.Images.{Images, one_image, Begins, Ends, Turns}
 use Rattle.wb_runs.proofs.Underway.{Readable, Underway, Found, underway_readable, found_readable, all_done}
 
@@ -58,9 +67,9 @@ pub record Quiet {P : Type 0} (g : Geometry) (images : Images) (desk : DeskState
   pub stores : DeviceStores desk.tree device stored used
   -- what is read of it stands on them, dirty bits too
   pub all_used : IsAllUsed stored used
-  pub places : desk.space.places.committed ≡ noted used (unused (place_count g))
+  pub places : desk.space.places.committed ≡ noted used (unused (place_count desk.geometry))
   pub generation : desk.generation ≡ stored.root.generation
-  pub same : stored.root.geometry ≡ g
+  pub same : stored.root.geometry ≡ desk.geometry
   pub idle : desk.space.committing ≡ false
 
 -- One runs, that leads to a tree of which edits have made the desk's.
@@ -68,7 +77,8 @@ pub record Leading {P : Type 0} (g : Geometry) (images : Images) (desk : DeskSta
   pub of : Commit
   pub under : Underway g images commit of device
   pub edited : IsEdited of.tree desk.tree
-  pub places : desk.space.places.running ≡ noted of.used (unused (place_count g))
+  pub places : desk.space.places.running ≡ noted of.used (unused (place_count desk.geometry))
+  pub same : of.new.root.geometry ≡ desk.geometry
   pub generation : of.new.root.generation ≡ desk.generation + 1
   pub busy : desk.space.committing ≡ true
 
@@ -81,9 +91,9 @@ abbrev pub Standing : {P : Type 0} → Geometry → Images → DeskState P → O
 Standing g images desk None device = Quiet g images desk device ⊎ Broken g images desk device
 Standing g images desk (Some commit) device = Leading g images desk commit device
 
--- what holds of a desk of this geometry, whatever its metadata are
+-- what holds of a desk of these sizes, whatever its metadata are, in either version
 pub record IsDesk {P : Type 0} (g : Geometry) (desk : DeskState P) : Type 0 where
-  pub geometry : desk.geometry ≡ g
+  pub sizes : AreSameSizes desk.geometry g
   pub kept : DeskInvariant unknowing desk
   pub orders : AreOrders desk.orders
   pub sound : IsSound desk.tree
@@ -98,7 +108,7 @@ pub record HasReached {A : Type 0} (g : Geometry) (images : Images) (reading : R
   pub come : HasRead (map newest device) reading
   pub on : AreStepsOn (length device) reading
 
--- It has read all, and its root is on its way.
+-- It has read all, and its root is on its way, and before it the nodes of what is written anew.
 pub record Rooting {A : Type 0} (g : Geometry) (images : Images) (reading : ReadSteps A) (commit : RunningCommit) (device : List History) : Type 0 where
   pub stored : Stored_there A
   pub all : reading ≡ AllRead stored
@@ -110,7 +120,8 @@ pub record Rooting {A : Type 0} (g : Geometry) (images : Images) (reading : Read
   pub entries : of.new.found.entries ≡ stored.tree.entries
   pub unmarked : of.new.root.clean ≡ false
   pub fits : FitsDevice g.meta_sectors stored.root stored.tree stored.used.items
-  pub geometry : stored.root.geometry ≡ g
+  pub sizes : AreSameSizes stored.root.geometry g
+  pub same : of.new.root.geometry ≡ stored.root.geometry
 
 abbrev pub AtOpening : {A : Type 0} → Geometry → Images → Option (ReadSteps A) → Option RunningCommit → List History → Type 0
 AtOpening g images None None device = Readable g images device
@@ -131,15 +142,15 @@ MetadataKept g images (Opens mode reading) commit device = AtOpening g images re
 -- ---- they can be read
 
 module _ (g : Geometry) (images : Images) (device : List History) where
-  quiet_readable : (P : Type 0) (desk : DeskState P) → Quiet g images desk device → Readable g images device
-  quiet_readable P desk q = subst (λ (i : Images). Readable g i device) (sym q.are) (record {
-    read = subst (λ (x : Geometry). MayBeReadAs x q.stored None device) q.same (stored_is_read desk.tree device q.stored q.used q.stores);
+  quiet_readable : (P : Type 0) (desk : DeskState P) → IsDesk g desk → Quiet g images desk device → Readable g images device
+  quiet_readable P desk is q = subst (λ (i : Images). Readable g i device) (sym q.are) (record {
+    read = read_by_sizes q.stored.root.geometry g q.stored None device (sized_by q.stored.root.geometry desk.geometry g q.same is.sizes) (stored_is_read desk.tree device q.stored q.used q.stores);
   })
 
-  standing_readable : (P : Type 0) (desk : DeskState P) (commit : Option RunningCommit) → Standing g images desk commit device → Readable g images device
-  standing_readable P desk None (inl q) = quiet_readable P desk q
-  standing_readable P desk None (inr b) = b.readable
-  standing_readable P desk (Some commit) l = underway_readable g images commit l.of device l.under
+  standing_readable : (P : Type 0) (desk : DeskState P) (commit : Option RunningCommit) → IsDesk g desk → Standing g images desk commit device → Readable g images device
+  standing_readable P desk None is (inl q) = quiet_readable P desk is q
+  standing_readable P desk None is (inr b) = b.readable
+  standing_readable P desk (Some commit) is l = underway_readable g images commit l.of device l.under
 
   opening_readable : (A : Type 0) (reading : Option (ReadSteps A)) (commit : Option RunningCommit) → AtOpening g images reading commit device → Readable g images device
   opening_readable A None None k = k
@@ -148,7 +159,7 @@ module _ (g : Geometry) (images : Images) (device : List History) where
   opening_readable A (Some reading) (Some commit) k = underway_readable g images commit k.of device k.under
 
   pub kept_readable : (P A : Type 0) (phase : Phase P A) (commit : Option RunningCommit) → MetadataKept g images phase commit device → Readable g images device
-  kept_readable P A (Stands t) commit k = standing_readable P t.desk commit k.stands
+  kept_readable P A (Stands t) commit k = standing_readable P t.desk commit k.is k.stands
   kept_readable P A Gone None k = k
   kept_readable P A Gone (Some commit) k = absurd k
   kept_readable P A (Opens mode reading) commit k = opening_readable A reading commit k
@@ -156,19 +167,16 @@ module _ (g : Geometry) (images : Images) (device : List History) where
 -- commits are broken: nothing that is stored changes
 module _ (P : Type 0) (g : Geometry) (images : Images) (desk : DeskState P) where
   pub broken_over : (commit : Option RunningCommit) (device : List History) → AtDesk g images desk commit device → AtDesk g images (commit_broken desk) commit device
-  broken_over commit device k = record { is = record { geometry = k.is.geometry; kept = let d = k.is.kept in record { mapping = d.mapping; keeps = d.keeps; blocks = d.blocks; slots = d.slots; busy = d.busy; places = d.places; next = d.next; each = d.each; counted = d.counted; numbered = d.numbered; known = d.known }; orders = k.is.orders; sound = k.is.sound }; stands = by_commit commit k.stands }
+  broken_over commit device k = record { is = record { sizes = k.is.sizes; kept = let d = k.is.kept in record { mapping = d.mapping; keeps = d.keeps; blocks = d.blocks; slots = d.slots; busy = d.busy; places = d.places; next = d.next; each = d.each; counted = d.counted; numbered = d.numbered; known = d.known }; orders = k.is.orders; sound = k.is.sound }; stands = by_commit commit k.stands }
     where
       by_commit : (commit : Option RunningCommit) → Standing g images desk commit device → Standing g images (commit_broken desk) commit device
       by_commit None (inl q) = inl (record { stored = q.stored; are = q.are; used = q.used; stores = q.stores; all_used = q.all_used; places = q.places; generation = q.generation; same = q.same; idle = q.idle })
       by_commit None (inr b) = inr (record { readable = b.readable; busy = b.busy })
-      by_commit (Some c) l = record { of = l.of; under = l.under; edited = l.edited; places = l.places; generation = l.generation; busy = l.busy }
+      by_commit (Some c) l = record { of = l.of; under = l.under; edited = l.edited; places = l.places; same = l.same; generation = l.generation; busy = l.busy }
 
 -- ---- a commit begins and ends
 
 module _ (P : Type 0) (g : Geometry) (images : Images) (desk : DeskState P) (device : List History) where
-  abbrev places_used : IsDesk g desk → (q : Quiet g images desk device) → desk.space.places.committed ≡ noted q.used (unused (place_count desk.geometry))
-  places_used k q = subst (λ (x : Geometry). desk.space.places.committed ≡ noted q.used (unused (place_count x))) (sym k.geometry) q.places
-
   -- the images, with a commit of which these entries are read
   abbrev LeadsTo : RunningCommit → Mapping → List (Option Entry) → Images → Type 0
   LeadsTo commit tree entries now = AtDesk g now (commit_begun desk tree commit.image) (Some commit) device × ((state : Stored) × (now.running ≡ Some state) × (state.found.entries ≡ entries))
@@ -180,7 +188,7 @@ module _ (P : Type 0) (g : Geometry) (images : Images) (desk : DeskState P) (dev
       let image = commit.image in
       let plan = next_plan desk imaged flag in
       let both = commit_begins bits imaged tree plan image device q.stored q.used stores planned
-      (record { same_geometry = q.same ∙ sym k.geometry; next = ap (λ n. n + 1) q.generation; all_used = q.all_used }) in
+      (record { sizes = alike_sizes q.stored.root.geometry desk.geometry q.same; next = ap (λ n. n + 1) q.generation; all_used = q.all_used }) in
       let of = commit_of bits image tree q.stored device in
       record {
         now = record { committed = of.old; running = Some of.new; written = false };
@@ -189,7 +197,7 @@ module _ (P : Type 0) (g : Geometry) (images : Images) (desk : DeskState P) (dev
         kept = (
           record {
             is = record {
-              geometry = k.geometry;
+              sizes = k.sizes;
               kept = kept;
               orders = k.orders;
               sound = planned.sound;
@@ -201,10 +209,11 @@ module _ (P : Type 0) (g : Geometry) (images : Images) (desk : DeskState P) (dev
                 can = both.0;
                 image = refl;
                 come = subst (λ (s : CommitSteps). CommitHasCome image device s device) (sym steps) both.1;
-                same = q.same;
+                sizes = sized_by q.stored.root.geometry desk.geometry g q.same k.sizes;
               };
               edited = edited-none tree;
-              places = ap (λ (x : Geometry). noted (places_with tree image) (unused (place_count x))) k.geometry;
+              places = refl;
+              same = geometry_of_image bits imaged tree plan image planned.image_is;
               generation = (root_of_image bits imaged tree plan image planned.image_is).0;
               busy = refl;
             };
@@ -222,10 +231,10 @@ module _ (P : Type 0) (g : Geometry) (images : Images) (desk : DeskState P) (dev
       kept = begun_desk hint_of seen desk tree commit.image unknowing k.kept begun
 
       by_seen : (seen : Option (List Bool)) → HasBegun hint_of seen desk commit.image (commit_begun desk tree commit.image) → Turns (LeadsTo commit tree (with_bits (beside desk seen) tree.entries)) images
-      by_seen None b = begins_on (beside desk None) desk.tree false commit tree k q steps kept q.stores (b.unused q.used (places_used k q))
+      by_seen None b = begins_on (beside desk None) desk.tree false commit tree k q steps kept q.stores (b.unused q.used q.places)
       by_seen (Some dirty) b =
           let u = b.unused in
-          begins_on (beside desk (Some dirty)) u.0 true commit tree k q steps kept (stored_edited desk.tree u.0 device q.stored q.used q.stores u.1.edited u.1.sound) (u.2 q.used (places_used k q))
+          begins_on (beside desk (Some dirty)) u.0 true commit tree k q steps kept (stored_edited desk.tree u.0 device q.stored q.used q.stores u.1.edited u.1.sound) (u.2 q.used q.places)
 
   -- one that was done ends, and its state is the one image
   pub ends_over : (commit : RunningCommit) → AtDesk g images desk (Some commit) device → is_committed commit.steps ≡ true →
@@ -241,7 +250,7 @@ module _ (P : Type 0) (g : Geometry) (images : Images) (desk : DeskState P) (dev
         turned = (l.of.new, ap (λ (i : Images). i.running) l.under.are, refl);
         kept = (
           subst (λ (d : DeskState P). AtDesk g (one_image l.of.new) d None device) (sym is) (record {
-            is = record { geometry = k.is.geometry; kept = ended_kept unknowing desk k.is.kept l.busy; orders = k.is.orders; sound = k.is.sound };
+            is = record { sizes = k.is.sizes; kept = ended_kept unknowing desk k.is.kept l.busy; orders = k.is.orders; sound = k.is.sound };
             stands = inl (record {
               stored = l.of.new;
               are = refl;
@@ -250,7 +259,7 @@ module _ (P : Type 0) (g : Geometry) (images : Images) (desk : DeskState P) (dev
               all_used = l.under.can.all_used;
               places = l.places;
               generation = sym l.generation;
-              same = l.under.can.same_geometry ∙ l.under.same;
+              same = l.same;
               idle = refl;
             });
           }),
@@ -285,7 +294,7 @@ module _ (A : Type 0) (g : Geometry) (images : Images) (device : List History) w
                 can = both.0;
                 image = refl;
                 come = subst (λ (s : CommitSteps). CommitHasCome image device s device) (sym next.steps) both.1;
-                same = k.found.read.same_geometry;
+                sizes = k.found.read.sizes;
               };
               tree = refl;
               used = refl;
@@ -293,7 +302,8 @@ module _ (A : Type 0) (g : Geometry) (images : Images) (device : List History) w
               entries = sym committed.2;
               unmarked = ap (λ (r : Root). r.clean) opens.root_is;
               fits = subst (λ (n : ℕ). FitsDevice n stored.root stored.tree stored.used.items) k.found.read.size k.on.0;
-              geometry = ap (λ (r : Root). r.geometry) committed.0 ∙ k.found.read.same_geometry;
+              sizes = sized_by stored.root.geometry k.found.committed.root.geometry g (ap (λ (r : Root). r.geometry) committed.0) k.found.read.sizes;
+              same = ap (λ (r : Root). r.geometry) (opens.root_is) ∙ ap (λ (r : Root). r.geometry) (sym committed.0);
             };
           }
 
@@ -303,15 +313,61 @@ module _ (A : Type 0) (g : Geometry) (images : Images) (device : List History) w
       by_reading (RootFound global root loader nodes) k next = absurd next.is_done
       by_reading (AllRead stored) k next = subst (λ (c : Option RunningCommit). Turns (λ i. AtOpening g i (Some (AllRead stored)) c device) images) (sym next.commit_is) (over stored k next)
 
+  -- what was read is to be written anew: its nodes come first
+  pub nodes_begin : (asked : Geometry) (now : ReadSteps A) (nodes : ℕ) (after : Option (ReadSteps A)) (commit : Option RunningCommit) → AreSameSizes asked g → HasReached g images now device → Converts asked now nodes after commit → Turns (λ i. AtOpening g i after commit device) images
+  nodes_begin asked now nodes after commit sizes k c = subst (λ (r : Option (ReadSteps A)). Turns (λ i. AtOpening g i r commit device) images) (sym c.after_is)
+      (subst (λ (o : Option RunningCommit). Turns (λ i. AtOpening g i (Some (AllRead c.new)) o device) images) (sym c.commit_is) over)
+    where
+      old : Stored_there A
+      old = c.old
+
+      reached : HasReached g images (AllRead old) device
+      reached = subst (λ (r : ReadSteps A). HasReached g images r device) c.wants.all_read k
+
+      over : Turns (λ i. Rooting g i (AllRead c.new) c.next device) images
+      over =
+          let committed = read_is_committed g k.found.committed device old.root old.tree old.dirty old.used.items k.found.read k.found.settled reached.come reached.on.0 in
+          let image = c.next.image in
+          let to = c.converted in
+          let first : k.found.committed.root.version ≡ One = ap (λ (r : Root). r.version) (sym committed.0) ∙ one_version old.root.version old.root.geometry.version old.root.same_version ∙ c.wants.first in
+          let alike : AreSameSizes k.found.committed.root.geometry asked = joined_sizes k.found.committed.root.geometry g asked k.found.read.sizes (swapped_sizes asked g sizes) in
+          let both = conversion_begins old.tree c.new.tree (conversion_plan asked old) image device k.found.committed old.used.items committed.3 first to.planned alike (ap (λ (r : Root). r.generation + 1) committed.0) in
+          let of = commit_of None image c.new.tree k.found.committed device in
+          record {
+            now = record { committed = of.old; running = Some of.new; written = false };
+            turn = Begins of.new;
+            turned = ap (λ (i : Images). record { committed = i.committed; running = Some of.new; written = false }) (sym k.found.are);
+            kept = record {
+              stored = c.new;
+              all = refl;
+              of = of;
+              under = record {
+                are = ap (λ (s : CommitSteps). Rattle.wb_runs.proofs.Underway.images_of of (Rattle.wb_runs.proofs.Underway.is_written s)) (sym c.steps);
+                can = both.0;
+                image = refl;
+                come = subst (λ (s : CommitSteps). CommitHasCome image device s device) (sym c.steps) both.1;
+                sizes = k.found.read.sizes;
+              };
+              tree = refl;
+              used = ap (λ (ps : List Place). used_places c.new.tree ++ ps) (alone_places (written_anew old.tree) c.new.tree (conversion_plan asked old) image to.planned.image_is) ∙ append-nil (used_places c.new.tree) ∙ sym to.used;
+              generation = ap (λ (r : Root). r.generation) to.root.next;
+              entries = refl;
+              unmarked = ap (λ (r : Root). r.clean) to.root.next;
+              fits = subst (λ (n : ℕ). FitsDevice n c.new.root c.new.tree c.new.used.items) sizes.meta_sectors to.fits;
+              sizes = sized_by c.new.root.geometry asked g to.root.geometry sizes;
+              same = ap (λ (r : Root). r.geometry) to.root.next;
+            };
+          }
+
   -- the images after it, whose committed state has the desk's entries, and is not marked clean
   pub target_stands : (P : Type 0) (mode : Mode) (policy : P) (threshold : ℕ) (stored : Stored_there A) (commit : RunningCommit) → Rooting g images (AllRead stored) commit device → is_committed commit.steps ≡ true
-      → Turns (λ now. AtDesk g now (opened g (stored.root.generation + 1) stored.tree stored.used.items mode policy threshold (count_by is_some stored.tree.entries)) None device × (now.committed.found.entries ≡ stored.tree.entries) × (now.committed.root.clean ≡ false)) images
+      → Turns (λ now. AtDesk g now (opened stored.root.geometry (stored.root.generation + 1) stored.tree stored.used.items mode policy threshold (count_by is_some stored.tree.entries)) None device × (now.committed.found.entries ≡ stored.tree.entries) × (now.committed.root.clean ≡ false)) images
   target_stands P mode policy threshold stored commit k done =
       let stores = all_done g images commit k.of device k.under done in
       let same : k.stored ≡ stored = by_done (k.all) in
-      let new_root : k.of.new.root.geometry ≡ g = k.under.can.same_geometry ∙ k.under.same in
+      let new_root : k.of.new.root.geometry ≡ stored.root.geometry = k.same ∙ ap (λ (s : Stored_there A). s.root.geometry) same in
       let fits : FitsDevice g.meta_sectors stored.root stored.tree stored.used.items = subst (λ (s : Stored_there A). FitsDevice g.meta_sectors s.root s.tree s.used.items) same k.fits in
-      let geometry : stored.root.geometry ≡ g = ap (λ (s : Stored_there A). s.root.geometry) (sym same) ∙ k.geometry in
+      let sizes : AreSameSizes stored.root.geometry g = subst (λ (s : Stored_there A). AreSameSizes s.root.geometry g) same k.sizes in
       record {
         now = one_image k.of.new;
         turn = Ends;
@@ -319,13 +375,12 @@ module _ (A : Type 0) (g : Geometry) (images : Images) (device : List History) w
         kept = (
           record {
             is = record {
-              geometry = refl;
-              kept = subst (λ (x : Geometry). DeskInvariant unknowing (opened x (stored.root.generation + 1) stored.tree stored.used.items mode policy threshold (count_by is_some stored.tree.entries))) geometry
-                  (opened_kept unknowing (record stored.root { generation = stored.root.generation + 1 }) stored.tree stored.used.items mode policy threshold (count_by is_some stored.tree.entries)
+              sizes = sizes;
+              kept = (opened_kept unknowing (record stored.root { generation = stored.root.generation + 1 }) stored.tree stored.used.items mode policy threshold (count_by is_some stored.tree.entries)
                   stored.root.geometry.room
                   (record { size = refl; mapping = fits.mapping; sound = fits.sound; inside = subst (λ (n : ℕ). AreInside n stored.tree) (sym fits.size) fits.inside; known_used = fits.known_used; used_are = subst (λ (n : ℕ). Rattle.wb_meta.specs.Reads.AreApartPlaces n stored.used.items) (sym fits.size) fits.used_are; used_few = fits.used_few; keeps = fits.keeps })
                   tt refl);
-              orders = none_kept g.cache_blocks g.origin_blocks;
+              orders = none_kept stored.root.geometry.cache_blocks stored.root.geometry.origin_blocks;
               sound = fits.sound;
             };
             stands = inl (record {

@@ -24,12 +24,13 @@ use Rattle.wb_promise.specs.States.{Shape, State, Actor, Phase, Stands, Gone, Op
 use Rattle.wb_policy.specs.declared.order.Order.TheVariants.{Replace as ReplaceOrder}
 use Rattle.wb_promise.specs.Happenings.{Chosen, Cut, Orders, Happening, OfSome, Gives, Falters, MayFailAt, StartGives, MayBe, order_for, StartsAs}
 use Rattle.wb_promise.specs.Effects.{device_done, device_failed, devices_then, commit_then, phase_then, stepped, with_actor, job_of, cleared, given, phase_given, started, after_what, after_happening, after_all, IsRun}
-use Rattle.wb_runs.specs.Laws.{CanBeRead}
+use Rattle.wb_runs.specs.Laws.{CanBeRead, OpeningFinds}
 use Rattle.wb_runs.proofs.Images.{Images, Turns, stays}
 use Rattle.wb_runs.proofs.Desks.{reserved_stands}
 use Rattle.wb_runs.proofs.Formatted.{formatted_none, none_images, none_readable}
 use Rattle.wb_runs.proofs.Underway.{Readable, crash_readable}
-use Rattle.wb_runs.proofs.Metadata.{MetadataKept, kept_readable}
+use Rattle.wb_runs.proofs.Metadata.{AtOpening, MetadataKept, kept_readable}
+use Rattle.wb_runs.proofs.Refusing.{finds_own}
 use Rattle.wb_runs.proofs.Stepping.{done_kept}
 use Rattle.wb_runs.proofs.Faltering.{failed_kept}
 
@@ -81,7 +82,7 @@ module _ (P A : Type 0) (shape : Shape) where
   ordered i (Stands t) commit m actor Flush chosen k g = k
   ordered i (Stands t) commit m actor Suspend chosen k g = k
   ordered i (Stands t) commit m actor (Invalidate block) chosen k g = k
-  ordered i (Stands t) commit m actor (Open mode) chosen k g = k
+  ordered i (Stands t) commit m actor (Open mode second) chosen k g = k
   ordered i Gone commit m actor job chosen k g = k
   ordered i (Opens mode reading) commit m actor job chosen k g = k
 
@@ -91,10 +92,10 @@ module _ (P A : Type 0) (shape : Shape) where
   suspend_ordered i (Opens mode reading) commit m chosen k = k
 
   by_start : (i : Images) (w : State P A) (a : ℕ) (job : Job) (chosen : Chosen P A) → Known i w → StartsAs shape w a job Started chosen → Knows i (started shape w a job chosen)
-  by_start i w a (Open mode) chosen k g = by_actor (slice_get (cleared w (Open mode)).actors a)
+  by_start i w a (Open mode second) chosen k g = by_actor (slice_get (cleared w (Open mode second)).actors a)
     where
-      by_actor : (o : Option Actor) → Knows i (with_actor (cleared w (Open mode)) o (λ x. record (cleared w (Open mode)) { phase = phase_given (cleared w (Open mode)).phase (Open mode) chosen; actors = slice_set (cleared w (Open mode)).actors a (given shape (mode_of (cleared w (Open mode)).phase) x (Open mode) chosen) }))
-      by_actor None = same i (cleared w (Open mode)) (kept_readable shape.geometry i w.devices.metadata P A w.phase w.commit k)
+      by_actor : (o : Option Actor) → Knows i (with_actor (cleared w (Open mode second)) o (λ x. record (cleared w (Open mode second)) { phase = phase_given (cleared w (Open mode second)).phase (Open mode second) chosen; actors = slice_set (cleared w (Open mode second)).actors a (given shape (mode_of (cleared w (Open mode second)).phase) x (Open mode second) chosen) }))
+      by_actor None = same i (cleared w (Open mode second)) (kept_readable shape.geometry i w.devices.metadata P A w.phase w.commit k)
       by_actor (Some x) = stays (λ now. Readable shape.geometry now w.devices.metadata) i (kept_readable shape.geometry i w.devices.metadata P A w.phase w.commit k)
   by_start i w a (Read extent) chosen k g = started_over (Read extent) g (slice_get w.actors a)
     where
@@ -177,15 +178,15 @@ module _ (P A : Type 0) (shape : Shape) where
 
   -- what a crash leaves of readable metadata
   pub read_then : (i : Images) (device : List History) (sectors : List Bytes) → Readable shape.geometry i device → MayLeave device sectors → CanBeRead shape sectors
-  read_then i device sectors r left = by_written i.written i.running r.read.later_geometry (r.read.represents sectors left)
+  read_then i device sectors r left = by_written i.written i.running r.read.later_sizes (r.read.represents sectors left)
     where
       old : Represents sectors i.committed.root i.committed.found → CanBeRead shape sectors
-      old represents = record { stored = i.committed; represents = represents; geometry = r.read.same_geometry }
+      old represents = record { stored = i.committed; represents = represents; sizes = r.read.sizes }
 
       by_written : (written : Bool) (running : Option Stored) → Rattle.wb_meta.specs.Roots.StoredIsOf shape.geometry (if written then running else None) → AreOneOf i.committed (if written then running else None) sectors → CanBeRead shape sectors
       by_written false running g are = old are
       by_written true None g are = old are
-      by_written true (Some s) g are = elim are [ inl o ↦ old o | inr n ↦ record { stored = s; represents = n; geometry = g } ]
+      by_written true (Some s) g are = elim are [ inl o ↦ old o | inr n ↦ record { stored = s; represents = n; sizes = g } ]
 
   pub run_read : (metadata : List History) (hs : List (Happening P A)) → IsFormatted shape.geometry metadata → length metadata ≡ shape.geometry.meta_sectors → IsRun shape (start shape metadata) hs →
       (sectors : List Bytes) → MayLeave (after_all shape (start shape metadata) hs).devices.metadata sectors → CanBeRead shape sectors
@@ -193,3 +194,10 @@ module _ (P A : Type 0) (shape : Shape) where
       let w = after_all shape (start shape metadata) hs in
       let k = known_always (start shape metadata) hs (known_at_start metadata f size) run in
       read_then k.images w.devices.metadata sectors (kept_readable shape.geometry k.images w.devices.metadata P A w.phase w.commit k.known) left
+
+  pub run_finds : (metadata : List History) (hs : List (Happening P A)) → IsFormatted shape.geometry metadata → length metadata ≡ shape.geometry.meta_sectors → IsRun shape (start shape metadata) hs → OpeningFinds shape.geometry (after_all shape (start shape metadata) hs)
+  run_finds metadata hs f size run mode was opens none =
+      let w = after_all shape (start shape metadata) hs in
+      let k = known_always (start shape metadata) hs (known_at_start metadata f size) run in
+      let read : AtOpening shape.geometry k.images (Some was) w.commit w.devices.metadata = subst (λ (phase : Phase P A). MetadataKept shape.geometry k.images phase w.commit w.devices.metadata) opens k.known in
+      finds_own P A shape.geometry k.images w.devices.metadata was (subst (λ (commit : Option RunningCommit). AtOpening shape.geometry k.images (Some was) commit w.devices.metadata) none read)

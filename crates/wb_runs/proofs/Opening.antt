@@ -1,5 +1,5 @@
 -- What is left of the task of an opening, and why it is to be refused, where it is.
-use Rattle.std.proofs.Common.{◌≡◌, ◌≢◌, ◌∙◌, inl, inr, ℕ, List, [], ◌∷◌, Option, Some, None, refl, sym, ap, subst}
+use Rattle.std.proofs.Common.{◌≡◌, ◌≢◌, ◌∙◌, ◌+◌, ◌++◌, inl, inr, ℕ, zero, suc, Bool, List, [], ◌∷◌, Option, Some, None, refl, sym, ap, subst}
 use Rattle.wb_types.specs.declared.mode.Mode.{Mode}
 use Rattle.wb_types.specs.declared.refusal.Refusal.{Refusal}
 use Rattle.wb_types.specs.declared.refusal.Refusal.TheVariants.{Io, NotClean, Memory, GenerationEnd}
@@ -7,14 +7,15 @@ use Rattle.wb_types.proofs.Lists.{Contains-first, Contains-behind}
 use Rattle.wb_disk.specs.Device.{History}
 use Rattle.wb_meta.specs.declared.read_steps.ReadSteps.{ReadSteps}
 use Rattle.wb_tasks.specs.Tables.{Opening}
-use Rattle.wb_tasks.specs.Plan.{Plan, want, after, device_of}
+use Rattle.wb_types.specs.declared.mode.Dev.TheVariants.{Metadata}
+use Rattle.wb_tasks.specs.Plan.{Plan, want, after, device_of, node_writes, opening_root}
 use Rattle.wb_tasks.specs.declared.step.Answer.TheVariants.{Refused as Refuses}
 use Rattle.wb_tasks.specs.declared.step.DeviceStep.{DeviceStep}
 use Rattle.wb_tasks.specs.declared.step.DeviceStep.TheVariants.{Read as ReadExtent, Write as WriteExtent, Sync, ReadMetadata, WriteNode, WriteRoot}
 use Rattle.wb_tasks.specs.declared.step.Want.{Want}
 use Rattle.wb_tasks.specs.declared.step.Want.TheVariants.{Device, End}
 use Rattle.wb_tasks.specs.declared.step.Got.{Got}
-use Rattle.wb_tasks.specs.declared.step.Got.TheVariants.{Done, Fault, Refused as GotRefused, More}
+use Rattle.wb_tasks.specs.declared.step.Got.TheVariants.{Done, Fault, Refused as GotRefused, Began, More}
 use Rattle.wb_devices.specs.declared.running.RunningCommit.{RunningCommit}
 use Rattle.wb_devices.specs.Opened.{HasCome, got_of_refusal}
 use Rattle.wb_promise.specs.declared.job.Job.{Job}
@@ -32,6 +33,7 @@ abbrev pub OpensOnly : List Want → Type 0
 OpensOnly [] = Unit {0}
 OpensOnly (Device (Sync device) ∷ ws) = OpensOnly ws
 OpensOnly (Device (ReadMetadata n) ∷ ws) = OpensOnly ws
+OpensOnly (Device (WriteNode number) ∷ ws) = OpensOnly ws
 OpensOnly (Device WriteRoot ∷ ws) = OpensOnly ws
 OpensOnly (w ∷ ws) = ⊥
 
@@ -48,6 +50,7 @@ Comes Done = Unit {0}
 Comes More = Unit {0}
 Comes Fault = Unit {0}
 Comes (GotRefused refusal) = Unit {0}
+Comes (Began nodes) = Unit {0}
 Comes got = ⊥
 
 -- why a step makes an opening answer so
@@ -59,9 +62,15 @@ Causes step got refusal = ⊥
 abbrev pub IsOpenNext : Want → Type 0
 IsOpenNext (Device (Sync device)) = Unit {0}
 IsOpenNext (Device (ReadMetadata m)) = Unit {0}
+IsOpenNext (Device (WriteNode number)) = Unit {0}
 IsOpenNext (Device WriteRoot) = Unit {0}
 IsOpenNext (End answer) = Unit {0}
 IsOpenNext w = ⊥
+
+-- so are the nodes, their sync and the root
+nodes_open : (left from : ℕ) → OpensOnly (node_writes left from ++ Device (Sync Metadata) ∷ opening_root)
+nodes_open zero from = tt
+nodes_open (suc left) from = nodes_open left (from + 1)
 
 -- the plan is its parts
 parts : (plan : Plan) (n : ℕ) (steps : List Want) → plan.job ≡ Opening n → plan.steps ≡ steps → plan ≡ plan_of (Opening n) steps plan.answer
@@ -73,6 +82,7 @@ open_next plan doing c = by_steps plan.steps refl c.fine
     first : (w : Want) (ws : List Want) → OpensOnly (w ∷ ws) → IsOpenNext w
     first (Device (Sync d)) ws f = tt
     first (Device (ReadMetadata m)) ws f = tt
+    first (Device (WriteNode number)) ws f = tt
     first (Device WriteRoot) ws f = tt
     first w ws f = absurd f
 
@@ -96,6 +106,7 @@ open_on plan doing doing' step got c e comes grows why = by_steps plan.steps ref
     later : (w : Want) (ws : List Want) → OpensOnly (w ∷ ws) → OpensOnly ws
     later (Device (Sync d)) ws f = f
     later (Device (ReadMetadata m)) ws f = f
+    later (Device (WriteNode number)) ws f = f
     later (Device WriteRoot) ws f = f
     later w ws f = absurd f
 
@@ -112,6 +123,7 @@ open_on plan doing doing' step got c e comes grows why = by_steps plan.steps ref
     by_got ws f More k why = more ws f step refl
     by_got ws f Fault k why = record { left = c.left; job_is = refl; fine = tt; cause = λ r a. why r (let same : Io (device_of step) ≡ r = cc in sym same) }
     by_got ws f (GotRefused because) k why = record { left = c.left; job_is = refl; fine = tt; cause = λ r a. why r (let same : because ≡ r = cc in sym same) }
+    by_got ws f (Began nodes) k why = record { left = c.left; job_is = refl; fine = nodes_open nodes 0; cause = λ r a. grows r (c.cause r a) }
     by_got ws f got k why = absurd k
 
     by_steps : (steps : List Want) → plan.steps ≡ steps → OpensOnly steps → OpenClaim (after plan got) doing'
@@ -141,15 +153,15 @@ fault_why doing step refusal c = subst (λ (r : Refusal). MayRefuse (failing doi
 
 -- requests, flushes and migrations are at work where a target stands, openings where one is at work, in its mode
 abbrev pub IsServed : Job → Type 0
-IsServed (Open mode) = ⊥
+IsServed (Open mode second) = ⊥
 IsServed job = Unit {0}
 
 abbrev pub IsOpeningJob : Mode → Job → Type 0
-IsOpeningJob mode (Open opened) = opened ≡ mode
+IsOpeningJob mode (Open opened second) = opened ≡ mode
 IsOpeningJob mode job = ⊥
 
-pub opens_in : (mode : Mode) (job : Job) → IsOpeningJob mode job → job ≡ Open mode
-opens_in mode (Open opened) i = ap (λ (m : Mode). Open m) i
+pub opens_in : (mode : Mode) (job : Job) → IsOpeningJob mode job → (second : Bool) × (job ≡ Open mode second)
+opens_in mode (Open opened second) i = (second, ap (λ (m : Mode). Open m second) i)
 opens_in mode (Read extent) i = absurd i
 opens_in mode (Write extent content) i = absurd i
 opens_in mode Flush i = absurd i
@@ -163,13 +175,14 @@ InPhase (Stands t) job = IsServed job
 InPhase (Opens mode r) job = IsOpeningJob mode job
 InPhase Gone job = ⊥
 
-module _ (P A : Type 0) (shape : Shape) (images : Images) (device : List History) (doing : Doing) (left : ℕ) where
-  reads_come : (mode : Mode) (was : ReadSteps A) (commit : Option RunningCommit) (got : Got) (chosen : Chosen P A) → DoesRead mode shape.geometry left was device commit got chosen → Comes got
-  reads_come mode was commit got (Reaches after' c) (fine, inl more) = elim more.3 [ inl in_time ↦ by_got got fine in_time.0 | inr unclean ↦ subst Comes (sym unclean.1) tt ]
+module _ (P A : Type 0) (shape : Shape) (images : Images) (device : List History) (doing : Doing) (second : Bool) (left : ℕ) where
+  reads_come : (mode : Mode) (was : ReadSteps A) (commit : Option RunningCommit) (got : Got) (chosen : Chosen P A) → DoesRead mode shape.geometry second left was device commit got chosen → Comes got
+  reads_come mode was commit got (Reaches after' c) (fine, inl more) = elim more.3.2 [ inl in_time ↦ by_got got fine in_time.0 | inr unclean ↦ subst Comes (sym unclean.1) tt ]
     where
-      by_got : (got : Got) → (got ≢ Fault) → HasCome shape.geometry left more.0 commit got after' c → Comes got
+      by_got : (got : Got) → (got ≢ Fault) → HasCome more.3.0 left more.0 commit got after' c → Comes got
       by_got Done f h = tt
       by_got More f h = tt
+      by_got (Began nodes) f h = tt
       by_got (GotRefused r) f h = tt
       by_got Fault f h = tt
       by_got got f h = absurd h
@@ -180,20 +193,20 @@ module _ (P A : Type 0) (shape : Shape) (images : Images) (device : List History
       by_refusal r h = subst Comes (sym h) tt
   reads_come mode was commit got chosen g = absurd g
 
-  pub reading_comes : (phase : Phase P A) (commit : Option RunningCommit) (got : Got) (chosen : Chosen P A) → OfReading phase (λ mode was. DoesRead mode shape.geometry left was device commit got chosen) → Comes got
+  pub reading_comes : (phase : Phase P A) (commit : Option RunningCommit) (got : Got) (chosen : Chosen P A) → OfReading phase (λ mode was. DoesRead mode shape.geometry second left was device commit got chosen) → Comes got
   reading_comes (Opens mode (Some was)) commit got chosen g = reads_come mode was commit got chosen g
   reading_comes (Opens mode None) commit got chosen g = absurd g
   reading_comes (Stands t) commit got chosen g = absurd g
   reading_comes Gone commit got chosen g = absurd g
 
-  no_fault : (mode : Mode) (was : ReadSteps A) (chosen : Chosen P A) → DoesRead mode shape.geometry left was device None Fault chosen → ⊥
+  no_fault : (mode : Mode) (was : ReadSteps A) (chosen : Chosen P A) → DoesRead mode shape.geometry second left was device None Fault chosen → ⊥
   no_fault mode was (Reaches r d) g = g.0 refl
   no_fault mode was chosen g = g
 
   -- a reading is refused for want of memory or of generations, or since what was read was not left clean
-  pub reading_why : (phase : Phase P A) (commit : Option RunningCommit) (got : Got) (chosen : Chosen P A) → MetadataKept shape.geometry images phase commit device → commit ≡ None → OfReading phase (λ mode was. DoesRead mode shape.geometry left was device commit got chosen) →
+  pub reading_why : (phase : Phase P A) (commit : Option RunningCommit) (got : Got) (chosen : Chosen P A) → MetadataKept shape.geometry images phase commit device → commit ≡ None → OfReading phase (λ mode was. DoesRead mode shape.geometry second left was device commit got chosen) →
       InPhase phase doing.job → (refusal : Refusal) → Causes (ReadMetadata left) got refusal → MayRefuse (failing doing (ReadMetadata left) got) refusal
-  reading_why (Opens mode (Some was)) commit got chosen known e g at refusal c = by_got got (subst (λ (x : Option RunningCommit). DoesRead mode shape.geometry left was device x got chosen) e g) c
+  reading_why (Opens mode (Some was)) commit got chosen known e g at refusal c = by_got got (subst (λ (x : Option RunningCommit). DoesRead mode shape.geometry second left was device x got chosen) e g) c
     where
       reached : HasReached shape.geometry images was device
       reached = subst (λ (x : Option RunningCommit). AtOpening shape.geometry images (Some was) x device) e known
@@ -201,10 +214,10 @@ module _ (P A : Type 0) (shape : Shape) (images : Images) (device : List History
       by_cause : (r : Refusal) → Cause mode r → MayRefuse doing r
       by_cause r (inl m) = subst (λ (x : Refusal). MayRefuse doing x) (sym m) tt
       by_cause r (inr (inl n)) = subst (λ (x : Refusal). MayRefuse doing x) (sym n) tt
-      by_cause r (inr (inr past)) = subst (λ (x : Refusal). MayRefuse doing x) (sym past.1) (opens_in mode doing.job at ∙ ap (λ (m : Mode). Open m) past.0)
+      by_cause r (inr (inr past)) = subst (λ (x : Refusal). MayRefuse doing x) (sym past.1) (let o = opens_in mode doing.job at in (o.0, o.1 ∙ ap (λ (m : Mode). Open m o.0) past.0))
 
-      by_got : (got : Got) → DoesRead mode shape.geometry left was device None got chosen → Causes (ReadMetadata left) got refusal → MayRefuse (failing doing (ReadMetadata left) got) refusal
-      by_got (GotRefused because) d c = subst (λ (x : Refusal). MayRefuse doing x) (sym c) (by_cause because (refused_for P A shape.geometry images device was mode left because chosen reached d))
+      by_got : (got : Got) → DoesRead mode shape.geometry second left was device None got chosen → Causes (ReadMetadata left) got refusal → MayRefuse (failing doing (ReadMetadata left) got) refusal
+      by_got (GotRefused because) d c = subst (λ (x : Refusal). MayRefuse doing x) (sym c) (by_cause because (refused_for P A shape.geometry images device was mode second left because chosen reached d))
       by_got Fault d c = absurd (no_fault mode was chosen d)
       by_got Done d c = absurd c
       by_got More d c = absurd c

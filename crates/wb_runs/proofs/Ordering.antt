@@ -99,13 +99,13 @@ pub order_given : (P : Type 0) (g : Geometry) (desk : DeskState P) (cache : CBlo
 order_given P g desk cache order k may = by_kind order may
   where
     of_origin : (b : ℕ) → slice_get desk.orders.busy b ≡ Some false → b < g.origin_blocks
-    of_origin b e = omega (arith, slice_get_within desk.orders.busy b false e, k.kept.busy, ap (λ (x : Geometry). x.origin_blocks) k.geometry)
+    of_origin b e = omega (arith, slice_get_within desk.orders.busy b false e, k.kept.busy, k.sizes.origin_blocks)
 
     of_cache : (c : CBlock) → cache ≡ c → slice_get desk.orders.slots cache.0 ≡ Some None → c.0 < g.cache_blocks
     of_cache c e vacant =
         let there = slice_get_within desk.orders.slots cache.0 None vacant in
         let same = ap (λ (x : CBlock). x.0) e in
-        omega (arith, there, same, k.kept.slots, ap (λ (x : Geometry). x.cache_blocks) k.geometry)
+        omega (arith, there, same, k.kept.slots, k.sizes.cache_blocks)
 
     by_kind : (order : Order) → MayReserve desk cache order → OrderInside g order
     by_kind (PromoteOrder b c) may = (of_origin b.0 may.give.idle.0, of_cache c may.lawful.0 may.give.vacant)

@@ -10,7 +10,7 @@ use Rattle.wb_meta.specs.declared.commit_steps.CommitSteps.{CommitSteps}
 use Rattle.wb_meta.specs.declared.commit_steps.CommitSteps.TheVariants.{NodesWritten, NodesSynced, RootWritten, Done as Committed}
 use Rattle.wb_tasks.specs.Tables.{BlockRange, Invalidating, Migrating, OnBlock, TaskJob, Flushing, Suspending, Opening}
 use Rattle.wb_tasks.specs.Plan.{Plan, failed_commit, node_writes, release_orders, seal_looks}
-use Rattle.wb_tasks.specs.Points.{OpenPoint, AtFirst, AtCache, AtOrigin, AtRead, AtRoot, AtRootSync, AtEnd, AtRefusal, open_left, open_answer}
+use Rattle.wb_tasks.specs.Points.{OpenPoint, AtFirst, AtCache, AtOrigin, AtRead, AtNodes, AtRoot, AtRootSync, AtEnd, AtRefusal, open_left, open_answer}
 use Rattle.wb_tasks.specs.declared.step.Migration.{Migration}
 use Rattle.wb_tasks.specs.declared.step.Answer.{Answer}
 use Rattle.wb_tasks.specs.declared.step.DeviceStep.TheVariants.{Sync, WriteRoot}
@@ -158,15 +158,16 @@ FlushTask commit IsLeader (Some task) = FlushJob commit IsLeader task.0 task.1
 
 -- ---- openings
 
--- No commit runs until all was read; a reading that has read nothing may read a sector more.
+-- No commit runs until all was read; a reading that has read nothing may read a sector more. The commit is that of a root alone, or of nodes too.
 abbrev pub AtOpen : {A : Type 0} → ℕ → OpenPoint → Option (ReadSteps A) → Option RunningCommit → Type 0
 AtOpen n AtFirst reading commit = (commit ≡ None) × (1 ≤ n)
 AtOpen n AtCache reading commit = (commit ≡ None) × OfSome reading (λ was. 1 ≤ n)
 AtOpen n AtOrigin reading commit = (commit ≡ None) × OfSome reading (λ was. 1 ≤ n)
 AtOpen n (AtRead left) reading commit = (commit ≡ None) × OfSome reading (λ was. sectors_read was ≡ 0 → 1 ≤ left)
-AtOpen n AtRoot reading commit = Runs 0 NodesSynced commit
-AtOpen n AtRootSync reading commit = Runs 0 RootWritten commit
-AtOpen n AtEnd reading commit = Runs 0 Committed commit
+AtOpen n (AtNodes left from) reading commit = Runs (from + left) (NodesWritten from) commit
+AtOpen n AtRoot reading commit = (nodes : ℕ) × Runs nodes NodesSynced commit
+AtOpen n AtRootSync reading commit = (nodes : ℕ) × Runs nodes RootWritten commit
+AtOpen n AtEnd reading commit = (nodes : ℕ) × Runs nodes Committed commit
 AtOpen n (AtRefusal refusal) reading commit = Unit {0}
 
 pub record OpenAt {A : Type 0} (reading : Option (ReadSteps A)) (commit : Option RunningCommit) (plan : Plan) : Type 0 where
@@ -176,7 +177,7 @@ pub record OpenAt {A : Type 0} (reading : Option (ReadSteps A)) (commit : Option
   pub at : AtOpen sectors point reading commit
 
 abbrev pub OpenJob : {A : Type 0} → Option (ReadSteps A) → Option RunningCommit → Job → Plan → Type 0
-OpenJob reading commit (Open mode) plan = OpenAt reading commit plan
+OpenJob reading commit (Open mode second) plan = OpenAt reading commit plan
 OpenJob reading commit job plan = Unit {0}
 
 abbrev pub OpenTask : {A : Type 0} → Option (ReadSteps A) → Option RunningCommit → Option (Job × Plan) → Type 0

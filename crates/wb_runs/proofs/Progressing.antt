@@ -1,5 +1,5 @@
 -- Every run keeps where its flushes and openings stand.
-use Rattle.std.proofs.Common.{◌≡◌, ◌≢◌, ◌∙◌, inl, inr, ℕ, List, [], ◌∷◌, Option, Some, None, refl, sym, ap, subst, arith, length, slice_get, slice_set, map, true, false}
+use Rattle.std.proofs.Common.{◌≡◌, ◌≢◌, ◌∙◌, inl, inr, ℕ, List, [], ◌∷◌, Option, Some, None, refl, sym, ap, subst, arith, length, slice_get, slice_set, map, Bool, true, false}
 use Rattle.std.proofs.lemmas.Bool.{cases_eq}
 use Rattle.wb_types.specs.declared.mode.Mode.{Mode}
 use Rattle.wb_disk.specs.Device.{Content as Bytes, History}
@@ -57,7 +57,7 @@ lifted commit commit' L L' (Some (Flush, plan)) f k = f Flushes plan k
 lifted commit commit' L L' (Some (Suspend, plan)) f k = f Suspends plan k
 lifted commit commit' L L' (Some (Read extent, plan)) f k = tt
 lifted commit commit' L L' (Some (Write extent content, plan)) f k = tt
-lifted commit commit' L L' (Some (Open mode, plan)) f k = tt
+lifted commit commit' L L' (Some (Open mode second, plan)) f k = tt
 lifted commit commit' L L' (Some (Invalidate block, plan)) f k = k
 lifted commit commit' L L' (Some (Migrate migration block, plan)) f k = k
 lifted commit commit' L L' (Some (Replace old new, plan)) f k = absurd k
@@ -208,9 +208,9 @@ module _ (P A : Type 0) (shape : Shape) where
     block_task (Write extent content) plan (Cell step) got o k f = tt
     block_task (Write extent content) plan (Device step) got o k f = tt
     block_task (Write extent content) plan (Desk step) got o k f = tt
-    block_task (Open mode) plan (Cell step) got o k f = tt
-    block_task (Open mode) plan (Device step) got o k f = tt
-    block_task (Open mode) plan (Desk step) got o k f = tt
+    block_task (Open mode second) plan (Cell step) got o k f = tt
+    block_task (Open mode second) plan (Device step) got o k f = tt
+    block_task (Open mode second) plan (Desk step) got o k f = tt
     block_task (Invalidate block) plan (Cell step) got o k f = (k.0, job_stays plan got ∙ k.1)
     block_task (Invalidate block) plan (Device step) got o k f = (k.0, job_stays plan got ∙ k.1)
     block_task (Invalidate block) plan (Desk step) got o k f = (k.0, job_stays plan got ∙ k.1)
@@ -263,7 +263,7 @@ module _ (P A : Type 0) (shape : Shape) where
     stands_done (Migrate migration block) plan next got read chosen xt h g = let m = mine (Migrate migration block) plan xt in block_goes (Migrate migration block) plan next got chosen (Migrating migration m.0, m.1) tt xt h
     stands_done Flush plan next got read chosen xt h g = from_moved next got chosen _ (ap (λ k. task_then k next got) xt) (let k = mine Flush plan xt in flush_done (Flushes k.blocks k.most) k.answer k.point k.of k.at k.leads plan k.is next got read chosen h g)
     stands_done Suspend plan next got read chosen xt h g = from_moved next got chosen _ (ap (λ k. task_then k next got) xt) (let k = mine Suspend plan xt in flush_done (Suspends k.blocks k.most) k.answer k.point k.of k.at k.leads plan k.is next got read chosen h g)
-    stands_done (Open mode) plan next got read chosen xt h g = absurd (served (Open mode) plan xt)
+    stands_done (Open mode second) plan next got read chosen xt h g = absurd (served (Open mode second) plan xt)
     stands_done (Replace old new) plan next got read chosen xt h g = absurd (mine (Replace old new) plan xt)
 
     stands_failed : (job : Job) (plan : Plan) (next : Want) (choice : Choice) (chosen : Chosen P A) → x.task ≡ Some (job, plan) → next ≡ want plan → Falters w choice next chosen → Then next Fault chosen
@@ -273,7 +273,7 @@ module _ (P A : Type 0) (shape : Shape) where
     stands_failed (Migrate migration block) plan next choice chosen xt h g = let m = mine (Migrate migration block) plan xt in block_goes (Migrate migration block) plan next Fault chosen (Migrating migration m.0, m.1) tt xt h
     stands_failed Flush plan next choice chosen xt h g = from_moved next Fault chosen _ (ap (λ k. task_then k next Fault) xt) (let k = mine Flush plan xt in flush_failed (Flushes k.blocks k.most) k.answer k.point k.of k.at k.leads plan k.is next choice chosen h g)
     stands_failed Suspend plan next choice chosen xt h g = from_moved next Fault chosen _ (ap (λ k. task_then k next Fault) xt) (let k = mine Suspend plan xt in flush_failed (Suspends k.blocks k.most) k.answer k.point k.of k.at k.leads plan k.is next choice chosen h g)
-    stands_failed (Open mode) plan next choice chosen xt h g = absurd (served (Open mode) plan xt)
+    stands_failed (Open mode second) plan next choice chosen xt h g = absurd (served (Open mode second) plan xt)
     stands_failed (Replace old new) plan next choice chosen xt h g = absurd (mine (Replace old new) plan xt)
 
   -- ---- an opening
@@ -289,16 +289,16 @@ module _ (P A : Type 0) (shape : Shape) where
     opener : (job : Job) (plan : Plan) → x.task ≡ Some (job, plan) → a ≡ l.alone.0
     opener job plan xt = l.alone.1 a x e (subst (λ (k : Option (Job × Plan)). IsTask k) (sym xt) tt)
 
-    task_left : (m' : Mode) (plan : Plan) (next : Want) (got : Got) (chosen : Chosen P A) (k : OpenAt reading commit plan) → next ≡ want plan → (Goes : Want → Type 0) → Goes next →
+    task_left : (m' : Mode) (second : Bool) (plan : Plan) (next : Want) (got : Got) (chosen : Chosen P A) (k : OpenAt reading commit plan) → next ≡ want plan → (Goes : Want → Type 0) → Goes next →
         ((Goes (want (plan_of (Rattle.wb_tasks.specs.Tables.Opening k.sectors) (Rattle.wb_tasks.specs.Points.open_left k.sectors k.point) (Rattle.wb_tasks.specs.Points.open_answer k.point)))) →
         OpenTask (reading_then reading (want (plan_of (Rattle.wb_tasks.specs.Tables.Opening k.sectors) (Rattle.wb_tasks.specs.Points.open_left k.sectors k.point) (Rattle.wb_tasks.specs.Points.open_answer k.point))) got chosen)
         (commit_then {P = P} {A = A} (Opens mode reading) commit (want (plan_of (Rattle.wb_tasks.specs.Tables.Opening k.sectors) (Rattle.wb_tasks.specs.Points.open_left k.sectors k.point) (Rattle.wb_tasks.specs.Points.open_answer k.point))) got chosen)
-        (task_then (Some (Open m', plan_of (Rattle.wb_tasks.specs.Tables.Opening k.sectors) (Rattle.wb_tasks.specs.Points.open_left k.sectors k.point) (Rattle.wb_tasks.specs.Points.open_answer k.point))) (want (plan_of (Rattle.wb_tasks.specs.Tables.Opening k.sectors) (Rattle.wb_tasks.specs.Points.open_left k.sectors k.point) (Rattle.wb_tasks.specs.Points.open_answer k.point))) got)) →
-        OpenTask (reading_then reading next got chosen) (commit_then {P = P} {A = A} (Opens mode reading) commit next got chosen) (task_then (Some (Open m', plan)) next got)
-    task_left m' plan next got chosen k h Goes g f =
+        (task_then (Some (Open m' second, plan_of (Rattle.wb_tasks.specs.Tables.Opening k.sectors) (Rattle.wb_tasks.specs.Points.open_left k.sectors k.point) (Rattle.wb_tasks.specs.Points.open_answer k.point))) (want (plan_of (Rattle.wb_tasks.specs.Tables.Opening k.sectors) (Rattle.wb_tasks.specs.Points.open_left k.sectors k.point) (Rattle.wb_tasks.specs.Points.open_answer k.point))) got)) →
+        OpenTask (reading_then reading next got chosen) (commit_then {P = P} {A = A} (Opens mode reading) commit next got chosen) (task_then (Some (Open m' second, plan)) next got)
+    task_left m' second plan next got chosen k h Goes g f =
         let O = plan_of (Rattle.wb_tasks.specs.Tables.Opening k.sectors) (Rattle.wb_tasks.specs.Points.open_left k.sectors k.point) (Rattle.wb_tasks.specs.Points.open_answer k.point) in
-        subst (λ (s : Plan). OpenTask (reading_then reading next got chosen) (commit_then {P = P} {A = A} (Opens mode reading) commit next got chosen) (task_then (Some (Open m', s)) next got)) (sym k.is)
-        (subst (λ (u : Want). Goes u → OpenTask (reading_then reading u got chosen) (commit_then {P = P} {A = A} (Opens mode reading) commit u got chosen) (task_then (Some (Open m', O)) u got)) (sym (h ∙ ap want k.is)) f g)
+        subst (λ (s : Plan). OpenTask (reading_then reading next got chosen) (commit_then {P = P} {A = A} (Opens mode reading) commit next got chosen) (task_then (Some (Open m' second, s)) next got)) (sym k.is)
+        (subst (λ (u : Want). Goes u → OpenTask (reading_then reading u got chosen) (commit_then {P = P} {A = A} (Opens mode reading) commit u got chosen) (task_then (Some (Open m' second, O)) u got)) (sym (h ∙ ap want k.is)) f g)
 
     abbrev Later : Want → Got → Chosen P A → Type 0
     Later next got chosen = Going {P = P} {A = A} (phase_then shape (Opens mode reading) next got chosen) (commit_then {P = P} {A = A} (Opens mode reading) commit next got chosen) (slice_set actors a (actor_then {P = P} {A = A} shape (Opens mode reading) devices x next got))
@@ -309,13 +309,13 @@ module _ (P A : Type 0) (shape : Shape) where
     goes_later job plan (Desk step) got chosen xt k = opens_set actors a x (actor_then {P = P} {A = A} shape (Opens mode reading) devices x (Desk step) got) l.alone.0 _ _ e l.alone.1 (opener job plan xt) k
     goes_later job plan (End answer) got chosen xt k = idle (phase_opened shape mode reading chosen) _ _ (all_idle actors a x (actor_then {P = P} {A = A} shape (Opens mode reading) devices x (End answer) got) l.alone.0 e l.alone.1 (opener job plan xt) (ap (λ k. task_then k (End answer) got) xt))
 
-    my_opening : (m' : Mode) (plan : Plan) → x.task ≡ Some (Open m', plan) → OpenAt reading commit plan
-    my_opening m' plan xt = subst (λ (k : Option (Job × Plan)). OpenTask reading commit k) xt (each a x e)
+    my_opening : (m' : Mode) (second : Bool) (plan : Plan) → x.task ≡ Some (Open m' second, plan) → OpenAt reading commit plan
+    my_opening m' second plan xt = subst (λ (k : Option (Job × Plan)). OpenTask reading commit k) xt (each a x e)
 
     opens_done : (job : Job) (plan : Plan) (next : Want) (got : Got) (read : List Bytes) (chosen : Chosen P A) → x.task ≡ Some (job, plan) → next ≡ want plan → Gives shape v x job next got read chosen → Later next got chosen
-    opens_done (Open m') plan next got read chosen xt h g = let k = my_opening m' plan xt in goes_later (Open m') plan next got chosen xt
+    opens_done (Open m' second) plan next got read chosen xt h g = let k = my_opening m' second plan xt in goes_later (Open m' second) plan next got chosen xt
         (subst (λ (q : Option (Job × Plan)). OpenTask (reading_then reading next got chosen) (commit_then {P = P} {A = A} (Opens mode reading) commit next got chosen) (task_then q next got)) (sym xt)
-        (task_left m' plan next got chosen k h (λ u. Gives shape v x (Open m') u got read chosen) g (λ g. open_moves P A shape mode m' reading commit v k.sectors x got read chosen k.point k.at g)))
+        (task_left m' second plan next got chosen k h (λ u. Gives shape v x (Open m' second) u got read chosen) g (λ g. open_moves P A shape mode m' second reading commit v k.sectors x got read chosen k.point k.at g)))
     opens_done (Read extent) plan next got read chosen xt h g = absurd (opening_work (Read extent) plan xt)
     opens_done (Write extent content) plan next got read chosen xt h g = absurd (opening_work (Write extent content) plan xt)
     opens_done Flush plan next got read chosen xt h g = absurd (opening_work Flush plan xt)
@@ -325,9 +325,9 @@ module _ (P A : Type 0) (shape : Shape) where
     opens_done (Replace old new) plan next got read chosen xt h g = absurd (opening_work (Replace old new) plan xt)
 
     opens_failed : (job : Job) (plan : Plan) (next : Want) (choice : Choice) (chosen : Chosen P A) → x.task ≡ Some (job, plan) → next ≡ want plan → Falters v choice next chosen → Later next Fault chosen
-    opens_failed (Open m') plan next choice chosen xt h g = let k = my_opening m' plan xt in goes_later (Open m') plan next Fault chosen xt
+    opens_failed (Open m' second) plan next choice chosen xt h g = let k = my_opening m' second plan xt in goes_later (Open m' second) plan next Fault chosen xt
         (subst (λ (q : Option (Job × Plan)). OpenTask (reading_then reading next Fault chosen) (commit_then {P = P} {A = A} (Opens mode reading) commit next Fault chosen) (task_then q next Fault)) (sym xt)
-        (task_left m' plan next Fault chosen k h (λ u. Falters v choice u chosen) g (λ g. open_fails P A shape mode m' reading commit v k.sectors choice chosen k.point g)))
+        (task_left m' second plan next Fault chosen k h (λ u. Falters v choice u chosen) g (λ g. open_fails P A shape mode m' second reading commit v k.sectors choice chosen k.point g)))
     opens_failed (Read extent) plan next choice chosen xt h g = absurd (opening_work (Read extent) plan xt)
     opens_failed (Write extent content) plan next choice chosen xt h g = absurd (opening_work (Write extent content) plan xt)
     opens_failed Flush plan next choice chosen xt h g = absurd (opening_work Flush plan xt)
@@ -387,9 +387,9 @@ module _ (P A : Type 0) (shape : Shape) where
       by_task (Some doing) xt h = faults_on w n b k a x e doing.0 doing.1 xt choice next chosen h.0 h.2
 
   -- an opening starts, alone
-  opening_starts : (over mode : Mode) (actors : List Actor) (a : ℕ) (chosen : Chosen P A) (x : Actor) → slice_get (map (λ (x : Actor). resting) actors) a ≡ Some x →
-      (b : ℕ) (z : Actor) → slice_get (slice_set (map (λ (x : Actor). resting) actors) a (given {P = P} {A = A} shape over x (Open mode) chosen)) b ≡ Some z → OpenTask {A = A} None None z.task
-  opening_starts over mode actors a chosen x e b z f = elim (cases_eq b a) [
+  opening_starts : (over mode : Mode) (second : Bool) (actors : List Actor) (a : ℕ) (chosen : Chosen P A) (x : Actor) → slice_get (map (λ (x : Actor). resting) actors) a ≡ Some x →
+      (b : ℕ) (z : Actor) → slice_get (slice_set (map (λ (x : Actor). resting) actors) a (given {P = P} {A = A} shape over x (Open mode second) chosen)) b ≡ Some z → OpenTask {A = A} None None z.task
+  opening_starts over mode second actors a chosen x e b z f = elim (cases_eq b a) [
     | inl s ↦ let there : Some y ≡ Some z = sym (set_there rs a x y e) ∙ ap (slice_get (slice_set rs a y)) (sym s) ∙ f in
         let same : y ≡ z = cc in
         subst (λ (v : Actor). OpenTask {A = A} None None v.task) same first
@@ -400,9 +400,9 @@ module _ (P A : Type 0) (shape : Shape) where
       rs = map (λ (x : Actor). resting) actors
 
       y : Actor
-      y = given {P = P} {A = A} shape over x (Open mode) chosen
+      y = given {P = P} {A = A} shape over x (Open mode second) chosen
 
-      first : OpenAt {A = A} None None (table (task_job shape over x.awaiting (Open mode) (cut_of chosen) (looks_of chosen)))
+      first : OpenAt {A = A} None None (table (task_job shape over x.awaiting (Open mode second) (cut_of chosen) (looks_of chosen)))
       first = record { sectors = shape.geometry.meta_sectors; point = AtFirst; is = refl; at = (refl, omega (arith, shape.geometry.within.meta_from)) }
 
   -- an order that is given leaves where everybody stands
@@ -432,7 +432,7 @@ module _ (P A : Type 0) (shape : Shape) where
   given_goes (Stands t) commit actors Flush chosen k = k
   given_goes (Stands t) commit actors Suspend chosen k = k
   given_goes (Stands t) commit actors (Invalidate block) chosen k = k
-  given_goes (Stands t) commit actors (Open mode) chosen k = k
+  given_goes (Stands t) commit actors (Open mode second) chosen k = k
   given_goes Gone commit actors job chosen k = k
   given_goes (Opens mode reading) commit actors job chosen k = k
 
@@ -447,7 +447,7 @@ module _ (P A : Type 0) (shape : Shape) where
       by_job Suspend = record { blocks = looks_of chosen; most = most_for shape.geometry true; answer = Finished; point = ToLook; of = tt; is = refl; at = tt; leads = λ i. absurd i }
       by_job (Read extent) = tt
       by_job (Write extent content) = tt
-      by_job (Open mode) = tt
+      by_job (Open mode second) = tt
       by_job (Invalidate block) = (invalidated_range shape block, refl)
       by_job (Migrate migration block) = (migrated_range shape block (cut_of chosen), refl)
       by_job (Replace old new) = (migrated_range shape old (cut_of chosen), refl)
@@ -455,12 +455,12 @@ module _ (P A : Type 0) (shape : Shape) where
   task_by_phase (Opens mode reading) commit actors a x job chosen e p k = absurd (p (λ z. z))
 
   starts : (w : State P A) (a : ℕ) (job : Job) (chosen : Chosen P A) → GoesOn w → (¬ DoesNotApply w (Start a job)) → GoesOn (started shape w a job chosen)
-  starts w a (Open mode) chosen k applies = by_actor (slice_get (map (λ (x : Actor). resting) w.actors) a) refl
+  starts w a (Open mode second) chosen k applies = by_actor (slice_get (map (λ (x : Actor). resting) w.actors) a) refl
     where
       by_actor : (o : Option Actor) → slice_get (map (λ (x : Actor). resting) w.actors) a ≡ o →
-          GoesOn (with_actor (cleared w (Open mode)) o (λ x. record (cleared w (Open mode)) { phase = phase_given (cleared w (Open mode)).phase (Open mode) chosen; actors = slice_set (cleared w (Open mode)).actors a (given shape (mode_of (cleared w (Open mode)).phase) x (Open mode) chosen) }))
+          GoesOn (with_actor (cleared w (Open mode second)) o (λ x. record (cleared w (Open mode second)) { phase = phase_given (cleared w (Open mode second)).phase (Open mode second) chosen; actors = slice_set (cleared w (Open mode second)).actors a (given shape (mode_of (cleared w (Open mode second)).phase) x (Open mode second) chosen) }))
       by_actor None e = λ b z f. subst (λ (k : Option (Job × Plan)). OpenTask {A = A} None None k) (sym (rests w.actors b z f).0) tt
-      by_actor (Some x) e = opening_starts (mode_of (cleared w (Open mode)).phase) mode w.actors a chosen x e
+      by_actor (Some x) e = opening_starts (mode_of (cleared w (Open mode second)).phase) mode second w.actors a chosen x e
   starts w a (Read extent) chosen k applies = let f = free P A w a (Read extent) applies in
       subst (λ (o : Option Actor). GoesOn (with_actor w o (λ x. record w { phase = phase_given w.phase (Read extent) chosen; actors = slice_set w.actors a (given shape (mode_of w.phase) x (Read extent) chosen) }))) (sym f.1) (task_by_phase w.phase w.commit w.actors a f.0 (Read extent) chosen f.1 (λ p. applies (inr (inr (inr p)))) k)
   starts w a (Write extent content) chosen k applies = let f = free P A w a (Write extent content) applies in

@@ -1,6 +1,6 @@
 -- An opening's reading can always do its next step.
-use Rattle.std.proofs.Common.{Global, ◌≡◌, ◌∙◌, ◌≤◌, ◌<◌, ◌+◌, ◌%◌, ◌^◌, ◌⊎◌, inl, inr, ℕ, List, [], Option, Some, None, refl, sym, ap, subst, arith, length, slice_get, map, drop, slice_index}
-use Rattle.std.proofs.lemmas.Bool.{cases_eq}
+use Rattle.std.proofs.Common.{Global, ◌≡◌, ◌∙◌, ◌≤◌, ◌<◌, ◌+◌, ◌%◌, ◌^◌, ◌⊎◌, inl, inr, ℕ, Bool, true, false, List, [], Option, Some, None, refl, sym, ap, subst, arith, length, slice_get, map, drop, slice_index}
+use Rattle.std.proofs.lemmas.Bool.{cases_eq, leb-true}
 use Rattle.std.proofs.lemmas.List.{length-map, get_or-drop}
 use Rattle.std.proofs.lemmas.Option.{slice_get-get_or}
 use Rattle.std.proofs.Math.Nat.{mod-lt}
@@ -20,7 +20,8 @@ use Rattle.wb_meta.specs.declared.read_steps.ReadSteps.{ReadSteps}
 use Rattle.wb_meta.specs.declared.read_steps.ReadSteps.TheVariants.{Begun, FirstSlotRead, RootFound, Done as AllRead}
 use Rattle.wb_tasks.specs.declared.step.Got.{Got}
 use Rattle.wb_tasks.specs.declared.step.Got.TheVariants.{Refused as GotRefused, More}
-use Rattle.wb_promise.specs.Happenings.{Chosen, Reaches, DoesRead}
+use Rattle.wb_meta.proofs.Sizes.{own_sizes}
+use Rattle.wb_promise.specs.Happenings.{Chosen, Reaches, DoesRead, IsAsked, has_room_for, version_asked}
 use Rattle.wb_runs.proofs.Spelling.{root_or_none}
 use Rattle.wb_runs.proofs.Images.{Images}
 use Rattle.wb_runs.proofs.Metadata.{HasReached}
@@ -105,17 +106,28 @@ slot_agrees s t (Some r) same f = record { sector = f.sector; there = same ∙ f
 
 -- ---- the next step
 
+-- a geometry that an opening may ask for
+pub geometry_asked : (sizes : Geometry) (second : Bool) → (asked : Geometry) × IsAsked sizes second asked
+geometry_asked sizes second = by_room (has_room_for second sizes) refl
+  where
+    by_room : (room : Bool) → has_room_for second sizes ≡ room → (asked : Geometry) × IsAsked sizes second asked
+    by_room true e = (
+      record sizes { version = version_asked second; room = leb-true _ _ e },
+      record { sizes_are = record { block = refl; cache_blocks = refl; origin_blocks = refl; meta_sectors = refl }; version = λ has. refl },
+    )
+    by_room false e = (sizes, record { sizes_are = own_sizes sizes; version = λ has. absurd (let both : true ≡ false = sym has ∙ e in cc) })
+
 -- what a reading's step may give
-pub record CanRead (P A : Type 0) (mode : Mode) (g : Geometry) (left : ℕ) (was : ReadSteps A) (device : List History) : Type 0 where
+pub record CanRead (P A : Type 0) (mode : Mode) (g : Geometry) (second : Bool) (left : ℕ) (was : ReadSteps A) (device : List History) : Type 0 where
   pub got : Got
   pub chosen : Chosen P A
-  pub does : DoesRead mode g left was device None got chosen
+  pub does : DoesRead mode g second left was device None got chosen
 
-module _ (P A : Type 0) (mode : Mode) (g : Geometry) (device : List History) where
+module _ (P A : Type 0) (mode : Mode) (g : Geometry) (second : Bool) (device : List History) where
   seen : List Bytes
   seen = map newest device
 
-  no_memory : (left : ℕ) (was : ReadSteps A) → StopsBy was device Memory → CanRead P A mode g left was device
+  no_memory : (left : ℕ) (was : ReadSteps A) → StopsBy was device Memory → CanRead P A mode g second left was device
   no_memory left was stops = record { got = GotRefused Memory; chosen = Reaches None None; does = (λ e. absurd (cc), inr (Memory, tt, stops, refl, refl, refl)) }
 
   first_stops : (i : Images) (alloc : _) (global : _) (first : Option Root) → HasReached {A = A} g i (FirstSlotRead alloc global first) device → StopsBy {A = A} (FirstSlotRead alloc global first) device Memory
@@ -124,19 +136,20 @@ module _ (P A : Type 0) (mode : Mode) (g : Geometry) (device : List History) whe
       record {
         root = k.found.committed.root;
         newest = same_newest (map newest device) sectors first k.come has (agree.here 1 refl) k.found.committed.root n;
-        size = ap (λ (x : Geometry). x.meta_sectors) k.found.read.same_geometry ∙ sym k.found.read.size ∙ sym agree.size;
+        size = k.found.read.sizes.meta_sectors ∙ sym k.found.read.size ∙ sym agree.size;
       }
 
   -- the first slot is read
-  pub first_read : (alloc : A) (global : Global) (left : ℕ) (first : Option Root) → IsInSlot (map newest device) 0 first → 1 ≤ left → DoesRead {P = P} {A = A} mode g left (Begun alloc global) device None More (Reaches (Some (FirstSlotRead alloc global first)) None)
+  pub first_read : (alloc : A) (global : Global) (left : ℕ) (first : Option Root) → IsInSlot (map newest device) 0 first → 1 ≤ left → DoesRead {P = P} {A = A} mode g second left (Begun alloc global) device None More (Reaches (Some (FirstSlotRead alloc global first)) None)
   first_read alloc global left first slot more = (
     λ e. absurd (cc),
     inl (
       FirstSlotRead alloc global first,
       (λ sectors agree has. slot_agrees (map newest device) sectors first (agree.here 0 refl) slot),
       tt,
-      inl ((more, refl, (λ root e. absurd (cc)), refl), λ passes state e. absurd (cc)),
+      ((geometry_asked g second).0, (geometry_asked g second).1, inl ((more, refl, (λ root e. absurd (cc)), refl), λ passes state e. absurd (cc))),
       refl,
+      tt,
       tt,
     ),
   )
@@ -144,10 +157,10 @@ module _ (P A : Type 0) (mode : Mode) (g : Geometry) (device : List History) whe
   pub some_slot : 1 ≤ length device → (first : Option Root) × IsInSlot (map newest device) 0 first
   some_slot some = in_slot (map newest device) _ (slice_get-get_or (map newest device) 0 [] (omega (arith, some, length-map device newest)))
 
-  begins : (alloc : A) (global : Global) (left : ℕ) → 1 ≤ left → 1 ≤ length device → CanRead P A mode g left (Begun alloc global) device
+  begins : (alloc : A) (global : Global) (left : ℕ) → 1 ≤ left → 1 ≤ length device → CanRead P A mode g second left (Begun alloc global) device
   begins alloc global left more some = let slot = some_slot some in record { got = More; chosen = Reaches (Some (FirstSlotRead alloc global slot.0)) None; does = first_read alloc global left slot.0 slot.1 more }
 
-  pub can_read : (i : Images) (left : ℕ) (was : ReadSteps A) → HasReached g i was device → (sectors_read was ≡ 0 → 1 ≤ left) → 1 ≤ length device → CanRead P A mode g left was device
+  pub can_read : (i : Images) (left : ℕ) (was : ReadSteps A) → HasReached g i was device → (sectors_read was ≡ 0 → 1 ≤ left) → 1 ≤ length device → CanRead P A mode g second left was device
   can_read i left (Begun alloc global) k more some = begins alloc global left (more refl) some
   can_read i left (FirstSlotRead alloc global first) k more some = no_memory left (FirstSlotRead alloc global first) (first_stops i alloc global first k)
   can_read i left (RootFound global root loader nodes) k more some = no_memory left (RootFound global root loader nodes) (λ sectors agree has. record { root = root; newest = has.newest; size = k.on.0.size ∙ sym agree.size })

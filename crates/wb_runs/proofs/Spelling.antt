@@ -16,7 +16,8 @@ use Rattle.wb_format.specs.Layout.{SpellsRoot}
 use Rattle.wb_format.specs.declared.root.Root.{Root}
 use Rattle.wb_types.specs.declared.version.Version.{Version}
 use Rattle.wb_types.specs.declared.version.Version.TheVariants.{One, Two}
-use Rattle.wb_format.proofs.Values.{one_version}
+use Rattle.wb_types.proofs.Versions.{one_version}
+use Rattle.wb_format.proofs.Values.{one_flag}
 use Rattle.wb_format.proofs.Numbers.{number_at-written, zero-from_bytes, zeros_all, little_bytes-below}
 
 -- ---- a root is spelled
@@ -228,12 +229,6 @@ same_top None (Some p) m i k e = absurd (let low = (k p refl).0 in omega (arith,
 same_top (Some p) None m i k e = absurd (let low = (i p refl).0 in omega (arith, e, low))
 same_top (Some p) (Some q) m i k e = ap (λ (n : ℕ). Some (record { 0 = n })) e
 
-same_flag : (a b : Bool) → ◌≡◌ {A = ℕ} (cond a 1 0) (cond b 1 0) → a ≡ b
-same_flag true true e = refl
-same_flag true false e = absurd (omega (arith, e))
-same_flag false true e = absurd (omega (arith, e))
-same_flag false false e = refl
-
 -- What the numbers of a sector say of a root of a version: the flag, the sizes and the two tops, and what a root of them keeps to.
 record HasFields (v : Version) (s : List ℕ) : Type 0 where
   clean : Bool
@@ -274,7 +269,7 @@ fields_in v s = elim (two_of (two_of (two_of (is_sector s) (cases_eq (number_at 
           dirty_is = d.1.1.1.1.2;
           may = may;
         })
-        | inr none ↦ inr (λ h. none (subst (λ (c : Bool). MayNameDirty v c d.1.1.1.1.0) (same_flag h.clean d.1.0.0.0 (sym h.flag ∙ d.1.0.0.1))
+        | inr none ↦ inr (λ h. none (subst (λ (c : Bool). MayNameDirty v c d.1.1.1.1.0) (one_flag h.clean d.1.0.0.0 (sym h.flag ∙ d.1.0.0.1))
             (subst (λ (t : Option Place). MayNameDirty v h.clean t) (same_top h.top_dirty d.1.1.1.1.0 (number_at s 36 4) h.dirty_inside d.1.1.1.1.1 (sym h.dirty_is ∙ d.1.1.1.1.2)) h.may)))
       ]
       | inr none ↦ inr (λ h. none (((h.bytes, h.magic), (h.version, h.rest)), (((h.clean, h.flag), h.within), (h.room, ((h.top, h.top_inside, h.top_is), (h.top_dirty, h.dirty_inside, h.dirty_is))))))

@@ -1,6 +1,7 @@
 -- Each step of an actor, done or failed, keeps what is known of the metadata.
 use Rattle.std.proofs.lemmas.List.{length-map}
 use Rattle.std.proofs.Common.{◌≡◌, ◌≢◌, ◌⊎◌, inl, inr, ℕ, Bool, true, false, List, Option, Some, None, refl, sym, subst, map, arith}
+use Rattle.wb_types.specs.declared.geometry.Geometry.{Geometry}
 use Rattle.wb_types.specs.declared.mode.Dev.{Dev}
 use Rattle.wb_types.specs.declared.mode.Dev.TheVariants.{Metadata, Cache, Origin}
 use Rattle.wb_disk.specs.Device.{Content as Bytes, History, newest, synced}
@@ -28,14 +29,14 @@ use Rattle.wb_devices.specs.Opened.{HasCome}
 use Rattle.wb_promise.specs.declared.job.Job.{Job}
 use Rattle.wb_promise.specs.declared.job.Job.TheVariants.{Read, Write, Flush, Suspend, Open, Migrate, Replace, Invalidate}
 use Rattle.wb_promise.specs.States.{Shape, State, Target, Phase, Stands, Gone, Opens, OfTarget, OfReading, with_device, Actor}
-use Rattle.wb_promise.specs.Happenings.{Chosen, Plain, Cut, Orders, Begins, Reaches, Puts, Commits, Asks, Opened, DoesPut, DoesSync, DoesRead, DoesBegin, DoesMap, DoesRelease, DoesOpen, Gives, DoesUnmap, Looks, DoesLead, DoesArrive, DoesAsk}
+use Rattle.wb_promise.specs.Happenings.{Chosen, Plain, Cut, Orders, Begins, Reaches, Puts, Commits, Asks, Opened, DoesPut, DoesSync, DoesRead, asks_second, DoesBegin, DoesMap, DoesRelease, DoesOpen, Gives, DoesUnmap, Looks, DoesLead, DoesArrive, DoesAsk}
 use Rattle.wb_promise.specs.Effects.{device_done, devices_then, commit_then, phase_then, begun_desk, begun_commit}
 use Rattle.wb_runs.proofs.Images.{Images, Turns, stays}
 use Rattle.wb_runs.proofs.Desks.{mapped_stands, unmapped_stands, released_for}
 use Rattle.wb_runs.proofs.Underway.{Readable, Found, led_on, sync_does, sync_found, found_readable}
 use Rattle.wb_stage.specs.declared.share.Share.{Share}
 use Rattle.wb_desk.specs.Commits.{commit_broken}
-use Rattle.wb_runs.proofs.Metadata.{AtDesk, HasReached, Rooting, AtOpening, MetadataKept, begins_over, ends_over, root_begins, target_stands, kept_readable, broken_over}
+use Rattle.wb_runs.proofs.Metadata.{AtDesk, HasReached, Rooting, AtOpening, MetadataKept, begins_over, ends_over, nodes_begin, root_begins, target_stands, kept_readable, broken_over}
 use Rattle.wb_types.specs.declared.number.OBlock.{OBlock}
 use Rattle.wb_stage.specs.Asking.{order_of}
 
@@ -98,7 +99,7 @@ module _ (P A : Type 0) (shape : Shape) where
     turned = u.turned;
     kept = record {
       is = k.is;
-      stands = record { of = l.of; under = u.kept; edited = l.edited; places = l.places; generation = l.generation; busy = l.busy };
+      stands = record { of = l.of; under = u.kept; edited = l.edited; places = l.places; same = l.same; generation = l.generation; busy = l.busy };
     };
   }
 
@@ -118,7 +119,8 @@ module _ (P A : Type 0) (shape : Shape) where
       entries = k.entries;
       unmarked = k.unmarked;
       fits = k.fits;
-      geometry = k.geometry;
+      sizes = k.sizes;
+      same = k.same;
     };
   }
 
@@ -172,14 +174,14 @@ module _ (P A : Type 0) (shape : Shape) where
   read_nothing i mode m r None (Some c) e f = absurd (cc)
   read_nothing i mode m r (Some x) commit e f = absurd (cc)
 
-  read_metadata : (i : Images) (phase : Phase P A) (m : List History) (left : ℕ) (got : Got) (chosen : Chosen P A) → K i phase None m → OfReading phase (λ mode was. DoesRead mode shape.geometry left was m None got chosen) →
+  read_metadata : (i : Images) (phase : Phase P A) (m : List History) (second : Bool) (left : ℕ) (got : Got) (chosen : Chosen P A) → K i phase None m → OfReading phase (λ mode was. DoesRead mode shape.geometry second left was m None got chosen) →
       T i (phase_then shape phase (Device (ReadMetadata left)) got chosen) (commit_then phase None (Device (ReadMetadata left)) got chosen) m
-  read_metadata i (Stands t) m left got chosen k s = absurd s
-  read_metadata i Gone m left got chosen k s = absurd s
-  read_metadata i (Opens mode None) m left got chosen k s = absurd s
-  read_metadata i (Opens mode (Some was)) m left got (Reaches after commit) k (no_fault, inr more) =
+  read_metadata i (Stands t) m second left got chosen k s = absurd s
+  read_metadata i Gone m second left got chosen k s = absurd s
+  read_metadata i (Opens mode None) m second left got chosen k s = absurd s
+  read_metadata i (Opens mode (Some was)) m second left got (Reaches after commit) k (no_fault, inr more) =
       read_nothing i mode m (found_readable shape.geometry i m k.found) after commit more.4 more.5
-  read_metadata i (Opens mode (Some was)) m left got (Reaches after commit) k (no_fault, inl more) = elim more.3 [
+  read_metadata i (Opens mode (Some was)) m second left got (Reaches after commit) k (no_fault, inl more) = elim more.3.2 [
     | inl in_time ↦ by_got got no_fault in_time.0
     | inr unclean ↦ read_nothing i mode m (found_readable shape.geometry i m k.found) after commit unclean.2 unclean.3
   ]
@@ -190,14 +192,18 @@ module _ (P A : Type 0) (shape : Shape) where
       reached : HasReached shape.geometry i now m
       reached = record { found = k.found; come = more.1 (map newest m) (record { size = length-map m newest; here = λ place e. refl }) k.come; on = more.2 }
 
-      by_got : (got : Got) → (got ≢ Fault) → HasCome shape.geometry left now None got after commit → Turns (λ j. AtOpening shape.geometry j after commit m) i
+      asked : Geometry
+      asked = more.3.0
+
+      by_got : (got : Got) → (got ≢ Fault) → HasCome asked left now None got after commit → Turns (λ j. AtOpening shape.geometry j after commit m) i
       by_got More n h = stays (λ j. AtOpening shape.geometry j after commit m) i
           (subst (λ (r : Option (ReadSteps A)). AtOpening shape.geometry i r commit m) (sym h.1) (subst (λ (c : Option RunningCommit). AtOpening shape.geometry i (Some now) c m) (sym h.3) reached))
       by_got Done n h = subst (λ (r : Option (ReadSteps A)). Turns (λ j. AtOpening shape.geometry j r commit m) i) (sym h.0) (root_begins A shape.geometry i m now commit reached h.2)
+      by_got (Began nodes) n h = nodes_begin A shape.geometry i m asked now nodes after commit more.3.1.sizes_are reached h.2
       by_got (GotRefused refusal) n h = read_nothing i mode m (found_readable shape.geometry i m k.found) after commit h.0 h.1
       by_got Fault n h = absurd (n refl)
       by_got got n h = absurd h
-  read_metadata i (Opens mode (Some was)) m left got chosen k s = absurd s
+  read_metadata i (Opens mode (Some was)) m second left got chosen k s = absurd s
 
   -- a commit begins, where it does
   begun : (i : Images) (t : Target P) (commit : Option RunningCommit) (m : List History) (seen : Option (List Bool)) (most : ℕ) (got : Got) (chosen : Chosen P A) → K i (Stands t) commit m → DoesBegin seen most t.desk got chosen →
@@ -329,7 +335,7 @@ module _ (P A : Type 0) (shape : Shape) where
     read_fact Flush d e g = absurd g
     read_fact Suspend d e g = absurd g
     read_fact (Invalidate block) d e g = absurd g
-    read_fact (Open mode) d e g = absurd g
+    read_fact (Open mode second) d e g = absurd g
     read_fact (Migrate migration block) d e g = g.0
     read_fact (Replace old new) d e g = absurd g
 
@@ -339,7 +345,7 @@ module _ (P A : Type 0) (shape : Shape) where
     write_fact Flush d e g = absurd g
     write_fact Suspend d e g = absurd g
     write_fact (Invalidate block) d e g = absurd g
-    write_fact (Open mode) d e g = absurd g
+    write_fact (Open mode second) d e g = absurd g
     write_fact (Migrate migration block) d e g = g.0
     write_fact (Replace old new) d e g = absurd g
 
@@ -349,7 +355,7 @@ module _ (P A : Type 0) (shape : Shape) where
     sync_fact Flush g = (g.1, g.2)
     sync_fact Suspend g = (g.1, g.2)
     sync_fact (Invalidate block) g = (g.1, g.2)
-    sync_fact (Open mode) g = (g.1, g.2)
+    sync_fact (Open mode second) g = (g.1, g.2)
     sync_fact (Migrate migration block) g = (g.1, g.2)
     sync_fact (Replace old new) g = (g.1, g.2)
 
@@ -359,7 +365,7 @@ module _ (P A : Type 0) (shape : Shape) where
     node_fact Flush number g = (g.1, g.2)
     node_fact Suspend number g = (g.1, g.2)
     node_fact (Invalidate block) number g = (g.1, g.2)
-    node_fact (Open mode) number g = (g.1, g.2)
+    node_fact (Open mode second) number g = (g.1, g.2)
     node_fact (Migrate migration block) number g = (g.1, g.2)
     node_fact (Replace old new) number g = (g.1, g.2)
 
@@ -369,17 +375,17 @@ module _ (P A : Type 0) (shape : Shape) where
     root_fact Flush g = (g.1, g.2)
     root_fact Suspend g = (g.1, g.2)
     root_fact (Invalidate block) g = (g.1, g.2)
-    root_fact (Open mode) g = (g.1, g.2)
+    root_fact (Open mode second) g = (g.1, g.2)
     root_fact (Migrate migration block) g = (g.1, g.2)
     root_fact (Replace old new) g = (g.1, g.2)
 
-    pub metadata_fact : (job : Job) (left : ℕ) → G job (Device (ReadMetadata left)) → (w.commit ≡ None) × OfReading w.phase (λ mode was. DoesRead mode shape.geometry left was m w.commit got chosen)
+    pub metadata_fact : (job : Job) (left : ℕ) → G job (Device (ReadMetadata left)) → (w.commit ≡ None) × OfReading w.phase (λ mode was. DoesRead mode shape.geometry (asks_second job) left was m w.commit got chosen)
     metadata_fact (Read x) left g = (g.1, g.2)
     metadata_fact (Write x c) left g = (g.1, g.2)
     metadata_fact Flush left g = (g.1, g.2)
     metadata_fact Suspend left g = (g.1, g.2)
     metadata_fact (Invalidate block) left g = (g.1, g.2)
-    metadata_fact (Open mode) left g = (g.1, g.2)
+    metadata_fact (Open mode second) left g = (g.1, g.2)
     metadata_fact (Migrate migration block) left g = (g.1, g.2)
     metadata_fact (Replace old new) left g = (g.1, g.2)
 
@@ -390,7 +396,7 @@ module _ (P A : Type 0) (shape : Shape) where
     begin_fact Flush most g = g.1
     begin_fact Suspend most g = g.1
     begin_fact (Invalidate block) most g = g.1
-    begin_fact (Open mode) most g = g.1
+    begin_fact (Open mode second) most g = g.1
     begin_fact (Migrate migration block) most g = g.1
     begin_fact (Replace old new) most g = g.1
 
@@ -400,7 +406,7 @@ module _ (P A : Type 0) (shape : Shape) where
     arrive_fact Flush most g = g.1
     arrive_fact Suspend most g = g.1
     arrive_fact (Invalidate block) most g = g.1
-    arrive_fact (Open mode) most g = g.1
+    arrive_fact (Open mode second) most g = g.1
     arrive_fact (Migrate migration block) most g = g.1
     arrive_fact (Replace old new) most g = g.1
 
@@ -410,7 +416,7 @@ module _ (P A : Type 0) (shape : Shape) where
     ask_fact Flush most g = g.1
     ask_fact Suspend most g = g.1
     ask_fact (Invalidate block) most g = g.1
-    ask_fact (Open mode) most g = g.1
+    ask_fact (Open mode second) most g = g.1
     ask_fact (Migrate migration block) most g = g.1
     ask_fact (Replace old new) most g = g.1
 
@@ -420,7 +426,7 @@ module _ (P A : Type 0) (shape : Shape) where
     break_fact Flush g = g.2
     break_fact Suspend g = g.2
     break_fact (Invalidate block) g = g.2
-    break_fact (Open mode) g = g.2
+    break_fact (Open mode second) g = g.2
     break_fact (Migrate migration block) g = g.2
     break_fact (Replace old new) g = g.2
 
@@ -430,7 +436,7 @@ module _ (P A : Type 0) (shape : Shape) where
     end_fact Flush g = g.2
     end_fact Suspend g = g.2
     end_fact (Invalidate block) g = g.2
-    end_fact (Open mode) g = g.2
+    end_fact (Open mode second) g = g.2
     end_fact (Migrate migration block) g = g.2
     end_fact (Replace old new) g = g.2
 
@@ -440,7 +446,7 @@ module _ (P A : Type 0) (shape : Shape) where
     map_fact Flush b c g = absurd g
     map_fact Suspend b c g = absurd g
     map_fact (Invalidate block) b c g = absurd g
-    map_fact (Open mode) b c g = absurd g
+    map_fact (Open mode second) b c g = absurd g
     map_fact (Migrate migration block) b c g = g.1
     map_fact (Replace old new) b c g = absurd g
 
@@ -450,7 +456,7 @@ module _ (P A : Type 0) (shape : Shape) where
     unmap_fact Flush b g = absurd g
     unmap_fact Suspend b g = absurd g
     unmap_fact (Invalidate block) b g = g.2
-    unmap_fact (Open mode) b g = absurd g
+    unmap_fact (Open mode second) b g = absurd g
     unmap_fact (Migrate migration block) b g = g.2
     unmap_fact (Replace old new) b g = absurd g
 
@@ -460,7 +466,7 @@ module _ (P A : Type 0) (shape : Shape) where
     release_fact Flush b g = (actor.awaiting, g.2)
     release_fact Suspend b g = absurd g
     release_fact (Invalidate block) b g = absurd g
-    release_fact (Open mode) b g = absurd g
+    release_fact (Open mode second) b g = absurd g
     release_fact (Migrate migration block) b g = (actor.orders, g.2)
     release_fact (Replace old new) b g = absurd g
 
@@ -470,8 +476,8 @@ module _ (P A : Type 0) (shape : Shape) where
     answer_fact Flush answer g = inl g.0.1
     answer_fact Suspend answer g = inl g.0.1
     answer_fact (Invalidate block) answer g = inl g.0.1
-    answer_fact (Open mode) Finished g = inr (refl, g.2)
-    answer_fact (Open mode) (Refuses refusal) g = inl g.0.1
+    answer_fact (Open mode second) Finished g = inr (refl, g.2)
+    answer_fact (Open mode second) (Refuses refusal) g = inl g.0.1
     answer_fact (Migrate migration block) answer g = inl g.0.1
     answer_fact (Replace old new) answer g = inl g.0.1
 
@@ -499,7 +505,7 @@ module _ (P A : Type 0) (shape : Shape) where
         still : device_done job buffer (ReadMetadata left) chosen m ≡ m
         still = by_chosen chosen (metadata_fact job left g).1
           where
-            by_chosen : (ch : Chosen P A) → OfReading w.phase (λ mode was. DoesRead mode shape.geometry left was m w.commit got ch) → device_done job buffer (ReadMetadata left) ch m ≡ m
+            by_chosen : (ch : Chosen P A) → OfReading w.phase (λ mode was. DoesRead mode shape.geometry (asks_second job) left was m w.commit got ch) → device_done job buffer (ReadMetadata left) ch m ≡ m
             by_chosen (Puts new) h = by_phase w.phase h
               where
                 by_phase : (p : Phase P A) → OfReading p (λ mode was. ⊥) → new ≡ m
@@ -517,10 +523,10 @@ module _ (P A : Type 0) (shape : Shape) where
             by_chosen (Asks d) h = refl
             by_chosen (Opened p) h = refl
 
-        by_commit : (commit : Option RunningCommit) → commit ≡ None → K i w.phase commit m → OfReading w.phase (λ mode was. DoesRead mode shape.geometry left was m commit got chosen) →
+        by_commit : (commit : Option RunningCommit) → commit ≡ None → K i w.phase commit m → OfReading w.phase (λ mode was. DoesRead mode shape.geometry (asks_second job) left was m commit got chosen) →
             T i (phase_then shape w.phase (Device (ReadMetadata left)) got chosen) (commit_then w.phase commit (Device (ReadMetadata left)) got chosen) (device_done job buffer (ReadMetadata left) chosen m)
         by_commit None e k h = subst (λ (n : List History). T i (phase_then shape w.phase (Device (ReadMetadata left)) got chosen) (commit_then w.phase None (Device (ReadMetadata left)) got chosen) n) (sym still)
-            (read_metadata i w.phase m left got chosen k h)
+            (read_metadata i w.phase m (asks_second job) left got chosen k h)
         by_commit (Some c) e k h = absurd (cc)
     done_kept i buffer job (Desk (Arrive most)) k g = arrives i w.phase w.commit m most got chosen k (arrive_fact job most g)
     done_kept i buffer job (Desk (Ask most)) k g = asks actor.share i w.phase w.commit m most got chosen k (ask_fact job most g)

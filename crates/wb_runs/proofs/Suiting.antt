@@ -2,6 +2,7 @@
 use Rattle.wb_stage.specs.declared.share.Share.{Share}
 use Rattle.wb_desk.specs.Sharing.{IsLeadRefused}
 use Rattle.std.proofs.Common.{◌≡◌, ◌≢◌, inl, inr, ℕ, Bool, true, false, eqb, List, Option, Some, None, refl, sym, subst, if◌then◌else◌, ◌⊎◌}
+use Rattle.wb_types.specs.declared.geometry.Geometry.{Geometry}
 use Rattle.wb_types.specs.declared.mode.Dev.{Dev}
 use Rattle.wb_types.specs.declared.mode.Dev.TheVariants.{Metadata, Cache, Origin}
 use Rattle.wb_types.specs.declared.mode.Mode.{Mode}
@@ -29,7 +30,7 @@ use Rattle.wb_devices.specs.Opened.{HasCome, got_of_refusal}
 use Rattle.wb_promise.specs.declared.job.Job.{Job}
 use Rattle.wb_promise.specs.declared.job.Job.TheVariants.{Read, Write, Flush, Suspend, Open, Migrate, Replace, Invalidate}
 use Rattle.wb_promise.specs.States.{Actor, Shape, State, Phase, Stands, Gone, Opens, OfTarget, OfReading}
-use Rattle.wb_promise.specs.Happenings.{Chosen, Plain, Cut, Orders, Begins, Reaches, Puts, Commits, Asks, Opened, DoesRead, DoesBegin, DoesMap, Gives, Looks, DoesArrive, DoesAsk}
+use Rattle.wb_promise.specs.Happenings.{Chosen, Plain, Cut, Orders, Begins, Reaches, Puts, Commits, Asks, Opened, DoesRead, asks_second, DoesBegin, DoesMap, Gives, Looks, DoesArrive, DoesAsk}
 use Rattle.wb_runs.proofs.Stepping.{metadata_fact, begin_fact, map_fact, sync_fact, node_fact, root_fact, arrive_fact, ask_fact}
 
 -- ---- results
@@ -99,15 +100,17 @@ asking_fits share most desk (GotRefused refusal) Plain d = elim (lead_refusal de
 asking_fits share most desk got chosen d = absurd d.1
 
 -- of a sector that an opening has read
-come_fits : {A : Type 0} (shape : Shape) (left : ℕ) (now : ReadSteps A) (commit commit' : Option RunningCommit) (got : Got) (left' : Option (ReadSteps A)) → got ≢ Fault → HasCome shape.geometry left now commit got left' commit' → Fits (Device (ReadMetadata left)) got
-come_fits shape left now commit commit' More left' n h = h.0
-come_fits shape left now commit commit' Done left' n h = tt
-come_fits shape left now commit commit' (GotRefused refusal) left' n h = elim h.2 [
+come_fits : {A : Type 0} (asked : Geometry) (left : ℕ) (now : ReadSteps A) (commit commit' : Option RunningCommit) (got : Got) (left' : Option (ReadSteps A)) → got ≢ Fault → HasCome asked left now commit got left' commit' → Fits (Device (ReadMetadata left)) got
+come_fits asked left now commit commit' More left' n h = h.0
+come_fits asked left now commit commit' Done left' n h = tt
+come_fits asked left now commit commit' (GotRefused refusal) left' n h = elim h.2 [
   | inl m ↦ subst (λ (r : Refusal). Fits (Device (ReadMetadata left)) (GotRefused r)) (sym m.0) tt
-  | inr g ↦ subst (λ (r : Refusal). Fits (Device (ReadMetadata left)) (GotRefused r)) (sym g.0) tt
+  | inr (inl g) ↦ subst (λ (r : Refusal). Fits (Device (ReadMetadata left)) (GotRefused r)) (sym g.0) tt
+  | inr (inr m) ↦ subst (λ (r : Refusal). Fits (Device (ReadMetadata left)) (GotRefused r)) (sym m.0) tt
 ]
-come_fits shape left now commit commit' Fault left' n h = absurd (n refl)
-come_fits shape left now commit commit' got left' n h = absurd h
+come_fits asked left now commit commit' (Began nodes) left' n h = h.1
+come_fits asked left now commit commit' Fault left' n h = absurd (n refl)
+come_fits asked left now commit commit' got left' n h = absurd h
 
 stop_fits : (left : ℕ) (refusal : Refusal) (got : Got) → got ≢ Fault → IsOfReading refusal → got ≡ got_of_refusal refusal → Fits (Device (ReadMetadata left)) got
 stop_fits left (Io Metadata) got n o e = absurd (n e)
@@ -117,23 +120,23 @@ stop_fits left Mismatch got n o e = subst (λ (g : Got). Fits (Device (ReadMetad
 stop_fits left (Damaged place) got n o e = subst (λ (g : Got). Fits (Device (ReadMetadata left)) g) (sym e) tt
 stop_fits left refusal got n o e = absurd o
 
-read_fits : {P A : Type 0} (shape : Shape) (mode : Mode) (left : ℕ) (was : ReadSteps A) (device : List History) (commit : Option RunningCommit) (got : Got) (chosen : Chosen P A) → DoesRead mode shape.geometry left was device commit got chosen → Fits (Device (ReadMetadata left)) got
-read_fits shape mode left was device commit got (Reaches left' commit') d = elim d.1 [
-  | inl k ↦ elim k.3 [
-    | inl in_time ↦ come_fits shape left k.0 commit commit' got left' d.0 in_time.0
+read_fits : {P A : Type 0} (shape : Shape) (mode : Mode) (second : Bool) (left : ℕ) (was : ReadSteps A) (device : List History) (commit : Option RunningCommit) (got : Got) (chosen : Chosen P A) → DoesRead mode shape.geometry second left was device commit got chosen → Fits (Device (ReadMetadata left)) got
+read_fits shape mode second left was device commit got (Reaches left' commit') d = elim d.1 [
+  | inl k ↦ elim k.3.2 [
+    | inl in_time ↦ come_fits k.3.0 left k.0 commit commit' got left' d.0 in_time.0
     | inr unclean ↦ subst (λ (g : Got). Fits (Device (ReadMetadata left)) g) (sym unclean.1) tt
   ]
   | inr r ↦ stop_fits left r.0 got d.0 r.1 r.3
 ]
-read_fits shape mode left was device commit got Plain d = absurd d
-read_fits shape mode left was device commit got (Cut es) d = absurd d
-read_fits shape mode left was device commit got (Orders es c) d = absurd d
-read_fits shape mode left was device commit got (Looks bs) d = absurd d
-read_fits shape mode left was device commit got (Asks new) d = absurd d
-read_fits shape mode left was device commit got (Begins now) d = absurd d
-read_fits shape mode left was device commit got (Puts new) d = absurd d
-read_fits shape mode left was device commit got (Commits c tree) d = absurd d
-read_fits shape mode left was device commit got (Opened policy) d = absurd d
+read_fits shape mode second left was device commit got Plain d = absurd d
+read_fits shape mode second left was device commit got (Cut es) d = absurd d
+read_fits shape mode second left was device commit got (Orders es c) d = absurd d
+read_fits shape mode second left was device commit got (Looks bs) d = absurd d
+read_fits shape mode second left was device commit got (Asks new) d = absurd d
+read_fits shape mode second left was device commit got (Begins now) d = absurd d
+read_fits shape mode second left was device commit got (Puts new) d = absurd d
+read_fits shape mode second left was device commit got (Commits c tree) d = absurd d
+read_fits shape mode second left was device commit got (Opened policy) d = absurd d
 
 module _ (P A : Type 0) (shape : Shape) (w : State P A) (actor : Actor) (got : Got) (read : List Bytes) (chosen : Chosen P A) where
   on_words : (phase : Phase P A) (step : CellStep) → OfTarget phase (λ t. got ≡ got_of (result_of t.words step)) → Fits (Cell step) got
@@ -147,11 +150,11 @@ module _ (P A : Type 0) (shape : Shape) (w : State P A) (actor : Actor) (got : G
   on_desk Gone next so fits d = absurd d
   on_desk (Opens mode reading) next so fits d = absurd d
 
-  on_metadata : (phase : Phase P A) (left : ℕ) → OfReading phase (λ mode was. DoesRead mode shape.geometry left was w.devices.metadata w.commit got chosen) → Fits (Device (ReadMetadata left)) got
-  on_metadata (Stands t) left d = absurd d
-  on_metadata Gone left d = absurd d
-  on_metadata (Opens mode None) left d = absurd d
-  on_metadata (Opens mode (Some was)) left d = read_fits shape mode left was w.devices.metadata w.commit got chosen d
+  on_metadata : (phase : Phase P A) (second : Bool) (left : ℕ) → OfReading phase (λ mode was. DoesRead mode shape.geometry second left was w.devices.metadata w.commit got chosen) → Fits (Device (ReadMetadata left)) got
+  on_metadata (Stands t) second left d = absurd d
+  on_metadata Gone second left d = absurd d
+  on_metadata (Opens mode None) second left d = absurd d
+  on_metadata (Opens mode (Some was)) second left d = read_fits shape mode second left was w.devices.metadata w.commit got chosen d
 
   pub data_sync : (job : Job) (d : Dev) → Gives shape w actor job (Device (Sync d)) got read chosen → got ≡ Done
   data_sync job Metadata g = (sync_fact P A shape w actor got read chosen job g).0
@@ -160,7 +163,7 @@ module _ (P A : Type 0) (shape : Shape) (w : State P A) (actor : Actor) (got : G
   data_sync Flush Cache g = g.1
   data_sync Suspend Cache g = g.1
   data_sync (Invalidate block) Cache g = g.1
-  data_sync (Open mode) Cache g = g.1
+  data_sync (Open mode second) Cache g = g.1
   data_sync (Migrate migration block) Cache g = g.1
   data_sync (Replace old new) Cache g = g.1
   data_sync (Read x) Origin g = g.1
@@ -168,7 +171,7 @@ module _ (P A : Type 0) (shape : Shape) (w : State P A) (actor : Actor) (got : G
   data_sync Flush Origin g = g.1
   data_sync Suspend Origin g = g.1
   data_sync (Invalidate block) Origin g = g.1
-  data_sync (Open mode) Origin g = g.1
+  data_sync (Open mode second) Origin g = g.1
   data_sync (Migrate migration block) Origin g = g.1
   data_sync (Replace old new) Origin g = g.1
 
@@ -178,7 +181,7 @@ module _ (P A : Type 0) (shape : Shape) (w : State P A) (actor : Actor) (got : G
   word_given Flush step g = g.1
   word_given Suspend step g = g.1
   word_given (Invalidate block) step g = g.1
-  word_given (Open mode) step g = g.1
+  word_given (Open mode second) step g = g.1
   word_given (Migrate migration block) step g = g.1
   word_given (Replace old new) step g = g.1
 
@@ -188,7 +191,7 @@ module _ (P A : Type 0) (shape : Shape) (w : State P A) (actor : Actor) (got : G
   end_given Flush g = g.1
   end_given Suspend g = g.1
   end_given (Invalidate block) g = g.1
-  end_given (Open mode) g = g.1
+  end_given (Open mode second) g = g.1
   end_given (Migrate migration block) g = g.1
   end_given (Replace old new) g = g.1
 
@@ -198,7 +201,7 @@ module _ (P A : Type 0) (shape : Shape) (w : State P A) (actor : Actor) (got : G
   break_given Flush g = g.1
   break_given Suspend g = g.1
   break_given (Invalidate block) g = g.1
-  break_given (Open mode) g = g.1
+  break_given (Open mode second) g = g.1
   break_given (Migrate migration block) g = g.1
   break_given (Replace old new) g = g.1
 
@@ -218,7 +221,7 @@ module _ (P A : Type 0) (shape : Shape) (w : State P A) (actor : Actor) (got : G
   released_done Flush b g = g.1
   released_done Suspend b g = absurd g
   released_done (Invalidate block) b g = absurd g
-  released_done (Open mode) b g = absurd g
+  released_done (Open mode second) b g = absurd g
   released_done (Migrate migration block) b g = g.1
   released_done (Replace old new) b g = absurd g
 
@@ -228,7 +231,7 @@ module _ (P A : Type 0) (shape : Shape) (w : State P A) (actor : Actor) (got : G
   unmapped_done Flush b g = absurd g
   unmapped_done Suspend b g = absurd g
   unmapped_done (Invalidate block) b g = g.1
-  unmapped_done (Open mode) b g = absurd g
+  unmapped_done (Open mode second) b g = absurd g
   unmapped_done (Migrate migration block) b g = g.1
   unmapped_done (Replace old new) b g = absurd g
 
@@ -240,7 +243,7 @@ module _ (P A : Type 0) (shape : Shape) (w : State P A) (actor : Actor) (got : G
   gives_fits Flush (Device (ReadExtent d e)) i g = absurd g
   gives_fits Suspend (Device (ReadExtent d e)) i g = absurd g
   gives_fits (Invalidate block) (Device (ReadExtent d e)) i g = absurd g
-  gives_fits (Open mode) (Device (ReadExtent d e)) i g = absurd g
+  gives_fits (Open mode second) (Device (ReadExtent d e)) i g = absurd g
   gives_fits (Migrate migration block) (Device (ReadExtent d e)) i g = done_fits (Device (ReadExtent d e)) got tt g.2
   gives_fits (Replace old new) (Device (ReadExtent d e)) i g = absurd g
   gives_fits (Read x) (Device (WriteExtent d e)) i g = absurd g
@@ -248,13 +251,13 @@ module _ (P A : Type 0) (shape : Shape) (w : State P A) (actor : Actor) (got : G
   gives_fits Flush (Device (WriteExtent d e)) i g = absurd g
   gives_fits Suspend (Device (WriteExtent d e)) i g = absurd g
   gives_fits (Invalidate block) (Device (WriteExtent d e)) i g = absurd g
-  gives_fits (Open mode) (Device (WriteExtent d e)) i g = absurd g
+  gives_fits (Open mode second) (Device (WriteExtent d e)) i g = absurd g
   gives_fits (Migrate migration block) (Device (WriteExtent d e)) i g = done_fits (Device (WriteExtent d e)) got tt g.2
   gives_fits (Replace old new) (Device (WriteExtent d e)) i g = absurd g
   gives_fits job (Device (Sync d)) i g = done_fits (Device (Sync d)) got tt (data_sync job d g)
   gives_fits job (Device (WriteNode number)) i g = done_fits (Device (WriteNode number)) got tt (node_fact P A shape w actor got read chosen job number g).0
   gives_fits job (Device WriteRoot) i g = done_fits (Device WriteRoot) got tt (root_fact P A shape w actor got read chosen job g).0
-  gives_fits job (Device (ReadMetadata left)) i g = on_metadata w.phase left (metadata_fact P A shape w actor got read chosen job left g).1
+  gives_fits job (Device (ReadMetadata left)) i g = on_metadata w.phase (asks_second job) left (metadata_fact P A shape w actor got read chosen job left g).1
   gives_fits job (Desk (Arrive most)) i g = on_desk w.phase (Desk (Arrive most)) (λ desk. DoesArrive most desk got chosen) (λ desk d. arrival_fits most desk got chosen d) (arrive_fact P A shape w actor got read chosen job most g)
   gives_fits job (Desk (Ask most)) i g = on_desk w.phase (Desk (Ask most)) (λ desk. DoesAsk actor.share most desk got chosen) (λ desk d. asking_fits actor.share most desk got chosen d) (ask_fact P A shape w actor got read chosen job most g)
   gives_fits job (Desk (BeginCommit most)) i g = on_desk w.phase (Desk (BeginCommit most)) (λ desk. DoesBegin (Some actor.seen) most desk got chosen) (λ desk d. begin_fits (Some actor.seen) most desk got chosen d) (begin_fact P A shape w actor got read chosen job most g)

@@ -1,5 +1,6 @@
 -- A commit on its way: which states the metadata are read as while it goes on, and once it failed or ended.
 use Rattle.std.proofs.Common.{◌≡◌, ◌⊎◌, ◌&&◌, ◌==◌, inl, inr, ℕ, Bool, true, false, if◌then◌else◌, List, Option, Some, None, refl, sym, ap, subst, slice_get, length, is_some, is_none}
+use Rattle.wb_types.proofs.Truth.{and_true}
 use Rattle.wb_types.specs.declared.geometry.Geometry.{Geometry}
 use Rattle.wb_types.specs.declared.number.Place.{Place}
 use Rattle.wb_types.specs.declared.mode.Dev.TheVariants.{Metadata}
@@ -21,11 +22,13 @@ use Rattle.wb_devices.specs.declared.running.RunningCommit.{RunningCommit}
 use Rattle.wb_devices.specs.Committing.{goes_on, is_coming, is_committed}
 use Rattle.wb_meta.specs.Roots.{MayBeReadAs, IsSettled, Commit, CanBeMade}
 use Rattle.wb_meta.specs.RootLaws.{IsDecided}
+use Rattle.wb_meta.specs.Sizes.{AreSameSizes}
 use Rattle.wb_meta.proofs.Leading.{during, early, after_failure, after_failed_node, when_done}
 use Rattle.wb_meta.proofs.Deciding.{crash_decides, sync_decides, failed_sync_leaves}
+use Rattle.wb_runs.proofs.Sizes.{read_by_sizes}
 use Rattle.wb_runs.proofs.Images.{Images, later_of, one_image, Turn, Stays, Puts, Settles, Turned, Turns}
 
--- A device of this geometry is read as these images.
+-- A device of the sizes of this geometry is read as these images.
 pub record Readable (g : Geometry) (images : Images) (device : List History) : Type 0 where
   pub read : MayBeReadAs g images.committed (later_of images) device
 
@@ -46,20 +49,20 @@ pub record Underway (g : Geometry) (images : Images) (commit : RunningCommit) (o
   pub can : CanBeMade of
   pub image : of.image ≡ commit.image
   pub come : CommitHasCome of.image of.before commit.steps device
-  pub same : of.old.root.geometry ≡ g
+  pub sizes : AreSameSizes of.old.root.geometry g
 
 -- the device is read as the old state, or perhaps as the new one
-read_as : (g : Geometry) (of : Commit) (now : List History) (written : Bool) → of.old.root.geometry ≡ g → MayBeReadAs of.old.root.geometry of.old (later_of (images_of of written)) now → Readable g (images_of of written) now
-read_as g of now written same may = record { read = subst (λ (x : Geometry). MayBeReadAs x of.old (later_of (images_of of written)) now) same may }
+read_as : (g : Geometry) (of : Commit) (now : List History) (written : Bool) → AreSameSizes of.old.root.geometry g → MayBeReadAs of.old.root.geometry of.old (later_of (images_of of written)) now → Readable g (images_of of written) now
+read_as g of now written sizes may = record { read = read_by_sizes of.old.root.geometry g of.old (later_of (images_of of written)) now sizes may }
 
 pub underway_readable : (g : Geometry) (images : Images) (commit : RunningCommit) (of : Commit) (device : List History) → Underway g images commit of device → Readable g images device
 underway_readable g images commit of device u = subst (λ (i : Images). Readable g i device) (sym u.are) (by_steps commit.steps u.come)
   where
     by_steps : (steps : CommitSteps) → CommitHasCome of.image of.before steps device → Readable g (images_of of (is_written steps)) device
-    by_steps (NodesWritten count) come = read_as g of device false u.same (early of u.can (NodesWritten count) device tt come)
-    by_steps NodesSynced come = read_as g of device false u.same (early of u.can NodesSynced device tt come)
-    by_steps RootWritten come = read_as g of device true u.same (during of u.can RootWritten device come)
-    by_steps Committed come = read_as g of device true u.same (during of u.can Committed device come)
+    by_steps (NodesWritten count) come = read_as g of device false u.sizes (early of u.can (NodesWritten count) device tt come)
+    by_steps NodesSynced come = read_as g of device false u.sizes (early of u.can NodesSynced device tt come)
+    by_steps RootWritten come = read_as g of device true u.sizes (during of u.can RootWritten device come)
+    by_steps Committed come = read_as g of device true u.sizes (during of u.can Committed device come)
 
 -- what a step makes of the images
 writes : (of : Commit) (steps : CommitSteps) (images : Images) → images ≡ images_of of (is_written steps) → (turn : Turn) × Turned turn images (images_of of (is_written (steps_after of.image steps)))
@@ -86,7 +89,7 @@ led_on g images commit of old new u does =
         come = subst (λ (i : Image). CommitHasCome of.image of.before (steps_after i commit.steps) new) u.image
             (step_goes_on of.image of.old.root.geometry.meta_sectors of.before old new commit.steps u.can.places u.come
             (subst (λ (i : Image). DoesStep i commit.steps old new) (sym u.image) does));
-        same = u.same;
+        sizes = u.sizes;
       };
     }
 
@@ -95,9 +98,9 @@ stopped g images commit of old new u failing = by_steps commit.steps u.are
     (step_fails of.image of.old.root.geometry.meta_sectors of.before old new commit.steps u.can.places u.come (subst (λ (i : Image). FailsStep i commit.steps old new) (sym u.image) failing))
   where
     by_steps : (steps : CommitSteps) → images ≡ images_of of (is_written steps) → HasFailed of.image of.before steps new → Turns (λ now. Readable g now new) images
-    by_steps (NodesWritten count) are failed = record { now = images_of of false; turn = Stays; turned = sym are; kept = read_as g of new false u.same (after_failed_node of u.can count new failed) }
-    by_steps NodesSynced are failed = record { now = images_of of true; turn = Puts; turned = sym (ap (λ (i : Images). record i { written = true }) are); kept = read_as g of new true u.same (after_failure of u.can NodesSynced new failed) }
-    by_steps RootWritten are failed = record { now = images_of of true; turn = Stays; turned = sym are; kept = read_as g of new true u.same (after_failure of u.can RootWritten new failed) }
+    by_steps (NodesWritten count) are failed = record { now = images_of of false; turn = Stays; turned = sym are; kept = read_as g of new false u.sizes (after_failed_node of u.can count new failed) }
+    by_steps NodesSynced are failed = record { now = images_of of true; turn = Puts; turned = sym (ap (λ (i : Images). record i { written = true }) are); kept = read_as g of new true u.sizes (after_failure of u.can NodesSynced new failed) }
+    by_steps RootWritten are failed = record { now = images_of of true; turn = Stays; turned = sym are; kept = read_as g of new true u.sizes (after_failure of u.can RootWritten new failed) }
     by_steps Committed are failed = absurd failed
 
 -- all of it was done
@@ -112,10 +115,6 @@ all_done g images commit of device u done = by_steps commit.steps done u.come
 
 -- ---- the steps of a table are those of a commit
 
-and_left : (a b : Bool) → (a && b) ≡ true → a ≡ true
-and_left true b e = refl
-and_left false b e = absurd (cc)
-
 sync_coming : (image : Image) (steps : CommitSteps) (old : List History) → is_coming image steps (Sync Metadata) ≡ true → DoesStep image steps old (synced old)
 sync_coming image (NodesWritten count) old e = by_node (slice_get image.nodes.items count) e
   where
@@ -127,7 +126,7 @@ sync_coming image RootWritten old e = refl
 sync_coming image Committed old e = absurd (cc)
 
 pub sync_does : (image : Image) (steps : CommitSteps) (old : List History) → goes_on (length old) image steps (Sync Metadata) ≡ true → DoesStep image steps old (synced old)
-sync_does image steps old e = sync_coming image steps old (and_left (is_coming image steps (Sync Metadata)) _ e)
+sync_does image steps old e = sync_coming image steps old (and_true (is_coming image steps (Sync Metadata)) _ e).0
 
 failed_coming : (image : Image) (steps : CommitSteps) (old new : List History) → PartlySynced old new → is_coming image steps (Sync Metadata) ≡ true → FailsStep image steps old new
 failed_coming image (NodesWritten count) old new partly e = by_node (slice_get image.nodes.items count) e
@@ -140,7 +139,7 @@ failed_coming image RootWritten old new partly e = partly
 failed_coming image Committed old new partly e = absurd (cc)
 
 pub sync_fails : (image : Image) (steps : CommitSteps) (landed : ℕ → Bool) (old : List History) → goes_on (length old) image steps (Sync Metadata) ≡ true → FailsStep image steps old (synced_where landed old)
-sync_fails image steps landed old e = failed_coming image steps old (synced_where landed old) (partly_synced landed old) (and_left (is_coming image steps (Sync Metadata)) _ e)
+sync_fails image steps landed old e = failed_coming image steps old (synced_where landed old) (partly_synced landed old) (and_true (is_coming image steps (Sync Metadata)) _ e).0
 
 -- a node or root that is not written, or that is, though its step fails
 abbrev pub IsPut : DeviceStep → Type 0
@@ -170,7 +169,7 @@ put_coming image Committed WriteRoot old new p e r = absurd (cc)
 put_coming image steps step old new p e r = absurd p
 
 pub put_fails : (image : Image) (steps : CommitSteps) (step : DeviceStep) (old new : List History) → IsPut step → goes_on (length old) image steps step ≡ true → (DoesStep image steps old new ⊎ (new ≡ old)) → FailsStep image steps old new
-put_fails image steps step old new p e r = put_coming image steps step old new p (and_left (is_coming image steps step) _ e) r
+put_fails image steps step old new p e r = put_coming image steps step old new p (and_true (is_coming image steps step) _ e).0 r
 
 -- ---- crashes and syncs
 

@@ -1,5 +1,5 @@
 -- In every run each actor has what its task needs, and the words of the target that stands keep their rule.
-use Rattle.std.proofs.Common.{◌≡◌, ◌<◌, ◌*◌, ◌/◌, inr, ℕ, List, [], ◌∷◌, Option, Some, None, refl, sym, ap, subst, slice_get, slice_set, arith, mul_comm, ◌++◌, inl, true, false}
+use Rattle.std.proofs.Common.{◌≡◌, ◌<◌, ◌*◌, ◌/◌, inr, ℕ, Bool, List, [], ◌∷◌, Option, Some, None, refl, sym, ap, subst, slice_get, slice_set, arith, mul_comm, ◌++◌, inl, true, false}
 use mathlib.Core.Option.{some}
 use lib.ListN.{get_elem?}
 use Rattle.wb_types.specs.declared.mode.Mode.{Mode}
@@ -64,12 +64,11 @@ use Rattle.wb_runs.proofs.Suiting.{gives_fits}
 use Rattle.wb_policy.specs.declared.order.Order.TheVariants.{Promote as PromoteOrder, Replace as ReplaceOrder, Demote as DemoteOrder, Clean as CleanOrder}
 use Rattle.wb_types.specs.declared.number.CBlock.{CBlock}
 use Rattle.wb_desk.proofs.Leaving.{mapped_within}
-use Rattle.wb_types.specs.declared.geometry.Geometry.{Geometry}
 
 -- an actor that has a task opens
 abbrev pub OpensOrRests : Option (Job × Plan) → Type 0
 OpensOrRests None = Unit {0}
-OpensOrRests (Some doing) = (mode : Mode) × (doing.0 ≡ Open mode)
+OpensOrRests (Some doing) = (mode : Mode) × (second : Bool) × (doing.0 ≡ Open mode second)
 
 abbrev pub AllOpen : List Actor → Type 0
 AllOpen actors = (a : ℕ) (x : Actor) → slice_get actors a ≡ Some x → OpensOrRests x.task
@@ -135,7 +134,7 @@ module _ (P A : Type 0) (shape : Shape) where
     opens_still : (got : Got) → AllOpen actors → OpensOrRests (Some (job, after plan got))
     opens_still got o = subst (λ (t : Option (Job × Plan)). OpensOrRests t) xt (o a x e)
 
-    is_open : AllOpen actors → (mode : Mode) × (job ≡ Open mode)
+    is_open : AllOpen actors → (mode : Mode) × (second : Bool) × (job ≡ Open mode second)
     is_open o = subst (λ (t : Option (Job × Plan)). OpensOrRests t) xt (o a x e)
 
     -- on a device, done or failed
@@ -244,13 +243,13 @@ module _ (P A : Type 0) (shape : Shape) where
         plain Flush g = g.0.1
         plain Suspend g = g.0.1
         plain (Invalidate block) g = g.0.1
-        plain (Open m) g = g.0.1
+        plain (Open m second) g = g.0.1
         plain (Migrate migration block) g = g.0.1
         plain (Replace old new) g = g.0.1
     opens mode reading Finished p all ords i h g =
         let o = is_open w.devices w.actors a x e job plan xt all ords i.1 in
-        let done : Gives shape w x (Open o.0) (End Finished) got read chosen = subst (λ (j : Job). Gives shape w x j (End Finished) got read chosen) o.1 g in
-        let kept = done_kept P A shape w x got read chosen known.images x.buffer (Open o.0) (End Finished) known.known done in
+        let done : Gives shape w x (Open o.0 o.1) (End Finished) got read chosen = subst (λ (j : Job). Gives shape w x j (End Finished) got read chosen) o.2 g in
+        let kept = done_kept P A shape w x got read chosen known.images x.buffer (Open o.0 o.1) (End Finished) known.known done in
         by_reading reading chosen (subst (λ (q : Phase P A). DoesOpen q w.commit chosen) p done.2)
         (subst (λ (q : Phase P A). Turns (λ now. Rattle.wb_runs.proofs.Metadata.MetadataKept shape.geometry now (phase_then shape q (End Finished) got chosen) (Rattle.wb_promise.specs.Effects.commit_then q w.commit (End Finished) got chosen) w.devices.metadata) known.images) p kept)
       where
@@ -260,7 +259,7 @@ module _ (P A : Type 0) (shape : Shape) where
         by_reading (Some (AllRead stored)) (Opened policy) d k = opened_answer w.devices w.actors a x e job plan xt all ords mode stored policy got i.0
             (λ at entry f.
             let o = origin-with_bits stored.dirty stored.tree.entries at entry f in
-            subst (λ (b : OBlock). b.0 < blocks) o.same (k.kept.is.kept.mapping.within at o.was o.there).0)
+            subst (λ (b : OBlock). b.0 < blocks) o.same (subst (λ (n : ℕ). o.was.origin.0 < n) k.kept.is.sizes.origin_blocks (k.kept.is.kept.mapping.within at o.was o.there).0))
         by_reading (Some (Begun alloc global)) (Opened policy) d k = absurd d.0
         by_reading (Some (FirstSlotRead alloc global first)) (Opened policy) d k = absurd d.0
         by_reading (Some (RootFound global root loader nodes)) (Opened policy) d k = absurd d.0
@@ -278,7 +277,7 @@ module _ (P A : Type 0) (shape : Shape) where
     given_word Flush step g = g.1
     given_word Suspend step g = g.1
     given_word (Invalidate block) step g = g.1
-    given_word (Open mode) step g = g.1
+    given_word (Open mode second) step g = g.1
     given_word (Migrate migration block) step g = g.1
     given_word (Replace old new) step g = g.1
 
@@ -415,21 +414,21 @@ module _ (P A : Type 0) (shape : Shape) where
     where
       by_phase : (phase : Phase P A) (commit : _) → Rattle.wb_runs.proofs.Metadata.MetadataKept shape.geometry k.images phase commit w.devices.metadata → OfTarget phase (λ t. AreMapped t.desk looks) → AreBelow blocks looks
       by_phase (Stands t) commit known m = λ block c. let at = m.each block c in
-          subst (λ (g : Geometry). block.0 < g.origin_blocks) known.is.geometry (mapped_within {P = P} Rattle.wb_runs.proofs.Metadata.unknowing t.desk block.0 at.0 known.is.kept at.1).1
+          subst (λ (n : ℕ). block.0 < n) known.is.sizes.origin_blocks (mapped_within {P = P} Rattle.wb_runs.proofs.Metadata.unknowing t.desk block.0 at.0 known.is.kept at.1).1
       by_phase Gone commit known m = absurd m
       by_phase (Opens mode reading) commit known m = absurd m
 
   starts : (w : State P A) (a : ℕ) (job : Job) (chosen : Chosen P A) → IsKnown P A shape w → UsedRightly w.phase w.actors → (¬ DoesNotApply w (Start a job)) → StartsAs shape w a job Started chosen → Started_so w a job chosen (slice_get (cleared w job).actors a)
-  starts w a (Open mode) chosen k u applies gives = by_actor (slice_get (all_resting w.actors) a) refl
+  starts w a (Open mode second) chosen k u applies gives = by_actor (slice_get (all_resting w.actors) a) refl
     where
-      by_actor : (o : Option Actor) → slice_get (all_resting w.actors) a ≡ o → Started_so w a (Open mode) chosen o
+      by_actor : (o : Option Actor) → slice_get (all_resting w.actors) a ≡ o → Started_so w a (Open mode second) chosen o
       by_actor None e = record { suited = rest_used w.actors; here = (rest_blank w.actors, rest_open w.actors); orders = rest_orders w.actors }
       by_actor (Some x) e =
           let blank : x.card ≡ blank_card = ap (λ (v : Actor). v.card) (all_rest w.actors a x e) in
-          let y : Actor = given shape (mode_of (cleared w (Open mode)).phase) x (Open mode) chosen in
+          let y : Actor = given shape (mode_of (cleared w (Open mode second)).phase) x (Open mode second) chosen in
           record {
             suited = each_set (all_resting w.actors) a x y (λ (z : Actor). TaskSuits blocks z.card z.task) e (opening_begins blocks shape.geometry.meta_sectors x.card (ap (λ (c : Card). c.hold) blank)) (rest_used w.actors);
-            here = (each_set (all_resting w.actors) a x y (λ (z : Actor). z.card ≡ blank_card) e blank (rest_blank w.actors), each_set (all_resting w.actors) a x y (λ (z : Actor). OpensOrRests z.task) e (mode, refl) (rest_open w.actors));
+            here = (each_set (all_resting w.actors) a x y (λ (z : Actor). z.card ≡ blank_card) e blank (rest_blank w.actors), each_set (all_resting w.actors) a x y (λ (z : Actor). OpensOrRests z.task) e (mode, second, refl) (rest_open w.actors));
             orders = each_set (all_resting w.actors) a x y (λ (z : Actor). OrdersInside shape.geometry (held_of z)) e (rest_orders w.actors a x e) (rest_orders w.actors);
           }
   starts w a Flush chosen k u applies gives =

@@ -2,13 +2,18 @@
 
 ghost use Rattle.wb_runs.specs.Holding.{WordsAreUsedRightly};
 ghost use Rattle.wb_runs.specs.Inside.{StepsStayInside};
-ghost use Rattle.wb_runs.specs.Laws.{AnswersCoverTheirSectors, EventsSkipRightly, MetadataAreRead, OpeningsRefuseByCause};
+ghost use Rattle.wb_runs.specs.Laws.{AnswersCoverTheirSectors, EventsSkipRightly, MetadataAreRead, MetadataKeepSizes, OpeningsRefuseByCause};
 ghost use Rattle.wb_runs.specs.Progress.{NeverStuck};
 
-/// In every run, over any policy: whatever a crash leaves of the metadata device, it represents a root of this geometry and a
+/// In every run, over any policy: whatever a crash leaves of the metadata device, it represents a root of these sizes and a
 /// tree, so an opening finds one.
 pub fn metadata_are_read<P, A>()
     ensures { MetadataAreRead P A }
+{}
+
+/// In every run the metadata that an opening reads have the sizes that they were formatted for.
+pub fn metadata_keep_sizes<P, A>()
+    ensures { MetadataKeepSizes P A }
 {}
 
 /// After every run each actor that has a task has what is needed for what is left of it, and so is ready for its next step; whoever

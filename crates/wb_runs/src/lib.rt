@@ -5,6 +5,6 @@
 mod law;
 
 pub use law::{
-    answers_cover_their_sectors, events_skip_rightly, metadata_are_read, never_stuck,
-    openings_refuse_by_cause, steps_stay_inside, words_are_used_rightly,
+    answers_cover_their_sectors, events_skip_rightly, metadata_are_read, metadata_keep_sizes,
+    never_stuck, openings_refuse_by_cause, steps_stay_inside, words_are_used_rightly,
 };

@@ -1,6 +1,7 @@
 -- Crashes, and the steps of an opening until it reads, are followed.
-use Rattle.std.proofs.Common.{◌≡◌, ◌≢◌, ◌+◌, ◌*◌, ◌∙◌, ◌⊎◌, inl, inr, ℕ, Bool, true, false, List, Option, Some, None, refl, sym, ap, subst, Contains, zero, suc, ◌<◌, ◌==◌, [], ◌∷◌, length, cond, if◌then◌else◌, slice_index_or, arith}
-use Rattle.wb_devices.specs.Clean.{AreAllClean, is_mapped_dirty}
+use Rattle.std.proofs.Common.{◌≡◌, ◌+◌, ◌*◌, ◌∙◌, ◌⊎◌, inl, inr, ℕ, Bool, true, false, List, Option, Some, None, refl, sym, ap, subst, Contains, zero, suc, ◌<◌, ◌==◌, [], ◌∷◌, length, cond, if◌then◌else◌, slice_index_or, arith}
+use Rattle.wb_devices.specs.Clean.{AreAllClean}
+use Rattle.wb_meta.specs.Conversions.{is_mapped_dirty}
 use Rattle.wb_types.specs.declared.geometry.Geometry.{Geometry}
 use Rattle.wb_types.specs.declared.mode.Mode.{Mode}
 use Rattle.wb_disk.specs.Device.{History, Crashed, synced, newest, entries}
@@ -148,6 +149,10 @@ openings_followed = record {
       let takes = read_clean root read committed learnt.clean is.0 is.1 g.images.clean_is in
       (learnt, there ∙ located-with_bits dirty tree.entries, takes, advances geometry size committed None mode Looking (Learns learnt) w devices at (refl, refl, admitted mode root read learnt clean there takes) g);
   look_stops = λ geometry size committed later mode w devices at g. advances geometry size committed later mode Looking Refused w devices at tt g;
+  writes_nodes = λ learnt metadata geometry size committed later mode w devices at g read.
+      record { origin = g.origin; cache = g.cache; images = record { read = read; committed_is = g.images.committed_is; clean_is = g.images.clean_is; later_is = g.images.later_is } };
+  nodes_fail = λ learnt metadata geometry size committed later mode w devices at g read. advances geometry size committed later mode (Rooting learnt) Refused w (record devices { metadata = metadata }) at tt
+      (record { origin = g.origin; cache = g.cache; images = record { read = read; committed_is = g.images.committed_is; clean_is = g.images.clean_is; later_is = g.images.later_is } });
   roots = λ learnt new metadata same none geometry size committed later mode w devices at g read. advances geometry size committed (Some new) mode (Rooting learnt) Fine w (record devices { metadata = metadata }) at tt
       (record { origin = g.origin; cache = g.cache; images = record { read = read; committed_is = g.images.committed_is; clean_is = g.images.clean_is; later_is = (refl, same, none) } });
   root_fails = λ learnt new metadata same none geometry size committed later mode w devices at g read. advances geometry size committed (Some new) mode (Rooting learnt) (Broke (λ b o. false)) w (record devices { metadata = metadata }) at tt

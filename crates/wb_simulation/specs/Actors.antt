@@ -108,7 +108,7 @@ IsDoing size most failed (Write extent content) plan card share y = IsRequestAt 
 IsDoing size most failed Flush plan card share y = IsCommitAt size (most false) failed false plan share y
 IsDoing size most failed Suspend plan card share y = IsCommitAt size (most true) failed true plan share y
 IsDoing size most failed (Invalidate block) plan card share y = IsRequestAt size [] failed Invalidating plan card y
-IsDoing size most failed (Open mode) plan card share y = ⊥
+IsDoing size most failed (Open mode second) plan card share y = ⊥
 IsDoing size most failed (Migrate migration block) plan card share y = Unit {0}
 IsDoing size most failed (Replace old new) plan card share y = ⊥
 

@@ -1,5 +1,5 @@
 -- When the three devices are those of the abstract world: what the data devices hold, and what the metadata may be read as.
-use Rattle.std.specs.Prelude.{◌≡◌, ◌≢◌, ◌⊎◌, ℕ, Bool, true, false, List, Option, Some, None, length, map}
+use Rattle.std.specs.Prelude.{◌≡◌, ◌⊎◌, ℕ, Bool, true, false, List, Option, Some, None, length, map}
 use Rattle.wb_devices.specs.Clean.{AreAllClean}
 use Rattle.wb_types.specs.declared.geometry.Geometry.{Geometry}
 use Rattle.wb_types.specs.declared.mode.Mode.{Mode}
@@ -87,6 +87,9 @@ pub record OpeningsFollowed : Type 0 where
       RepresentsState (map newest devices.metadata) root tree dirty used → FitsDevice (length devices.metadata) root tree used →
       (learnt : Learnt) × (learnt.locations ≡ (λ b. place_of tree.entries b)) × TakesClean root.clean (with_bits dirty tree.entries) learnt.clean × LeadsTo geometry size committed None w (Opens mode (Rooting learnt)) devices
   pub look_stops : Stages (λ geometry size committed later mode w devices. LeadsTo geometry size committed later w Gone devices) Looking
+  -- where the metadata are written anew, a node or the sync behind the nodes is nothing there; where it fails the opening is over
+  pub writes_nodes : (learnt : Learnt) (metadata : List History) → Stages (λ geometry size committed later mode w devices. MayBeReadAs geometry committed later metadata → DevicesAgree geometry size committed later (record devices { metadata = metadata }) w.world.shared) (Rooting learnt)
+  pub nodes_fail : (learnt : Learnt) (metadata : List History) → Stages (λ geometry size committed later mode w devices. MayBeReadAs geometry committed later metadata → LeadsTo geometry size committed later w Gone (record devices { metadata = metadata })) (Rooting learnt)
   -- its root leads to a state that has the same blocks
   pub roots : (learnt : Learnt) (new : Stored) (metadata : List History) → learnt.locations ≡ locations new → StateTakesClean new (λ block. false) →
       Stages (λ geometry size committed later mode w devices. MayBeReadAs geometry committed (Some new) metadata → LeadsTo geometry size committed (Some new) w (Opens mode (Renewing learnt)) (record devices { metadata = metadata })) (Rooting learnt)

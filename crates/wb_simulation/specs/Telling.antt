@@ -1,12 +1,12 @@
 -- What the abstract world's clerk is told, who sees the records of one actor.
-use Rattle.std.specs.Prelude.{false, true, ◌≡◌, ◌≢◌, ℕ, List, [], ◌∷◌, Option, Some, None, length, map}
+use Rattle.std.specs.Prelude.{true, ◌≡◌, ◌≢◌, ℕ, List, [], ◌∷◌, Option, Some, None, length, map}
 use Rattle.wb_types.specs.Extents.{rising}
 use Rattle.wb_types.specs.declared.mode.Mode.{Mode}
 use Rattle.wb_types.specs.declared.mode.Mode.TheVariants.{Writethrough}
 use Rattle.wb_disk.specs.Device.{Content}
 use Rattle.wb_tasks.specs.declared.step.Answer.{Answer}
 use Rattle.wb_tasks.specs.declared.step.Answer.TheVariants.{Done as Finished, Refused as Refuses}
-use Rattle.wb_link.specs.Tables.{Script, Flag, abstract_table, Job, Reading, Writing_through, Promoting, Returning, Want, Read_all, Write_all, End, Got, Gave, Done, Finished as AnsweredDone, Answer as AbstractAnswer, abstract_want}
+use Rattle.wb_link.specs.Tables.{Script, Flag, abstract_table, Job, Writing_through, Promoting, Returning, Want, Read_all, Write_all, End, Got, Gave, Done, Finished as AnsweredDone, Answer as AbstractAnswer, abstract_want}
 use Rattle.wb_link.specs.World.{Release, Record, Start, Again, task_after}
 use Rattle.wb_refines.specs.Going.{records}
 use Rattle.wb_refines.specs.Translation.{reading_in, writing_in}

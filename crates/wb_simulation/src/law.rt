@@ -45,8 +45,9 @@ pub fn a_state_can_agree()
     ensures { CanAgree }
 {}
 
-/// A crash, and each step of an opening, done, refused or failing, is an event there that may come, after which the devices agree
-/// with that world again: cache and origin sector by sector, and the metadata as the images that they may be read as.
+/// A crash, and each step of an opening, done, refused or failing, is an event there that may come, or none where it writes a node anew or
+/// syncs those; and after it the devices agree with that world again: cache and origin sector by sector, and the metadata as the images that they
+/// may be read as.
 pub fn openings_are_followed()
     ensures { OpeningsFollowed }
 {}
