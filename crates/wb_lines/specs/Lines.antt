@@ -73,12 +73,17 @@ abbrev pub SpellsOnlyBlock : List (List ℕ) → ℕ → Type 0
 SpellsOnlyBlock (word ∷ []) block = SpellsBlock word block
 SpellsOnlyBlock words block = ⊥
 
--- a mode, and nothing behind it
-abbrev pub SpellsMode : List (List ℕ) → Mode → Type 0
-SpellsMode (word ∷ []) mode = word ≡ mode_name mode
-SpellsMode words mode = ⊥
+-- the words that ask for metadata of the second version, or of the first
+abbrev pub version_words : Bool → List (List ℕ)
+version_words true = codes "metadata2" ∷ []
+version_words false = []
 
--- The words of a task: `r S N`, `w S N hh`, `flush`, `suspend`, `promote b c`, `demote b`, `clean b`, `replace v x` or `open <mode>`.
+-- a mode, and `metadata2` behind it where metadata of the second version are asked for
+abbrev pub SpellsOpening : List (List ℕ) → Mode → Bool → Type 0
+SpellsOpening (word ∷ words) mode second = (word ≡ mode_name mode) × (words ≡ version_words second)
+SpellsOpening [] mode second = ⊥
+
+-- The words of a task: `r S N`, `w S N hh`, `flush`, `suspend`, `promote b c`, `demote b`, `clean b`, `replace v x` or `open <mode> [metadata2]`.
 abbrev pub SpellsTask : List (List ℕ) → Task → Type 0
 SpellsTask (name ∷ words) (Read at count) = (name ≡ codes "r") × SpellsSectors words at.0 count
 SpellsTask (name ∷ words) (Write at count fill) = (name ≡ codes "w") × SpellsFill words at.0 count fill
@@ -88,7 +93,7 @@ SpellsTask (name ∷ words) (Promote block cache) = (name ≡ codes "promote") �
 SpellsTask (name ∷ words) (Demote block) = (name ≡ codes "demote") × SpellsOnlyBlock words block
 SpellsTask (name ∷ words) (Clean block) = (name ≡ codes "clean") × SpellsOnlyBlock words block
 SpellsTask (name ∷ words) (Replace old new) = (name ≡ codes "replace") × SpellsBlocks words old new
-SpellsTask (name ∷ words) (OpenTask mode) = (name ≡ codes "open") × SpellsMode words mode
+SpellsTask (name ∷ words) (OpenTask mode second) = (name ≡ codes "open") × SpellsOpening words mode second
 SpellsTask words task = ⊥
 
 -- how many steps: one where no number stands
@@ -130,14 +135,9 @@ Asks (name ∷ words) (Step actor steps) = (name ≡ codes "step") × SpellsStep
 Asks (name ∷ words) (End actor) = (name ≡ codes "end") × SpellsEnd words actor
 Asks (name ∷ words) (Fault actor base) = (name ≡ codes "fault") × SpellsFault words actor base
 Asks (name ∷ words) (Stop base named) = (name ≡ codes "stop") × SpellsStop words base named.items
-Asks (name ∷ words) (Open mode) = (name ≡ codes "open") × SpellsMode words mode
+Asks (name ∷ words) (Open mode second) = (name ≡ codes "open") × SpellsOpening words mode second
 Asks (name ∷ words) (View at count) = (name ≡ codes "view") × SpellsSectors words at.0 count
 Asks words line = ⊥
-
--- the words that ask for metadata of the second version, or of the first
-abbrev pub version_words : Bool → List (List ℕ)
-version_words true = codes "metadata2" ∷ []
-version_words false = []
 
 -- The words of the first line: `setup <mode> <block> <cache blocks> <origin blocks> <metadata sectors>`, and `metadata2` behind them for metadata of
 -- the second version.

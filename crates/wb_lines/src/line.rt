@@ -1,15 +1,16 @@
 //! The lines of a replay.
 
-ghost use Rattle.std.specs.Prelude.{◌≡◌, ◌≢◌, ◌∷◌, ℕ, [], IfSome, OnSome, IfNone, IfOk, IfErr, codes};
+ghost use Rattle.std.specs.Prelude.{◌≡◌, ◌≢◌, ◌∷◌, ℕ, Bool, [], IfSome, OnSome, IfNone, IfOk, IfErr, codes};
 ghost use Rattle.wb_types.specs.declared.refusal.Refusal.TheVariants.{Memory};
 ghost use Rattle.wb_types.specs.declared.mode.Mode.{Mode as ModeTerm};
 ghost use Rattle.wb_table.specs.Words.{words_of};
 ghost use Rattle.wb_disk.specs.declared.crash_choice.Base.{Base as Kept};
-ghost use Rattle.wb_lines.specs.Lines.{Asks, SpellsActor, SpellsBlock, SpellsBlocks, SpellsEnd, SpellsFault, SpellsMode, SpellsOnlyBlock, SpellsStart, SpellsStep, SpellsSteps, SpellsTask};
+ghost use Rattle.wb_lines.specs.Lines.{Asks, SpellsActor, SpellsBlock, SpellsBlocks, SpellsEnd, SpellsFault, SpellsOpening, SpellsOnlyBlock, SpellsStart, SpellsStep, SpellsSteps, SpellsTask};
 ghost use Rattle.wb_lines.specs.declared.line.Line.{Line as Asked};
 ghost use Rattle.wb_lines.specs.declared.line.Task.{Task as Told};
 
 use crate::named::{read_all_named, read_base};
+use crate::setup::read_version;
 use std::alloc::Global;
 use wb_disk::{Base, NamedContent};
 use wb_table::{SplitSpaces, read_fill, read_mode, read_number, read_sectors};
@@ -37,8 +38,8 @@ pub enum Task {
     Clean { block: u32 },
     /// `replace v x`: demotes the first block, under an order by which the second one follows it in its cache block.
     Replace { old: u32, new: u32 },
-    /// `open <mode>`: opens the cache.
-    Open { mode: Mode },
+    /// `open <mode> [metadata2]`: opens the cache, and asks for metadata of the second version or not.
+    Open { mode: Mode, metadata2: bool },
 }
 
 /// What a line asks.
@@ -70,9 +71,10 @@ pub enum Line {
         base: Base,
         named: Vec<NamedContent>,
     },
-    /// `open <mode>`: an opening, from its start to its answer.
+    /// `open <mode> [metadata2]`: an opening, from its start to its answer.
     Open {
         mode: Mode,
+        metadata2: bool,
     },
     /// `view S N`: what the opened target holds.
     View {
@@ -122,8 +124,8 @@ fn read_other(name: &str, words: SplitSpaces<'_>) -> Option<Line>
 {
     match name {
         "open" => {
-            let mode = read_last_mode(words)?;
-            Some(Line::Open { mode })
+            let (mode, metadata2) = read_opening(words)?;
+            Some(Line::Open { mode, metadata2 })
         }
         "view" => {
             let (at, count) = read_sectors(words)?;
@@ -133,14 +135,14 @@ fn read_other(name: &str, words: SplitSpaces<'_>) -> Option<Line>
     }
 }
 
-/// Reads a mode, and nothing behind it.
-fn read_last_mode(mut words: SplitSpaces<'_>) -> Option<Mode>
-    ensures found { IfSome result (SpellsMode (words_of words.entry.0.now)) }
-    ensures none { IfNone result ((mode : ModeTerm) → ¬ SpellsMode (words_of words.entry.0.now) mode) }
+/// Reads a mode, and whether metadata of the second version are asked for.
+fn read_opening(mut words: SplitSpaces<'_>) -> Option<(Mode, bool)>
+    ensures found { IfSome result (λ read. SpellsOpening (words_of words.entry.0.now) read.0 read.1) }
+    ensures none { IfNone result ((mode : ModeTerm) (second : Bool) → ¬ SpellsOpening (words_of words.entry.0.now) mode second) }
 {
     let mode = read_mode(words.next()?)?;
-    words.expect_end()?;
-    Some(mode)
+    let metadata2 = read_version(&mut words)?;
+    Some((mode, metadata2))
 }
 
 /// Reads a line of an actor.
@@ -242,8 +244,8 @@ fn read_task(mut words: SplitSpaces<'_>) -> Option<Task>
             Some(Task::Suspend)
         }
         "open" => {
-            let mode = read_last_mode(words)?;
-            Some(Task::Open { mode })
+            let (mode, metadata2) = read_opening(words)?;
+            Some(Task::Open { mode, metadata2 })
         }
         name => read_migration(name, words),
     }

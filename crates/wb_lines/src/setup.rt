@@ -44,7 +44,7 @@ pub fn read_setup(line: &str) -> Option<Setup>
 }
 
 /// Whether what is left asks for metadata of the second version; none where it says something else.
-fn read_version(words: &mut SplitSpaces<'_>) -> Option<bool>
+pub(crate) fn read_version(words: &mut SplitSpaces<'_>) -> Option<bool>
     ensures found { IfSome result (λ second. words_of words.old.0.now ≡ version_words second) }
     ensures none { IfNone result ((second : Bool) → ¬ (words_of words.old.0.now ≡ version_words second)) }
 {

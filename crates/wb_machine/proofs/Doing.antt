@@ -47,8 +47,8 @@ use Rattle.wb_promise.specs.States.{Shape, Actor, Stands, Target as RunTarget, w
 use Rattle.wb_promise.specs.Happenings.{Chosen, Plain, Commits, Asks, AreWhole, Awaits, DoesArrive, DoesAsk, DoesBegin, DoesSync, FailsSync, Gives}
 use Rattle.wb_promise.specs.Effects.{contents_for, led}
 use Rattle.wb_machine.specs.declared.target.Target.{Target}
-use Rattle.wb_machine.specs.Life.{Now}
-use Rattle.wb_machine.specs.Serving.{Allows, DidAskFor, IsAskable, ComesNext, DoesOn, FailsAt, IsDoable, IsPossible, IsPut, MayBePut, Performs, PutsSector, DeskWasAsked, WasPut, IsCopy, Migrates, Unmaps, chosen_at, commit_by, noted_read, over, stood, target_told, GivesUp}
+use Rattle.wb_machine.specs.Life.{MayBePut, Now, WasPut}
+use Rattle.wb_machine.specs.Serving.{Allows, DidAskFor, IsAskable, ComesNext, DoesOn, FailsAt, IsDoable, IsPossible, IsPut, Performs, PutsSector, DeskWasAsked, IsCopy, Migrates, Unmaps, chosen_at, commit_by, noted_read, over, stood, target_told, GivesUp}
 use Rattle.wb_policy.specs.declared.order.Order.{Order}
 
 -- ---- devices
@@ -104,7 +104,7 @@ module _ (devices : Devices (List History)) (commit : Option RunningCommit) (dev
     did_read (Invalidate block) device e read can many each d c = absurd can.0
     did_read Flush device e read can many each d c = absurd can.0
     did_read Suspend device e read can many each d c = absurd can.0
-    did_read (Open mode) device e read can many each d c = absurd can.0
+    did_read (Open mode second) device e read can many each d c = absurd can.0
 
     pub did_write : (job : Job) (device : Dev) (e : Extent) → IsDoable devices commit job (WriteExtent device e) →
         devices' ≡ with_device device devices (written_each (device_in device devices) e.first (contents_for job buffer e.count)) → commit' ≡ commit → DoesOn devices commit job buffer (WriteExtent device e) [] devices' commit'
@@ -115,7 +115,7 @@ module _ (devices : Devices (List History)) (commit : Option RunningCommit) (dev
     did_write (Replace old new) device e can d c = absurd can.0
     did_write Flush device e can d c = absurd can.0
     did_write Suspend device e can d c = absurd can.0
-    did_write (Open mode) device e can d c = absurd can.0
+    did_write (Open mode second) device e can d c = absurd can.0
 
   syncs_so : (commit : Option RunningCommit) → ComesNext commit (Sync Metadata) devices.metadata → (t : RunTarget Quiet) → DoesSync {P = Quiet} {A = Global} (Stands t) commit devices.metadata Plain
   syncs_so None can t = can
@@ -129,7 +129,7 @@ module _ (devices : Devices (List History)) (commit : Option RunningCommit) (dev
     did_sync (Invalidate block) Metadata read can r d c = record { gives = λ shape t actors x. (r, refl, syncs_so commit can t); copies = tt; devices_are = d; commit_is = c }
     did_sync Flush Metadata read can r d c = record { gives = λ shape t actors x. (r, refl, syncs_so commit can t); copies = tt; devices_are = d; commit_is = c }
     did_sync Suspend Metadata read can r d c = record { gives = λ shape t actors x. (r, refl, syncs_so commit can t); copies = tt; devices_are = d; commit_is = c }
-    did_sync (Open mode) Metadata read can r d c = record { gives = λ shape t actors x. (r, refl, syncs_so commit can t); copies = tt; devices_are = d; commit_is = c }
+    did_sync (Open mode second) Metadata read can r d c = record { gives = λ shape t actors x. (r, refl, syncs_so commit can t); copies = tt; devices_are = d; commit_is = c }
     did_sync (Migrate migration block) Metadata read can r d c = record { gives = λ shape t actors x. (r, refl, syncs_so commit can t); copies = tt; devices_are = d; commit_is = c }
     did_sync (Replace old new) Metadata read can r d c = record { gives = λ shape t actors x. (r, refl, syncs_so commit can t); copies = tt; devices_are = d; commit_is = c }
     did_sync (Read extent) Cache read can r d c = record { gives = λ shape t actors x. ((r, refl), refl); copies = tt; devices_are = d; commit_is = c }
@@ -137,7 +137,7 @@ module _ (devices : Devices (List History)) (commit : Option RunningCommit) (dev
     did_sync (Invalidate block) Cache read can r d c = record { gives = λ shape t actors x. ((r, refl), refl); copies = tt; devices_are = d; commit_is = c }
     did_sync Flush Cache read can r d c = record { gives = λ shape t actors x. ((r, refl), refl); copies = tt; devices_are = d; commit_is = c }
     did_sync Suspend Cache read can r d c = record { gives = λ shape t actors x. ((r, refl), refl); copies = tt; devices_are = d; commit_is = c }
-    did_sync (Open mode) Cache read can r d c = record { gives = λ shape t actors x. ((r, refl), refl); copies = tt; devices_are = d; commit_is = c }
+    did_sync (Open mode second) Cache read can r d c = record { gives = λ shape t actors x. ((r, refl), refl); copies = tt; devices_are = d; commit_is = c }
     did_sync (Migrate migration block) Cache read can r d c = record { gives = λ shape t actors x. ((r, refl), refl); copies = tt; devices_are = d; commit_is = c }
     did_sync (Replace old new) Cache read can r d c = record { gives = λ shape t actors x. ((r, refl), refl); copies = tt; devices_are = d; commit_is = c }
     did_sync (Read extent) Origin read can r d c = record { gives = λ shape t actors x. ((r, refl), refl); copies = tt; devices_are = d; commit_is = c }
@@ -145,7 +145,7 @@ module _ (devices : Devices (List History)) (commit : Option RunningCommit) (dev
     did_sync (Invalidate block) Origin read can r d c = record { gives = λ shape t actors x. ((r, refl), refl); copies = tt; devices_are = d; commit_is = c }
     did_sync Flush Origin read can r d c = record { gives = λ shape t actors x. ((r, refl), refl); copies = tt; devices_are = d; commit_is = c }
     did_sync Suspend Origin read can r d c = record { gives = λ shape t actors x. ((r, refl), refl); copies = tt; devices_are = d; commit_is = c }
-    did_sync (Open mode) Origin read can r d c = record { gives = λ shape t actors x. ((r, refl), refl); copies = tt; devices_are = d; commit_is = c }
+    did_sync (Open mode second) Origin read can r d c = record { gives = λ shape t actors x. ((r, refl), refl); copies = tt; devices_are = d; commit_is = c }
     did_sync (Migrate migration block) Origin read can r d c = record { gives = λ shape t actors x. ((r, refl), refl); copies = tt; devices_are = d; commit_is = c }
     did_sync (Replace old new) Origin read can r d c = record { gives = λ shape t actors x. ((r, refl), refl); copies = tt; devices_are = d; commit_is = c }
 
@@ -156,7 +156,7 @@ module _ (devices : Devices (List History)) (commit : Option RunningCommit) (dev
     did_put (Invalidate block) (WriteNode number) read put r p d c = record { gives = λ shape t actors x. (r, refl, p); copies = tt; devices_are = d; commit_is = c }
     did_put Flush (WriteNode number) read put r p d c = record { gives = λ shape t actors x. (r, refl, p); copies = tt; devices_are = d; commit_is = c }
     did_put Suspend (WriteNode number) read put r p d c = record { gives = λ shape t actors x. (r, refl, p); copies = tt; devices_are = d; commit_is = c }
-    did_put (Open mode) (WriteNode number) read put r p d c = record { gives = λ shape t actors x. (r, refl, p); copies = tt; devices_are = d; commit_is = c }
+    did_put (Open mode second) (WriteNode number) read put r p d c = record { gives = λ shape t actors x. (r, refl, p); copies = tt; devices_are = d; commit_is = c }
     did_put (Migrate migration block) (WriteNode number) read put r p d c = record { gives = λ shape t actors x. (r, refl, p); copies = tt; devices_are = d; commit_is = c }
     did_put (Replace old new) (WriteNode number) read put r p d c = record { gives = λ shape t actors x. (r, refl, p); copies = tt; devices_are = d; commit_is = c }
     did_put (Read extent) WriteRoot read put r p d c = record { gives = λ shape t actors x. (r, refl, p); copies = tt; devices_are = d; commit_is = c }
@@ -164,7 +164,7 @@ module _ (devices : Devices (List History)) (commit : Option RunningCommit) (dev
     did_put (Invalidate block) WriteRoot read put r p d c = record { gives = λ shape t actors x. (r, refl, p); copies = tt; devices_are = d; commit_is = c }
     did_put Flush WriteRoot read put r p d c = record { gives = λ shape t actors x. (r, refl, p); copies = tt; devices_are = d; commit_is = c }
     did_put Suspend WriteRoot read put r p d c = record { gives = λ shape t actors x. (r, refl, p); copies = tt; devices_are = d; commit_is = c }
-    did_put (Open mode) WriteRoot read put r p d c = record { gives = λ shape t actors x. (r, refl, p); copies = tt; devices_are = d; commit_is = c }
+    did_put (Open mode second) WriteRoot read put r p d c = record { gives = λ shape t actors x. (r, refl, p); copies = tt; devices_are = d; commit_is = c }
     did_put (Migrate migration block) WriteRoot read put r p d c = record { gives = λ shape t actors x. (r, refl, p); copies = tt; devices_are = d; commit_is = c }
     did_put (Replace old new) WriteRoot read put r p d c = record { gives = λ shape t actors x. (r, refl, p); copies = tt; devices_are = d; commit_is = c }
     did_put job step read put r p d c = absurd put
@@ -281,7 +281,7 @@ module _ (desk : DeskState Quiet) (commit : Option RunningCommit) (desk' : DeskS
     gives_arrival (Invalidate block) most got chosen does = (refl, does)
     gives_arrival Flush most got chosen does = (refl, does)
     gives_arrival Suspend most got chosen does = (refl, does)
-    gives_arrival (Open mode) most got chosen does = (refl, does)
+    gives_arrival (Open mode second) most got chosen does = (refl, does)
     gives_arrival (Migrate migration block) most got chosen does = (refl, does)
     gives_arrival (Replace old new) most got chosen does = (refl, does)
 
@@ -291,7 +291,7 @@ module _ (desk : DeskState Quiet) (commit : Option RunningCommit) (desk' : DeskS
     gives_asking (Invalidate block) most got chosen does = (refl, does)
     gives_asking Flush most got chosen does = (refl, does)
     gives_asking Suspend most got chosen does = (refl, does)
-    gives_asking (Open mode) most got chosen does = (refl, does)
+    gives_asking (Open mode second) most got chosen does = (refl, does)
     gives_asking (Migrate migration block) most got chosen does = (refl, does)
     gives_asking (Replace old new) most got chosen does = (refl, does)
 
@@ -301,7 +301,7 @@ module _ (desk : DeskState Quiet) (commit : Option RunningCommit) (desk' : DeskS
     gives_beginning (Invalidate block) most got chosen does = (refl, does)
     gives_beginning Flush most got chosen does = (refl, does)
     gives_beginning Suspend most got chosen does = (refl, does)
-    gives_beginning (Open mode) most got chosen does = (refl, does)
+    gives_beginning (Open mode second) most got chosen does = (refl, does)
     gives_beginning (Migrate migration block) most got chosen does = (refl, does)
     gives_beginning (Replace old new) most got chosen does = (refl, does)
 
@@ -311,7 +311,7 @@ module _ (desk : DeskState Quiet) (commit : Option RunningCommit) (desk' : DeskS
     gives_break (Invalidate block) = ((refl, refl), refl, tt)
     gives_break Flush = ((refl, refl), refl, tt)
     gives_break Suspend = ((refl, refl), refl, tt)
-    gives_break (Open mode) = ((refl, refl), refl, tt)
+    gives_break (Open mode second) = ((refl, refl), refl, tt)
     gives_break (Migrate migration block) = ((refl, refl), refl, tt)
     gives_break (Replace old new) = ((refl, refl), refl, tt)
 
@@ -374,7 +374,7 @@ module _ (desk : DeskState Quiet) (commit : Option RunningCommit) (desk' : DeskS
       by_job shape devices words actors x (Invalidate block) = ((refl, refl), refl, done)
       by_job shape devices words actors x Flush = ((refl, refl), refl, done)
       by_job shape devices words actors x Suspend = ((refl, refl), refl, done)
-      by_job shape devices words actors x (Open mode) = ((refl, refl), refl, done)
+      by_job shape devices words actors x (Open mode second) = ((refl, refl), refl, done)
       by_job shape devices words actors x (Migrate migration block) = ((refl, refl), refl, done)
       by_job shape devices words actors x (Replace old new) = ((refl, refl), refl, done)
 
@@ -441,7 +441,7 @@ module _ (devices : Devices (List History)) (old : Target) (a : ℕ) (held : Lis
       no_copy (Invalidate block) = tt
       no_copy Flush = tt
       no_copy Suspend = tt
-      no_copy (Open mode) = tt
+      no_copy (Open mode second) = tt
       no_copy (Migrate migration block) = tt
       no_copy (Replace old new) = tt
 
@@ -451,7 +451,7 @@ module _ (devices : Devices (List History)) (old : Target) (a : ℕ) (held : Lis
       by_job shape actors x (Invalidate block) = ((r, refl), g)
       by_job shape actors x Flush = ((r, refl), g)
       by_job shape actors x Suspend = ((r, refl), g)
-      by_job shape actors x (Open mode) = ((r, refl), g)
+      by_job shape actors x (Open mode second) = ((r, refl), g)
       by_job shape actors x (Migrate migration block) = ((r, refl), g)
       by_job shape actors x (Replace old new) = ((r, refl), g)
 
@@ -464,7 +464,7 @@ module _ (devices : Devices (List History)) (old : Target) (a : ℕ) (held : Lis
       no_copy (Invalidate block) = tt
       no_copy Flush = tt
       no_copy Suspend = tt
-      no_copy (Open mode) = tt
+      no_copy (Open mode second) = tt
       no_copy (Migrate migration block) = tt
       no_copy (Replace old new) = tt
 
@@ -476,8 +476,8 @@ module _ (devices : Devices (List History)) (old : Target) (a : ℕ) (held : Lis
       by_job shape actors x Suspend answer can = ((r, refl), refl)
       by_job shape actors x (Migrate migration block) answer can = ((r, refl), refl)
       by_job shape actors x (Replace old new) answer can = ((r, refl), refl)
-      by_job shape actors x (Open mode) Finished can = absurd (can tt)
-      by_job shape actors x (Open mode) (Refuses refusal) can = ((r, refl), refl)
+      by_job shape actors x (Open mode second) Finished can = absurd (can tt)
+      by_job shape actors x (Open mode second) (Refuses refusal) can = ((r, refl), refl)
 
   pub performs_device : (job : Job) (step : DeviceStep) (read : List Bytes) (commit' : Option RunningCommit) → DoesOn devices old.commit job buffer step read devices' commit' → new ≡ record old { commit = commit' } → old.failed ≡ flag old.crew.words.fail → Performs devices old a job held seen share buffer (Device step) Done read devices' new
   performs_device job step read commit' does n f = rw n (record {
@@ -502,7 +502,7 @@ module _ (devices : Devices (List History)) (old : Target) (a : ℕ) (held : Lis
       nothing (Invalidate block) = refl
       nothing Flush = refl
       nothing Suspend = refl
-      nothing (Open mode) = refl
+      nothing (Open mode second) = refl
       nothing (Migrate migration block) = refl
       nothing (Replace old new) = refl
 
@@ -512,6 +512,6 @@ module _ (devices : Devices (List History)) (old : Target) (a : ℕ) (held : Lis
       no_copy (Invalidate block) = tt
       no_copy Flush = tt
       no_copy Suspend = tt
-      no_copy (Open mode) = tt
+      no_copy (Open mode second) = tt
       no_copy (Migrate migration block) = tt
       no_copy (Replace old new) = tt

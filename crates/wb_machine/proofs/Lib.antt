@@ -1,5 +1,6 @@
 pub mod Commits
 pub mod Members
+pub mod Nodes
 pub mod Openings
 pub mod Standing
 pub mod Reaching

@@ -143,7 +143,7 @@ suspends_so m e = by_task m.task e
     by_job (Invalidate block) e = absurd (cc)
     by_job Flush e = absurd (cc)
     by_job Suspend e = refl
-    by_job (Open mode) e = absurd (cc)
+    by_job (Open mode second) e = absurd (cc)
     by_job (Migrate migration block) e = absurd (cc)
     by_job (Replace old new) e = absurd (cc)
 

@@ -1,5 +1,5 @@
 -- What an event does to an opening is what wb_promise says.
-use Rattle.std.proofs.Common.{◌≡◌, ◌≢◌, ◌≤◌, ◌<◌, not, inl, inr, ℕ, zero, suc, Bool, true, false, List, [], ◌∷◌, Option, Some, None, refl, sym, ap, subst, ◌∙◌, arith, slice_get, slice_set, length, length-set, replicate}
+use Rattle.std.proofs.Common.{◌≡◌, ◌≢◌, ◌≤◌, ◌<◌, if◌then◌else◌, not, inl, inr, ℕ, zero, suc, Bool, true, false, List, [], ◌∷◌, Option, Some, None, refl, sym, ap, subst, ◌∙◌, arith, slice_get, slice_set, length, length-set, replicate}
 use Rattle.std.proofs.lemmas.Option.{slice_get_past}
 use Rattle.std.proofs.lemmas.Bool.{cases_eq, eqb-false, eqb-true}
 use Rattle.std.specs.Bool.{OnTrue, OnFalse}
@@ -7,6 +7,7 @@ use Rattle.std.specs.declared.alloc.Global.{Global}
 use Rattle.wb_types.specs.declared.geometry.Geometry.{Geometry}
 use Rattle.wb_words.specs.SharedWords.{flag}
 use Rattle.wb_types.specs.declared.mode.Mode.{Mode}
+use Rattle.wb_types.specs.declared.refusal.Refusal.TheVariants.{Geometry as TooSmall}
 use Rattle.wb_types.specs.declared.mode.Dev.{Dev}
 use Rattle.wb_types.specs.declared.mode.Dev.TheVariants.{Metadata, Cache, Origin}
 use Rattle.wb_policy.specs.declared.quiet.Quiet.{Quiet}
@@ -14,13 +15,13 @@ use Rattle.wb_disk.specs.Device.{Content as Bytes, History, synced}
 use Rattle.wb_disk.specs.Memory.{Memory}
 use Rattle.wb_disk.specs.Crash.{Choice, Applies, crashed}
 use Rattle.wb_disk.specs.Failing.{MayFail, lands, synced_where}
-use Rattle.wb_meta.specs.Steps.{DoesStep, coming_step, steps_after}
+use Rattle.wb_meta.specs.Steps.{steps_after}
 use Rattle.wb_meta.specs.declared.read_steps.ReadSteps.{ReadSteps}
 use Rattle.wb_meta.specs.declared.read_steps.ReadSteps.TheVariants.{Begun}
 use Rattle.wb_tasks.specs.Plan.{Plan, want, after, table, device_of}
 use Rattle.wb_tasks.specs.Tables.{Opening}
 use Rattle.wb_tasks.specs.declared.step.DeviceStep.{DeviceStep}
-use Rattle.wb_tasks.specs.declared.step.DeviceStep.TheVariants.{Sync, ReadMetadata, WriteRoot}
+use Rattle.wb_tasks.specs.declared.step.DeviceStep.TheVariants.{Sync, ReadMetadata, WriteNode, WriteRoot}
 use Rattle.wb_tasks.specs.declared.step.Want.{Want}
 use Rattle.wb_tasks.specs.declared.step.Want.TheVariants.{Device}
 use Rattle.wb_tasks.specs.declared.step.Got.{Got}
@@ -34,15 +35,17 @@ use Rattle.wb_promise.specs.declared.job.Job.TheVariants.{Open, Suspend}
 use Rattle.wb_promise.specs.declared.event.Event.{Event}
 use Rattle.wb_promise.specs.declared.event.Event.TheVariants.{Start, Step, FaultStep, Stop}
 use Rattle.wb_promise.specs.declared.event.What.{What}
-use Rattle.wb_promise.specs.declared.event.What.TheVariants.{Skipped, Started, Stepped, Stopped}
+use Rattle.wb_promise.specs.declared.event.What.TheVariants.{Skipped, Refused as RefusedWhat, Started, Stepped, Stopped}
 use Rattle.wb_promise.specs.States.{Shape, Actor, Opens, OfTarget, OfReading, resting, with_device}
-use Rattle.wb_promise.specs.Happenings.{Chosen, Plain, Begins, Reaches, Puts, LandedOr, sector_put, OfSome, DoesNotApply, DoesRead, IsSuspending, MayStop}
-use Rattle.wb_promise.specs.Effects.{after_what, all_crashed, all_resting, job_of, stepped, with_actor, device_done, device_failed, went}
+use Rattle.wb_promise.specs.Happenings.{Chosen, Plain, Begins, Reaches, Puts, OfSome, DoesNotApply, DoesRead, IsSuspending, MayStop, has_room_for}
+use Rattle.wb_promise.specs.Effects.{after_what, all_crashed, all_resting, job_of, led, stepped, with_actor, device_done, device_failed, went}
+use Rattle.wb_machine.specs.declared.asked.Asked.{Asked}
 use Rattle.wb_machine.specs.declared.opener.Opener.{Opener}
 use Rattle.wb_machine.specs.declared.phase.Phase.{Phase}
 use Rattle.wb_machine.specs.declared.phase.Phase.TheVariants.{Closed, Underway, Standing}
-use Rattle.wb_machine.specs.Life.{Now, Happens, FailsOn, IsThere, device_step_of, actors_of, contents_of, has_task, is_sound, is_suspending, opened_in, opening_actor, phase_of, reading_synced, reading_failed, stands, state_of, wants_target}
+use Rattle.wb_machine.specs.Life.{Now, Happens, FailsOn, IsThere, MayBePut, WasPut, actors_of, asked_by, commit_failed, contents_of, device_step_of, has_task, is_sound, is_suspending, opening_actor, phase_of, reading_synced, reading_failed, stands, state_of, wants_target}
 use Rattle.wb_machine.specs.Making.{reading_of}
+use Rattle.wb_machine.specs.Serving.{IsPut}
 use Rattle.wb_machine.specs.Standing.{StandsSo}
 use Rattle.wb_machine.specs.Members.{suspends}
 use Rattle.wb_machine.proofs.Members.{busy_there, idle_there, length_seated, none_at, some_at, suspends_so, suspends_told}
@@ -65,7 +68,7 @@ resting_all (x ∷ xs) = ap (λ ys. resting ∷ ys) (resting_all xs)
 
 many : (n : ℕ) (o : Phase) → IsThere n o → length (actors_of n o) ≡ n
 many n Closed h = length_replicate n resting
-many n (Underway o) h = length-set (replicate n resting) o.asked.actor (opening_actor o.asked.mode o.task) ∙ length_replicate n resting
+many n (Underway o) h = length-set (replicate n resting) o.asked.actor (opening_actor o.asked o.task) ∙ length_replicate n resting
 many n (Standing t members) h = length_seated members.items t.crew.cards (h.1 ∙ sym h.0) ∙ h.0
 
 pub all_rest : (n : ℕ) (o : Phase) → IsThere n o → all_resting (actors_of n o) ≡ replicate n resting
@@ -74,8 +77,8 @@ all_rest n o h = resting_all (actors_of n o) ∙ ap (λ k. replicate k resting) 
 within : (n : ℕ) (o : Phase) → IsThere n o → (a : ℕ) → a < n → (x : Actor) × (slice_get (actors_of n o) a ≡ Some x)
 within n o t a h = there_is (actors_of n o) a (let l = many n o t in omega (arith, l))
 
-pub there : (n : ℕ) (o : Opener) → o.asked.actor < n → slice_get (actors_of n (Underway o)) o.asked.actor ≡ Some (opening_actor o.asked.mode o.task)
-there n o h = set_there (replicate n resting) o.asked.actor resting (opening_actor o.asked.mode o.task) (replicated_there n o.asked.actor resting h)
+pub there : (n : ℕ) (o : Opener) → o.asked.actor < n → slice_get (actors_of n (Underway o)) o.asked.actor ≡ Some (opening_actor o.asked o.task)
+there n o h = set_there (replicate n resting) o.asked.actor resting (opening_actor o.asked o.task) (replicated_there n o.asked.actor resting h)
 
 rests : (n a : ℕ) (P : Job × Plan → Type 0) → OfSome (slice_get (replicate n resting) a) (λ (x : Actor). OfSome x.task P) → ⊥
 rests zero a P h = h
@@ -83,7 +86,7 @@ rests (suc n) zero P h = h
 rests (suc n) (suc a) P h = rests n a P h
 
 pub idle_beside : (n : ℕ) (o : Opener) (a : ℕ) (P : Job × Plan → Type 0) → o.asked.actor ≢ a → OfSome (slice_get (actors_of n (Underway o)) a) (λ (x : Actor). OfSome x.task P) → ⊥
-idle_beside n o a P e h = rests n a P (subst (λ (x : Option Actor). OfSome x (λ (y : Actor). OfSome y.task P)) (set_other (replicate n resting) o.asked.actor a (opening_actor o.asked.mode o.task) (λ q. e (sym q))) h)
+idle_beside n o a P e h = rests n a P (subst (λ (x : Option Actor). OfSome x (λ (y : Actor). OfSome y.task P)) (set_other (replicate n resting) o.asked.actor a (opening_actor o.asked o.task) (λ q. e (sym q))) h)
 
 -- who has no task is at nothing
 pub idle : (n : ℕ) (o : Phase) (a : ℕ) (P : Job × Plan → Type 0) → has_task a o ≡ false → OfSome (slice_get (actors_of n o) a) (λ (x : Actor). OfSome x.task P) → ⊥
@@ -98,10 +101,10 @@ nobody_opens (Underway x) a e h = absurd (h x refl)
 nobody_opens (Standing t members) a e h = absurd (cc)
 
 -- and who opens is at its opening
-pub busy : (n : ℕ) (o : Opener) (P : Job × Plan → Type 0) → o.asked.actor < n → P (Open o.asked.mode, o.task) → OfSome (slice_get (actors_of n (Underway o)) o.asked.actor) (λ (x : Actor). OfSome x.task P)
+pub busy : (n : ℕ) (o : Opener) (P : Job × Plan → Type 0) → o.asked.actor < n → P (Open o.asked.mode o.asked.second, o.task) → OfSome (slice_get (actors_of n (Underway o)) o.asked.actor) (λ (x : Actor). OfSome x.task P)
 busy n o P h p = subst (λ (x : Option Actor). OfSome x (λ (y : Actor). OfSome y.task P)) (sym (there n o h)) p
 
-pub only_busy : (n : ℕ) (o : Opener) (P : Job × Plan → Type 0) → o.asked.actor < n → OfSome (slice_get (actors_of n (Underway o)) o.asked.actor) (λ (x : Actor). OfSome x.task P) → P (Open o.asked.mode, o.task)
+pub only_busy : (n : ℕ) (o : Opener) (P : Job × Plan → Type 0) → o.asked.actor < n → OfSome (slice_get (actors_of n (Underway o)) o.asked.actor) (λ (x : Actor). OfSome x.task P) → P (Open o.asked.mode o.asked.second, o.task)
 only_busy n o P h p = subst (λ (x : Option Actor). OfSome x (λ (y : Actor). OfSome y.task P)) (there n o h) p
 
 -- ---- an event that does not apply
@@ -144,7 +147,7 @@ nobody_suspends devices n Closed h e s = rests n s.0 (λ doing. doing.0 ≡ Susp
 nobody_suspends devices n (Underway o) h e s = elim (cases_eq o.asked.actor s.0) [
   | inl same ↦
       let there = subst (λ (k : ℕ). OfSome (slice_get (actors_of n (Underway o)) k) (λ (x : Actor). OfSome x.task (λ doing. doing.0 ≡ Suspend))) (sym same) s.1 in
-      let opens : Open o.asked.mode ≡ Suspend = only_busy n o (λ doing. doing.0 ≡ Suspend) h there in
+      let opens : Open o.asked.mode o.asked.second ≡ Suspend = only_busy n o (λ doing. doing.0 ≡ Suspend) h there in
       absurd (cc)
   | inr other ↦ idle_beside n o s.0 (λ doing. doing.0 ≡ Suspend) other s.1
 ]
@@ -152,14 +155,14 @@ nobody_suspends devices n (Standing t members) h e s = none_at suspends (λ doin
 
 -- no other job starts where no target stands
 pub no_target : (devices : Devices Memory) (n : ℕ) (o : Phase) (a : ℕ) (job : Job) → stands o ≡ false → wants_target job ≡ true → DoesNotApply (state_of n devices o) (Start a job)
-no_target devices n o a (Open mode) e f = absurd (cc)
+no_target devices n o a (Open mode second) e f = absurd (cc)
 no_target devices n Closed a job e f = inr (inr (inr (λ t. t)))
 no_target devices n (Underway o) a job e f = inr (inr (inr (λ t. t)))
 no_target devices n (Standing t members) a job e f = absurd (cc)
 
-begun_state : (n : ℕ) (devices : Devices Memory) (o : Phase) → IsThere n o → (a : ℕ) (mode : Mode) (plan : Plan) (new : Opener) → new.asked ≡ record { actor = a; mode = mode } → new.task ≡ plan → reading_of new ≡ None → new.opening.commit ≡ None →
-    state_of n devices (Underway new) ≡ record { devices = contents_of devices; commit = None; phase = Opens mode None; actors = slice_set (all_resting (actors_of n o)) a (opening_actor mode plan) }
-begun_state n devices o t a mode plan new e f g k = rw (e, f, g, k, all_rest n o t) refl
+begun_state : (n : ℕ) (devices : Devices Memory) (o : Phase) → IsThere n o → (a : ℕ) (mode : Mode) (second : Bool) (plan : Plan) (new : Opener) → new.asked ≡ record { actor = a; mode = mode; second = second } → new.task ≡ plan → reading_of new ≡ None → new.opening.commit ≡ None →
+    state_of n devices (Underway new) ≡ record { devices = contents_of devices; commit = None; phase = Opens mode None; actors = slice_set (all_resting (actors_of n o)) a (opening_actor (record { actor = a; mode = mode; second = second }) plan) }
+begun_state n devices o t a mode second plan new e f g k = rw (e, f, g, k, all_rest n o t) refl
 
 no_standing : (g : Geometry) (n : ℕ) (o : Phase) → StandsSo g n o → is_sound o ≡ false → OfTarget (phase_of o) (λ t. t.words.fail ≡ 0) → ⊥
 no_standing g n Closed s f t = t
@@ -167,31 +170,46 @@ no_standing g n (Underway o) s f t = t
 no_standing g n (Standing x members) s f t = has_not x.failed f (s.failed ∙ ap flag t)
 
 module _ (shape : Shape) (devices : Devices Memory) (n : ℕ) (o : Phase) (is_there : IsThere n o) (so : StandsSo shape.geometry n o) (a : ℕ) (h : a < n) (i : has_task a o ≡ false) (alone : is_suspending o ≡ false) (calm : is_sound o ≡ false) where
-  starts_in : (mode : Mode) (what : What) (new : Opener) → new.asked ≡ record { actor = a; mode = mode } → new.task ≡ table (Opening shape.geometry.meta_sectors) → reading_of new ≡ None → new.opening.commit ≡ None → what ≡ Started →
-      Happens shape (state_of n devices o) (Start a (Open mode)) what [] (state_of n devices (Underway new))
-  starts_in mode what new e f g k s = rw s (record {
+  applies : (mode : Mode) (second : Bool) → DoesNotApply (state_of n devices o) (Start a (Open mode second)) → ⊥
+  applies mode second (inl none) = let inside = within n o is_there a h in let is = inside.1 in absurd (cc)
+  applies mode second (inr (inl t)) = idle n o a (λ doing. Unit {0}) i t
+  applies mode second (inr (inr (inl s))) = nobody_suspends devices n o is_there alone s
+  applies mode second (inr (inr (inr p))) = no_standing shape.geometry n o so calm p
+
+  starts_in : (mode : Mode) (second : Bool) (what : What) (new : Opener) → has_room_for second shape.geometry ≡ true → new.asked ≡ record { actor = a; mode = mode; second = second } → new.task ≡ table (Opening shape.geometry.meta_sectors) → reading_of new ≡ None → new.opening.commit ≡ None → what ≡ Started →
+      Happens shape (state_of n devices o) (Start a (Open mode second)) what [] (state_of n devices (Underway new))
+  starts_in mode second what new room e f g k s = rw s (record {
     chosen = Plain;
-    may = (refl, applies, tt);
-    leads = begun_state n devices o is_there a mode (table (Opening shape.geometry.meta_sectors)) new e f g k ∙ sym given;
+    may = (refl, applies mode second, ap (λ (b : Bool). if b then None else Some TooSmall) room);
+    leads = begun_state n devices o is_there a mode second (table (Opening shape.geometry.meta_sectors)) new e f g k ∙ sym given;
   })
     where
       some : slice_get (all_resting (actors_of n o)) a ≡ Some resting
       some = ap (λ xs. slice_get xs a) (all_rest n o is_there) ∙ replicated_there n a resting h
 
-      given : after_what shape (state_of n devices o) (Start a (Open mode)) Started Plain
-          ≡ record { devices = contents_of devices; commit = None; phase = Opens mode None; actors = slice_set (all_resting (actors_of n o)) a (opening_actor mode (table (Opening shape.geometry.meta_sectors))) }
+      given : after_what shape (state_of n devices o) (Start a (Open mode second)) Started Plain
+          ≡ record { devices = contents_of devices; commit = None; phase = Opens mode None; actors = slice_set (all_resting (actors_of n o)) a (opening_actor (record { actor = a; mode = mode; second = second }) (table (Opening shape.geometry.meta_sectors))) }
       given = rw some refl
 
-      applies : DoesNotApply (state_of n devices o) (Start a (Open mode)) → ⊥
-      applies (inl none) = let inside = within n o is_there a h in let is = inside.1 in absurd (cc)
-      applies (inr (inl t)) = idle n o a (λ doing. Unit {0}) i t
-      applies (inr (inr (inl s))) = nobody_suspends devices n o is_there alone s
-      applies (inr (inr (inr p))) = no_standing shape.geometry n o so calm p
-
-  pub starts : (job : Job) (mode : Mode) (what : What) (new : Opener) → opened_in job ≡ Some mode → new.asked ≡ record { actor = a; mode = mode } → new.task ≡ table (Opening shape.geometry.meta_sectors) → reading_of new ≡ None → new.opening.commit ≡ None → what ≡ Started →
+  pub starts : (job : Job) (asked : Asked) (what : What) (new : Opener) → asked_by a job ≡ Some asked → has_room_for asked.second shape.geometry ≡ true → new.asked ≡ asked → new.task ≡ table (Opening shape.geometry.meta_sectors) → reading_of new ≡ None → new.opening.commit ≡ None → what ≡ Started →
       Happens shape (state_of n devices o) (Start a job) what [] (state_of n devices (Underway new))
-  starts (Open mode) opened what new j e f g k s = let same : mode ≡ opened = cc in starts_in mode what new (rw same e) f g k s
-  starts job mode what new j e f g k s = absurd (cc)
+  starts (Open mode second) asked what new j room e f g k s =
+      let same : asked ≡ record { actor = a; mode = mode; second = second } = cc in
+      starts_in mode second what new (subst (λ (x : Asked). has_room_for x.second shape.geometry ≡ true) same room) (e ∙ same) f g k s
+  starts job asked what new j room e f g k s = absurd (cc)
+
+  -- the metadata have no room for the version that it asks for
+  pub starts_not : (job : Job) (asked : Asked) (what : What) → asked_by a job ≡ Some asked → has_room_for asked.second shape.geometry ≡ false → what ≡ RefusedWhat TooSmall →
+      Happens shape (state_of n devices o) (Start a job) what [] (state_of n devices o)
+  starts_not (Open mode second) asked what j room s =
+      let same : asked ≡ record { actor = a; mode = mode; second = second } = cc in
+      let none : has_room_for second shape.geometry ≡ false = subst (λ (x : Asked). has_room_for x.second shape.geometry ≡ false) same room in
+      rw s (record { chosen = Plain; may = (refl, applies mode second, ap (λ (b : Bool). if b then None else Some TooSmall) none); leads = refl })
+  starts_not job asked what j room s = absurd (cc)
+
+pub asked_actor : (a : ℕ) (job : Job) (asked : Asked) → asked_by a job ≡ Some asked → a ≡ asked.actor
+asked_actor a (Open mode second) asked e = let same : record { actor = a; mode = mode; second = second } ≡ asked = cc in ap (λ (x : Asked). x.actor) same
+asked_actor a job asked e = absurd (cc)
 
 -- ---- steps of who opens
 
@@ -201,16 +219,16 @@ module _ (shape : Shape) (n : ℕ) (devices devices' : Devices Memory) (o new : 
   w commit = record { devices = contents_of devices; commit = commit; phase = phase_of (Underway o); actors = actors_of n (Underway o) }
 
   -- the actors once its task is this
-  acts : (plan : Plan) → new.task ≡ plan → actors_of n (Underway new) ≡ slice_set (actors_of n (Underway o)) o.asked.actor (opening_actor o.asked.mode plan)
-  acts plan t = rw (same, t) (sym (set_twice (replicate n resting) o.asked.actor (opening_actor o.asked.mode o.task) (opening_actor o.asked.mode plan)))
+  acts : (plan : Plan) → new.task ≡ plan → actors_of n (Underway new) ≡ slice_set (actors_of n (Underway o)) o.asked.actor (opening_actor o.asked plan)
+  acts plan t = rw (same, t) (sym (set_twice (replicate n resting) o.asked.actor (opening_actor o.asked o.task) (opening_actor o.asked plan)))
 
   -- what its step leads to
   leads : (commit : Option RunningCommit) (next : Want) (got : Got) (chosen : Chosen Quiet Global) (change : Job → List Bytes → DeviceStep → List History → List History) →
-      went shape (w commit) o.asked.actor next got chosen change ≡ stepped shape (w commit) o.asked.actor (opening_actor o.asked.mode o.task) next got chosen (change (Open o.asked.mode) [])
+      went shape (w commit) o.asked.actor next got chosen change ≡ stepped shape (w commit) o.asked.actor (opening_actor o.asked o.task) next got chosen (change (Open o.asked.mode o.asked.second) [])
   leads commit next got chosen change = ap (λ (x : Option Actor). with_actor (w commit) x (λ y. stepped shape (w commit) o.asked.actor y next got chosen (change (job_of y.task) y.buffer))) (there n o h)
 
   next_state : (contents : Devices (List History)) (reading : Option (ReadSteps Global)) (commit : Option RunningCommit) (plan : Plan) → contents_of devices' ≡ contents → (reading_of new) ≡ reading → new.opening.commit ≡ commit → new.task ≡ plan →
-      state_of n devices' (Underway new) ≡ record { devices = contents; commit = commit; phase = Opens o.asked.mode reading; actors = slice_set (actors_of n (Underway o)) o.asked.actor (opening_actor o.asked.mode plan) }
+      state_of n devices' (Underway new) ≡ record { devices = contents; commit = commit; phase = Opens o.asked.mode reading; actors = slice_set (actors_of n (Underway o)) o.asked.actor (opening_actor o.asked plan) }
   next_state contents reading commit plan d r c t = rw (d, r, c, acts plan t, same) refl
 
   pub syncs : (alloc : Global) (device : Dev) (what : What) → want o.task ≡ Device (Sync device) → what ≡ Stepped (Device (Sync device)) Done → new.task ≡ after o.task Done → (reading_of new) ≡ reading_synced alloc device None (reading_of o) → new.opening.commit ≡ None →
@@ -231,7 +249,7 @@ module _ (shape : Shape) (n : ℕ) (devices devices' : Devices Memory) (o new : 
     leads = next_state _ _ _ _ d r c t ∙ sym (leads None (Device (Sync Origin)) Done Plain (λ job buffer step. device_done {P = Quiet} {A = Global} job buffer step Plain));
   })
 
-  pub fails : (choice : Choice) (step : DeviceStep) (what : What) → step ≢ WriteRoot → device_step_of (want o.task) ≡ Some step → want o.task ≡ Device step → what ≡ Stepped (Device step) Fault → MayFail (device_of step) choice (length (device_in (device_of step) (contents_of devices))) → new.task ≡ after o.task Fault → (reading_of new) ≡ reading_failed (device_of step) (reading_of o) → new.opening.commit ≡ None →
+  pub fails : (choice : Choice) (step : DeviceStep) (what : What) → (IsPut step → ⊥) → device_step_of (want o.task) ≡ Some step → want o.task ≡ Device step → what ≡ Stepped (Device step) Fault → MayFail (device_of step) choice (length (device_in (device_of step) (contents_of devices))) → new.task ≡ after o.task Fault → (reading_of new) ≡ reading_failed (device_of step) (reading_of o) → new.opening.commit ≡ None →
       FailsOn None step choice (contents_of devices) (contents_of devices') → Happens shape (w None) (FaultStep o.asked.actor choice) what [] (state_of n devices' (Underway new))
   fails choice (ReadMetadata left) what other kind next e m t r c d = rw e (record {
     chosen = Plain;
@@ -253,29 +271,36 @@ module _ (shape : Shape) (n : ℕ) (devices devices' : Devices Memory) (o new : 
     may = (refl, refl, busy n o _ h (sym next, m, refl));
     leads = next_state _ _ _ _ d r c t ∙ sym (leads None (Device (Sync Origin)) Fault Plain (λ job buffer step. device_failed {P = Quiet} {A = Global} (lands Origin choice) job buffer step Plain));
   })
-  fails choice WriteRoot what other kind next e m t r c d = absurd (other refl)
+  fails choice (WriteNode number) what other kind next e m t r c d = absurd (other tt)
+  fails choice WriteRoot what other kind next e m t r c d = absurd (other tt)
   fails choice step what other kind next e m t r c d = absurd (cc)
 
   pub reads : (left : ℕ) (was : ReadSteps Global) (got : Got) (what : What) → want o.task ≡ Device (ReadMetadata left) → what ≡ Stepped (Device (ReadMetadata left)) got → (reading_of o) ≡ Some was →
-      DoesRead {P = Quiet} o.asked.mode shape.geometry left was devices.metadata.contents None got (Reaches (reading_of new) new.opening.commit) → new.task ≡ after o.task got → contents_of devices' ≡ contents_of devices → Happens shape (w None) (Step o.asked.actor) what [] (state_of n devices' (Underway new))
+      DoesRead {P = Quiet} o.asked.mode shape.geometry o.asked.second left was devices.metadata.contents None got (Reaches (reading_of new) new.opening.commit) → new.task ≡ after o.task got → contents_of devices' ≡ contents_of devices → Happens shape (w None) (Step o.asked.actor) what [] (state_of n devices' (Underway new))
   reads left was got what next e present does t d = rw e (record {
     chosen = Reaches (reading_of new) new.opening.commit;
     may = busy n o _ h (sym next, (refl, refl, of_reading (reading_of o) present));
     leads = next_state _ _ _ _ d refl refl t ∙ sym (leads None (Device (ReadMetadata left)) got (Reaches (reading_of new) new.opening.commit) (λ job buffer step. device_done {P = Quiet} {A = Global} job buffer step (Reaches (reading_of new) new.opening.commit)));
   })
     where
-      of_reading : (reading : Option (ReadSteps Global)) → reading ≡ Some was → OfReading {P = Quiet} (Opens o.asked.mode reading) (λ mode r. DoesRead {P = Quiet} mode shape.geometry left r devices.metadata.contents None got (Reaches (reading_of new) new.opening.commit))
-      of_reading reading e = subst (λ x. OfReading {P = Quiet} (Opens o.asked.mode x) (λ mode r. DoesRead {P = Quiet} mode shape.geometry left r devices.metadata.contents None got (Reaches (reading_of new) new.opening.commit))) (sym e) does
+      of_reading : (reading : Option (ReadSteps Global)) → reading ≡ Some was → OfReading {P = Quiet} (Opens o.asked.mode reading) (λ mode r. DoesRead {P = Quiet} mode shape.geometry o.asked.second left r devices.metadata.contents None got (Reaches (reading_of new) new.opening.commit))
+      of_reading reading e = subst (λ x. OfReading {P = Quiet} (Opens o.asked.mode x) (λ mode r. DoesRead {P = Quiet} mode shape.geometry o.asked.second left r devices.metadata.contents None got (Reaches (reading_of new) new.opening.commit))) (sym e) does
 
-  -- the root is written
-  pub puts : (c : RunningCommit) (what : What) → want o.task ≡ Device WriteRoot → what ≡ Stepped (Device WriteRoot) Done → goes_on (length devices.metadata.contents) c.image c.steps WriteRoot ≡ true →
-      DoesStep c.image c.steps devices.metadata.contents devices'.metadata.contents → new.task ≡ after o.task Done → (reading_of new) ≡ (reading_of o) → new.opening.commit ≡ Some (record c { steps = steps_after c.image c.steps }) →
+  -- a node or the root is written
+  pub puts : (c : RunningCommit) (step : DeviceStep) (what : What) → IsPut step → want o.task ≡ Device step → what ≡ Stepped (Device step) Done → WasPut (Some c) step devices.metadata.contents devices'.metadata.contents →
+      new.task ≡ after o.task Done → (reading_of new) ≡ (reading_of o) → new.opening.commit ≡ led (Some c) Done →
       contents_of devices' ≡ record (contents_of devices) { metadata = devices'.metadata.contents } → Happens shape (w (Some c)) (Step o.asked.actor) what [] (state_of n devices' (Underway new))
-  puts c what next e on does t r k d = rw e (record {
+  puts c (WriteNode number) what put next e was t r k d = rw e (record {
     chosen = Puts devices'.metadata.contents;
-    may = busy n o _ h (sym next, (refl, refl, (on, does)));
+    may = busy n o _ h (sym next, (refl, refl, was));
+    leads = next_state _ _ _ _ d r k t ∙ sym (leads (Some c) (Device (WriteNode number)) Done (Puts devices'.metadata.contents) (λ job buffer step. device_done {P = Quiet} {A = Global} job buffer step (Puts devices'.metadata.contents)));
+  })
+  puts c WriteRoot what put next e was t r k d = rw e (record {
+    chosen = Puts devices'.metadata.contents;
+    may = busy n o _ h (sym next, (refl, refl, was));
     leads = next_state _ _ _ _ d r k t ∙ sym (leads (Some c) (Device WriteRoot) Done (Puts devices'.metadata.contents) (λ job buffer step. device_done {P = Quiet} {A = Global} job buffer step (Puts devices'.metadata.contents)));
   })
+  puts c step what put next e was t r k d = absurd put
 
   -- it is durable
   pub settles : (c : RunningCommit) (what : What) → want o.task ≡ Device (Sync Metadata) → what ≡ Stepped (Device (Sync Metadata)) Done → goes_on (length devices.metadata.contents) c.image c.steps (Sync Metadata) ≡ true →
@@ -288,16 +313,20 @@ module _ (shape : Shape) (n : ℕ) (devices devices' : Devices Memory) (o new : 
   })
 
   -- its write fails, having landed or not
-  pub fails_to_put : (choice : Choice) (c : RunningCommit) (what : What) → want o.task ≡ Device WriteRoot → what ≡ Stepped (Device WriteRoot) Fault → goes_on (length devices.metadata.contents) c.image c.steps WriteRoot ≡ true →
-      MayFail Metadata choice (length devices.metadata.contents) →
-      LandedOr (lands Metadata choice (sector_put (coming_step c.image c.steps))) (DoesStep c.image c.steps devices.metadata.contents devices'.metadata.contents) (devices'.metadata.contents ≡ devices.metadata.contents) →
-      new.task ≡ after o.task Fault → (reading_of new) ≡ None → new.opening.commit ≡ None →
+  pub fails_to_put : (choice : Choice) (c : RunningCommit) (step : DeviceStep) (what : What) → IsPut step → want o.task ≡ Device step → what ≡ Stepped (Device step) Fault → MayFail (device_of step) choice (length (device_in (device_of step) (contents_of devices))) →
+      MayBePut (Some c) choice step devices.metadata.contents devices'.metadata.contents → new.task ≡ after o.task Fault → (reading_of new) ≡ reading_failed (device_of step) (reading_of o) → new.opening.commit ≡ commit_failed (device_of step) (Some c) →
       contents_of devices' ≡ record (contents_of devices) { metadata = devices'.metadata.contents } → Happens shape (w (Some c)) (FaultStep o.asked.actor choice) what [] (state_of n devices' (Underway new))
-  fails_to_put choice c what next e on m landed t r k d = rw e (record {
+  fails_to_put choice c (WriteNode number) what put next e m may t r k d = rw e (record {
     chosen = Puts devices'.metadata.contents;
-    may = (refl, refl, busy n o _ h (sym next, m, (on, landed)));
+    may = (refl, refl, busy n o _ h (sym next, m, may));
+    leads = next_state _ _ _ _ d r k t ∙ sym (leads (Some c) (Device (WriteNode number)) Fault (Puts devices'.metadata.contents) (λ job buffer step. device_failed {P = Quiet} {A = Global} (lands Metadata choice) job buffer step (Puts devices'.metadata.contents)));
+  })
+  fails_to_put choice c WriteRoot what put next e m may t r k d = rw e (record {
+    chosen = Puts devices'.metadata.contents;
+    may = (refl, refl, busy n o _ h (sym next, m, may));
     leads = next_state _ _ _ _ d r k t ∙ sym (leads (Some c) (Device WriteRoot) Fault (Puts devices'.metadata.contents) (λ job buffer step. device_failed {P = Quiet} {A = Global} (lands Metadata choice) job buffer step (Puts devices'.metadata.contents)));
   })
+  fails_to_put choice c step what put next e m may t r k d = absurd put
 
   -- its sync fails
   pub fails_to_settle : (choice : Choice) (c : RunningCommit) (what : What) → want o.task ≡ Device (Sync Metadata) → what ≡ Stepped (Device (Sync Metadata)) Fault → goes_on (length devices.metadata.contents) c.image c.steps (Sync Metadata) ≡ true →
@@ -342,6 +371,7 @@ crashes device choice d0 d1 d2 b same applies stops crashed_so =
 pub is_device_step : (next : Want) (step : DeviceStep) → device_step_of next ≡ Some step → next ≡ Device step
 is_device_step (Device (Sync device)) step e = let same : Sync device ≡ step = cc in ap (λ s. Device s) same
 is_device_step (Device (ReadMetadata left)) step e = let same : ReadMetadata left ≡ step = cc in ap (λ s. Device s) same
+is_device_step (Device (WriteNode number)) step e = let same : WriteNode number ≡ step = cc in ap (λ s. Device s) same
 is_device_step (Device WriteRoot) step e = let same : WriteRoot ≡ step = cc in ap (λ s. Device s) same
 is_device_step next step e = absurd (cc)
 

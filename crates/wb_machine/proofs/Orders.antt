@@ -54,7 +54,7 @@ refused_request shape desk m (Write extent content) refusal e = record { chosen 
 refused_request shape desk m (Invalidate block) refusal e = record { chosen = Plain; gives = λ words card. e; leaves = (refl, refl) }
 refused_request shape desk m Flush refusal e = absurd (cc)
 refused_request shape desk m Suspend refusal e = absurd (cc)
-refused_request shape desk m (Open mode) refusal e = absurd (cc)
+refused_request shape desk m (Open mode second) refusal e = record { chosen = Plain; gives = λ words card. e; leaves = (refl, refl) }
 refused_request shape desk m (Migrate migration block) refusal e = absurd (cc)
 refused_request shape desk m (Replace old new) refusal e = absurd (cc)
 
@@ -67,7 +67,7 @@ refused_busy shape desk m (Write extent content) desk' m' e t = absurd (cc)
 refused_busy shape desk m (Invalidate block) desk' m' e t = absurd (cc)
 refused_busy shape desk m Flush desk' m' e t = absurd (cc)
 refused_busy shape desk m Suspend desk' m' e t = absurd (cc)
-refused_busy shape desk m (Open mode) desk' m' e t = absurd (cc)
+refused_busy shape desk m (Open mode second) desk' m' e t = absurd (cc)
 
 -- who has this task then
 abbrev pub tasked : Member → Job → Plan → Member
@@ -84,7 +84,7 @@ started_request shape desk m (Write extent content) plan w o r p = record { chos
 started_request shape desk m (Invalidate block) plan w o r p = record { chosen = Plain; gives = λ words card. r; leaves = (refl, ap (λ (x : Plan). tasked m (Invalidate block) x) p) }
 started_request shape desk m Flush plan w o r p = record { chosen = Plain; gives = λ words card. tt; leaves = (refl, ap (λ (x : Plan). tasked m Flush x) p) }
 started_request shape desk m Suspend plan w o r p = absurd (cc)
-started_request shape desk m (Open mode) plan w o r p = absurd (cc)
+started_request shape desk m (Open mode second) plan w o r p = absurd (cc)
 started_request shape desk m (Migrate migration block) plan w o r p = absurd (cc)
 started_request shape desk m (Replace old new) plan w o r p = absurd (cc)
 
@@ -132,7 +132,7 @@ started_ordered shape desk m (Write extent content) desk' m' plan e t p = absurd
 started_ordered shape desk m (Invalidate block) desk' m' plan e t p = absurd (cc)
 started_ordered shape desk m Flush desk' m' plan e t p = absurd (cc)
 started_ordered shape desk m Suspend desk' m' plan e t p = absurd (cc)
-started_ordered shape desk m (Open mode) desk' m' plan e t p = absurd (cc)
+started_ordered shape desk m (Open mode second) desk' m' plan e t p = absurd (cc)
 
 -- ---- who takes an order
 

@@ -1,5 +1,5 @@
 -- What the code that programs run does on the devices of a machine is what wb_promise says.
-use Rattle.std.proofs.Common.{◌≡◌, ◌≤◌, ◌+◌, ◌&&◌, ℕ, zero, suc, Bool, true, false, if◌then◌else◌, List, [], ◌∷◌, Option, Some, None, refl, sym, ap, subst, ◌∙◌, arith, length, take, slice_get, is_some}
+use Rattle.std.proofs.Common.{◌≡◌, ◌≤◌, ◌+◌, ℕ, zero, suc, Bool, true, false, if◌then◌else◌, List, [], ◌∷◌, Option, Some, None, refl, sym, ap, subst, ◌∙◌, arith, length, take, slice_get, is_some}
 use Rattle.std.specs.Prelude.{IfSome}
 use Rattle.wb_types.specs.declared.mode.Dev.{Dev}
 use Rattle.wb_types.specs.declared.mode.Dev.TheVariants.{Metadata, Cache, Origin}
@@ -17,7 +17,7 @@ use Rattle.wb_meta.specs.Placing.{HavePlaces}
 use Rattle.wb_format.specs.Layout.{SpellsNode, SpellsRoot}
 use Rattle.wb_meta.specs.Steps.{DoesStep, FailsStepSo, NodeOrSync, NodeOrSyncSo, PutSo, Puts, coming_step, node_or_sync, slot_of, steps_after}
 use Rattle.wb_meta.specs.declared.commit_steps.CommitSteps.{CommitSteps}
-use Rattle.wb_meta.specs.declared.commit_steps.CommitSteps.TheVariants.{NodesWritten, NodesSynced, RootWritten, Done as Committed}
+use Rattle.wb_meta.specs.declared.commit_steps.CommitSteps.TheVariants.{NodesWritten, NodesSynced}
 use Rattle.wb_tasks.specs.Plan.{device_of}
 use Rattle.wb_tasks.specs.declared.step.DeviceStep.{DeviceStep}
 use Rattle.wb_tasks.specs.declared.step.DeviceStep.TheVariants.{Read as ReadExtent, Write as WriteExtent, Sync, ReadMetadata, WriteNode, WriteRoot}
@@ -26,15 +26,15 @@ use Rattle.wb_tasks.specs.declared.step.Got.{Got}
 use Rattle.wb_tasks.specs.declared.step.Got.TheVariants.{Done, Fault}
 use Rattle.wb_devices.specs.declared.devices.Devices.{Devices}
 use Rattle.wb_devices.specs.declared.running.RunningCommit.{RunningCommit}
-use Rattle.wb_devices.specs.Committing.{goes_on, is_coming}
+use Rattle.wb_devices.specs.Committing.{goes_on}
 use Rattle.wb_devices.specs.Moving.{CanMove, DidSync, IsOutcome, OthersStay, SyncFails, Ways, device_in}
 use Rattle.wb_devices.specs.Stepping.{BufferStays, CommitGoes, DidPut, DidStep, Goes, PutFails, StepFails}
 use Rattle.wb_promise.specs.declared.job.Job.{Job}
 use Rattle.wb_promise.specs.States.{with_device}
 use Rattle.wb_promise.specs.Happenings.{LandedOr, Plain, sector_put}
 use Rattle.wb_promise.specs.Effects.{contents_for, led}
-use Rattle.wb_machine.specs.Life.{FailsOn, MayPutCommitted, PutsCommitted, commit_synced, commit_written, contents_of, device_step_of}
-use Rattle.wb_machine.specs.Serving.{ComesNext, DoesOn, FailsAt, FittedTo, HasRoomAt, IsDoable, IsFront, IsPut, MayBePut, Moves, PutsSector, RootComes, SyncComes, WasPut, commit_by, read_by}
+use Rattle.wb_machine.specs.Life.{FailsOn, MayBePut, WasPut, commit_synced, contents_of, device_step_of}
+use Rattle.wb_machine.specs.Serving.{ComesNext, DoesOn, FailsAt, FittedTo, HasRoomAt, IsDoable, IsFront, IsPut, Moves, PutComes, PutsSector, SyncComes, commit_by, read_by}
 use Rattle.wb_machine.proofs.Commits.{commit_of, same_commit}
 use Rattle.wb_machine.proofs.Doing.{did_read, did_write, did_sync, did_put, failed_read, failed_write, failed_sync, failed_put, puts_sector, same_device}
 use Rattle.wb_machine.proofs.Landing.{written_inside}
@@ -83,7 +83,7 @@ never_so disk image NodesSynced old new puts room fails = fails.2.1 room
 never_so disk image steps old new puts room fails = absurd puts
 
 -- where there is room it does not
-never_put : (disk : Memory) (commit : Option RunningCommit) (step : DeviceStep) (old new : List History) → IsPut step → ComesNext commit step old → IfSome commit (λ running. HasRoomFor disk (sector_put (coming_step running.image running.steps)) 1) → PutFails (memory_falters disk) (length old) commit step Fault old new → ⊥
+pub never_put : (disk : Memory) (commit : Option RunningCommit) (step : DeviceStep) (old new : List History) → IsPut step → ComesNext commit step old → IfSome commit (λ running. HasRoomFor disk (sector_put (coming_step running.image running.steps)) 1) → PutFails (memory_falters disk) (length old) commit step Fault old new → ⊥
 never_put disk None step old new put next room fails = next
 never_put disk (Some running) step old new put next room fails = never_so disk running.image running.steps old new (puts_sector running.image running.steps step _ put next.0) room (fails next.0)
 
@@ -304,44 +304,31 @@ module _ {F : Type 0} (disk : F → Memory) (named : F → Dev) (chosen : F → 
 pub as_fault : (may : Ways) (commit : Option RunningCommit) (step : DeviceStep) (got : Got) (size : ℕ) (was is : List History) (held held' : List Bytes) → got ≡ Fault → held ≡ held' → StepFails may commit step got size was held is → StepFails may commit step Fault size was held' is
 as_fault may commit step got size was is held held' e f fails = subst (λ (m : List Bytes). StepFails may commit step Fault size was m is) f (subst (λ (g : Got). StepFails may commit step g size was held is) e fails)
 
--- ---- the root of an opening
-
--- the root comes next where the nodes are safe
-is_root : (image : Image) (steps : CommitSteps) (b : Bool) → is_coming image steps WriteRoot && b ≡ true → steps ≡ NodesSynced
-is_root image (NodesWritten count) b e = absurd (cc)
-is_root image NodesSynced b e = refl
-is_root image RootWritten b e = absurd (cc)
-is_root image Committed b e = absurd (cc)
+-- ---- nodes and the root of an opening
 
 -- It was written, and the commit goes on.
-pub root_put : (old new : List History) (commit commit' : Option RunningCommit) (faults faults' : ℕ) → ComesNext commit WriteRoot old → Goes (length old) commit WriteRoot Done commit' → DidPut (length old) commit WriteRoot Done old faults new faults'
-    → (commit' ≡ commit_written commit) × PutsCommitted commit old new
-root_put old new None commit' faults faults' next goes did = absurd next
-root_put old new (Some running) commit' faults faults' next goes did =
-    let at : running.steps ≡ NodesSynced = is_root running.image running.steps _ next.0 in
-    let does = subst (λ (s : CommitSteps). DoesStep running.image s old new) at (did.0 next.0).0 in
-    (went_on old (Some running) commit' WriteRoot next goes ∙ ap (λ (s : CommitSteps). commit_of running.image (steps_after running.image s) running.placed) at, does)
+pub was_put_next : (old new : List History) (commit commit' : Option RunningCommit) (step : DeviceStep) (faults faults' : ℕ) → ComesNext commit step old → Goes (length old) commit step Done commit' → DidPut (length old) commit step Done old faults new faults'
+    → (commit' ≡ led commit Done) × WasPut commit step old new
+was_put_next old new None commit' step faults faults' next goes did = absurd next
+was_put_next old new (Some running) commit' step faults faults' next goes did = (went_on old (Some running) commit' step next goes, (next.0, (did.0 next.0).0))
 
--- where there is room it does not fail
-pub root_never : (disk : Memory) (new : List History) (commit : Option RunningCommit) → ComesNext commit WriteRoot disk.contents → IfSome commit (λ running. HasRoomFor disk (sector_put (coming_step running.image running.steps)) 1) → PutFails (memory_falters disk) (length disk.contents) commit WriteRoot Fault disk.contents new → ⊥
-root_never disk new commit next room fails = never_put disk commit WriteRoot disk.contents new tt next room fails
-
-root_lands : (choice : Choice) (old new : List History) (commit : Option RunningCommit) → MayBePut commit choice WriteRoot old new → MayPutCommitted commit choice old new
-root_lands choice old new None may = absurd may
-root_lands choice old new (Some running) may =
-    let at : running.steps ≡ NodesSynced = is_root running.image running.steps _ may.0 in
-    subst (λ (s : CommitSteps). LandedOr (lands Metadata choice (sector_put (coming_step running.image s))) (DoesStep running.image s old new) (new ≡ old)) at may.1
+-- there is room on the metadata device for the node or root that comes next
+pub room_there : (devices : Devices Memory) (commit : Option RunningCommit) (step : DeviceStep) → IsPut step → HasRoomAt devices commit step → IfSome commit (λ running. HasRoomFor devices.metadata (sector_put (coming_step running.image running.steps)) 1)
+room_there devices commit (WriteNode number) put room = room
+room_there devices commit WriteRoot put room = room
+room_there devices commit step put room = absurd put
 
 -- A step of an opening that failed over disks that fail by a choice has landed where that says so.
-pub opening_faltered : (old new : Devices Memory) (commit : Option RunningCommit) (step : DeviceStep) (moved : List Bytes) (choice : Choice) → device_step_of (Device step) ≡ Some step → RootComes step commit old.metadata.contents → HasRoomAt old commit step → OthersStay (device_of step) (contents_of old) (contents_of new)
+pub opening_faltered : (old new : Devices Memory) (commit : Option RunningCommit) (step : DeviceStep) (moved : List Bytes) (choice : Choice) → device_step_of (Device step) ≡ Some step → PutComes step commit old.metadata.contents → HasRoomAt old commit step → OthersStay (device_of step) (contents_of old) (contents_of new)
     → StepFails (falters_as (device_in (device_of step) old) (device_of step) choice) commit step Fault (length (device_in (device_of step) (contents_of old))) (device_in (device_of step) (contents_of old)) moved (device_in (device_of step) (contents_of new)) → ((left : ℕ) → step ≡ ReadMetadata left → ⊥) → FailsOn commit step choice (contents_of old) (contents_of new)
 opening_faltered old new commit (Sync device) moved choice kind comes room others fails reads = rebuilt (contents_of old) (contents_of new) device _ others (fails.2 ∙ ap (λ (l : ℕ → Bool). synced_where l (device_in device (contents_of old))) fails.1)
+opening_faltered old new commit (WriteNode number) moved choice kind comes room others fails reads =
+    (landed_put old.metadata choice commit (WriteNode number) old.metadata.contents new.metadata.contents tt comes room fails, rebuilt (contents_of old) (contents_of new) Metadata _ others refl)
 opening_faltered old new commit WriteRoot moved choice kind comes room others fails reads =
-    (root_lands choice old.metadata.contents new.metadata.contents commit (landed_put old.metadata choice commit WriteRoot old.metadata.contents new.metadata.contents tt comes room fails), rebuilt (contents_of old) (contents_of new) Metadata _ others refl)
+    (landed_put old.metadata choice commit WriteRoot old.metadata.contents new.metadata.contents tt comes room fails, rebuilt (contents_of old) (contents_of new) Metadata _ others refl)
 opening_faltered old new commit (ReadMetadata left) moved choice kind comes room others fails reads = absurd (reads left refl)
 opening_faltered old new commit (ReadExtent device e) moved choice kind comes room others fails reads = absurd (cc)
 opening_faltered old new commit (WriteExtent device e) moved choice kind comes room others fails reads = absurd (cc)
-opening_faltered old new commit (WriteNode number) moved choice kind comes room others fails reads = absurd (cc)
 
 -- a step that fails leaves the commit
 pub still : (size : ℕ) (commit commit' : Option RunningCommit) (step : DeviceStep) → CommitGoes size commit step Fault commit' → commit' ≡ commit
@@ -367,8 +354,7 @@ sync_goes Cache size old commit commit' e comes goes = goes
 sync_goes Origin size old commit commit' e comes goes = goes
 sync_goes Metadata size old None commit' e comes goes = goes
 sync_goes Metadata size old (Some running) commit' e comes goes =
-    went_on old (Some running) commit' (Sync Metadata) (comes.1, tt) (subst (λ (n : ℕ). Goes n (Some running) (Sync Metadata) Done commit') e goes)
-    ∙ ap (λ (s : CommitSteps). commit_of running.image (steps_after running.image s) running.placed) comes.0
+    went_on old (Some running) commit' (Sync Metadata) (comes, tt) (subst (λ (n : ℕ). Goes n (Some running) (Sync Metadata) Done commit') e goes)
 
 pub sync_done : (old new : Devices Memory) (commit commit' : Option RunningCommit) (device : Dev) (got : Got) → IsOutcome got → SyncComes device commit old.metadata.contents → OthersStay device old new
     → DidSync got (device_in device old).contents (device_in device old).faults (device_in device new).contents (device_in device new).faults → SyncFails (memory_falters (device_in device old)) got (device_in device old).contents (device_in device new).contents

@@ -1,5 +1,5 @@
 -- What every run gives to a state over a target: whoever has a task can do its next step.
-use Rattle.std.proofs.Common.{◌≡◌, ◌≤◌, ◌<◌, ◌+◌, ℕ, zero, suc, List, [], ◌∷◌, Option, Some, None, refl, sym, subst, arith, slice_get, length}
+use Rattle.std.proofs.Common.{◌≡◌, ◌≤◌, ◌<◌, ◌+◌, ℕ, zero, suc, List, [], ◌∷◌, Option, Some, None, refl, sym, ap, subst, arith, slice_get, length}
 use Rattle.std.specs.declared.alloc.Global.{Global}
 use Rattle.wb_types.specs.declared.mode.Dev.{Dev}
 use Rattle.wb_types.specs.declared.mode.Dev.TheVariants.{Metadata, Cache, Origin}
@@ -22,9 +22,11 @@ use Rattle.wb_devices.specs.declared.running.RunningCommit.{RunningCommit}
 use Rattle.wb_devices.specs.Moving.{device_in}
 use Rattle.wb_promise.specs.declared.job.Job.{Job}
 use Rattle.wb_promise.specs.declared.job.Job.TheVariants.{Read, Write, Flush, Suspend, Open, Invalidate, Migrate, Replace}
-use Rattle.wb_promise.specs.States.{Shape, Actor, Stands, Target as RunTarget}
+use Rattle.wb_promise.specs.States.{Shape, Actor, Opens as OpensIn, Stands, Target as RunTarget}
 use Rattle.wb_promise.specs.Happenings.{Awaits, Chosen, Puts, Opened, OfSome, DoesOpen, DoesPut, DoesSync, Gives}
+use Rattle.wb_meta.specs.declared.read_steps.ReadSteps.{ReadSteps}
 use Rattle.wb_runs.specs.Holding.{AreUsedRightly}
+use Rattle.wb_runs.specs.Laws.{OpeningFinds}
 use Rattle.wb_runs.specs.Progress.{IsFree}
 use Rattle.wb_machine.specs.declared.phase.Phase.{Phase}
 use Rattle.wb_machine.specs.declared.phase.Phase.TheVariants.{Closed, Underway, Standing}
@@ -72,7 +74,7 @@ module _ (shape : Shape) (devices : Devices (List History)) (commit : Option Run
   reads (Invalidate block) device e g = absurd g
   reads Flush device e g = absurd g
   reads Suspend device e g = absurd g
-  reads (Open mode) device e g = absurd g
+  reads (Open mode second) device e g = absurd g
   reads (Migrate migration block) device e g = (tt, g.0, g.3)
   reads (Replace old new) device e g = absurd g
 
@@ -82,7 +84,7 @@ module _ (shape : Shape) (devices : Devices (List History)) (commit : Option Run
   writes (Invalidate block) device e g = absurd g
   writes Flush device e g = absurd g
   writes Suspend device e g = absurd g
-  writes (Open mode) device e g = absurd g
+  writes (Open mode second) device e g = absurd g
   writes (Migrate migration block) device e g = (tt, g.0, g.3)
   writes (Replace old new) device e g = absurd g
 
@@ -92,7 +94,7 @@ module _ (shape : Shape) (devices : Devices (List History)) (commit : Option Run
   syncs (Invalidate block) g = syncs_next t commit devices.metadata chosen g.2
   syncs Flush g = syncs_next t commit devices.metadata chosen g.2
   syncs Suspend g = syncs_next t commit devices.metadata chosen g.2
-  syncs (Open mode) g = syncs_next t commit devices.metadata chosen g.2
+  syncs (Open mode second) g = syncs_next t commit devices.metadata chosen g.2
   syncs (Migrate migration block) g = syncs_next t commit devices.metadata chosen g.2
   syncs (Replace old new) g = syncs_next t commit devices.metadata chosen g.2
 
@@ -102,7 +104,7 @@ module _ (shape : Shape) (devices : Devices (List History)) (commit : Option Run
   writes_node (Invalidate block) number g = puts_next commit (WriteNode number) devices.metadata chosen g.2
   writes_node Flush number g = puts_next commit (WriteNode number) devices.metadata chosen g.2
   writes_node Suspend number g = puts_next commit (WriteNode number) devices.metadata chosen g.2
-  writes_node (Open mode) number g = puts_next commit (WriteNode number) devices.metadata chosen g.2
+  writes_node (Open mode second) number g = puts_next commit (WriteNode number) devices.metadata chosen g.2
   writes_node (Migrate migration block) number g = puts_next commit (WriteNode number) devices.metadata chosen g.2
   writes_node (Replace old new) number g = puts_next commit (WriteNode number) devices.metadata chosen g.2
 
@@ -112,7 +114,7 @@ module _ (shape : Shape) (devices : Devices (List History)) (commit : Option Run
   writes_root (Invalidate block) g = puts_next commit WriteRoot devices.metadata chosen g.2
   writes_root Flush g = puts_next commit WriteRoot devices.metadata chosen g.2
   writes_root Suspend g = puts_next commit WriteRoot devices.metadata chosen g.2
-  writes_root (Open mode) g = puts_next commit WriteRoot devices.metadata chosen g.2
+  writes_root (Open mode second) g = puts_next commit WriteRoot devices.metadata chosen g.2
   writes_root (Migrate migration block) g = puts_next commit WriteRoot devices.metadata chosen g.2
   writes_root (Replace old new) g = puts_next commit WriteRoot devices.metadata chosen g.2
 
@@ -122,7 +124,7 @@ module _ (shape : Shape) (devices : Devices (List History)) (commit : Option Run
   reads_metadata (Invalidate block) left g = g.2
   reads_metadata Flush left g = g.2
   reads_metadata Suspend left g = g.2
-  reads_metadata (Open mode) left g = g.2
+  reads_metadata (Open mode second) left g = g.2
   reads_metadata (Migrate migration block) left g = g.2
   reads_metadata (Replace old new) left g = g.2
 
@@ -136,7 +138,7 @@ module _ (shape : Shape) (devices : Devices (List History)) (commit : Option Run
   asks (Invalidate block) EndCommit g = g.2
   asks Flush EndCommit g = g.2
   asks Suspend EndCommit g = g.2
-  asks (Open mode) EndCommit g = g.2
+  asks (Open mode second) EndCommit g = g.2
   asks (Migrate migration block) EndCommit g = g.2
   asks (Replace old new) EndCommit g = g.2
   asks (Migrate migration block) (Map b c) g = tt
@@ -150,7 +152,7 @@ module _ (shape : Shape) (devices : Devices (List History)) (commit : Option Run
   asks (Invalidate block) step g = absurd g
   asks Flush step g = absurd g
   asks Suspend step g = absurd g
-  asks (Open mode) step g = absurd g
+  asks (Open mode second) step g = absurd g
   asks (Replace old new) step g = absurd g
 
   ends : (job : Job) → G job (End Finished) → ¬ Opens job
@@ -161,7 +163,7 @@ module _ (shape : Shape) (devices : Devices (List History)) (commit : Option Run
   ends Suspend g = λ o. o
   ends (Migrate migration block) g = λ o. o
   ends (Replace old new) g = λ o. o
-  ends (Open mode) g = λ o. opens_nobody t commit chosen (third g)
+  ends (Open mode second) g = λ o. opens_nobody t commit chosen (third g)
 
   pub possible : (job : Job) (next : Want) → G job next → IsPossible devices commit job next
   possible job (Cell step) g = tt
@@ -206,7 +208,7 @@ module _ (shape : Shape) (devices : Devices (List History)) (commit : Option Run
   pub all_can : AllCan devices commit actors
   all_can = λ a x at. can_step a x at x.task refl
 
-pub served : (shape : Shape) (n : ℕ) (devices : Devices Memory) (o : Phase) → IsFree shape (state_of n devices o) → AreUsedRightly shape (state_of n devices o) → IsPhaseServed shape.geometry devices o
-served shape n devices Closed is_free used = tt
-served shape n devices (Underway opener) is_free used = tt
-served shape n devices (Standing t members) is_free used = record { suited = used.suited; can = all_can shape (contents_of devices) t.commit (target_told t) (with_cards members.items t.crew.cards) is_free }
+pub served : (shape : Shape) (n : ℕ) (devices : Devices Memory) (o : Phase) → IsFree shape (state_of n devices o) → AreUsedRightly shape (state_of n devices o) → OpeningFinds shape.geometry (state_of n devices o) → IsPhaseServed shape.geometry devices o
+served shape n devices Closed is_free used finds = tt
+served shape n devices (Underway opener) is_free used finds = λ was is none. finds opener.asked.mode was (ap (λ (r : Option (ReadSteps Global)). OpensIn opener.asked.mode r) is) none
+served shape n devices (Standing t members) is_free used finds = record { suited = used.suited; can = all_can shape (contents_of devices) t.commit (target_told t) (with_cards members.items t.crew.cards) is_free }

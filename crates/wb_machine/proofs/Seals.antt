@@ -2,7 +2,6 @@
 use Rattle.std.proofs.Common.{◌≡◌, ◌<◌, ◌≤◌, ◌==◌, ◌+◌, ℕ, zero, suc, Bool, true, false, List, [], ◌∷◌, Option, Some, None, refl, sym, ap, subst, ◌∙◌, arith, cond, get_or, set, drop, length, length-set, replicate, drop-cons, is_some, slice_get, slice_set, unwrap_or, if◌then◌else◌}
 use Rattle.std.proofs.lemmas.List.{get_or-set_same, get_or-replicate, set-get_or, length-replicate}
 use Rattle.std.specs.List.{count_by}
-use Rattle.wb_types.specs.declared.geometry.Geometry.{Geometry}
 use Rattle.wb_tree.specs.Mapping.{Mapping}
 use Rattle.wb_dirty.specs.ImageReading.{with_bits}
 use Rattle.wb_policy.specs.declared.quiet.Quiet.{Quiet}
@@ -94,21 +93,21 @@ as_many crew a [] = refl
 as_many crew a (step ∷ steps) = as_many (crew_after crew a step) a steps ∙ length-set crew.cards a (card_after crew.words step (card_of crew a))
 
 -- What is made of what was read: the desk has the tree, and the blocks of its entries were sealed, each with its dirty bit.
-pub made_so : (g : Geometry) (n : ℕ) (asked : Asked) (made : Made) (tree : Mapping) (crew : CrewState) → asked.actor < n
-    → made.target.desk ≡ opened g (made.root.generation + 1) tree made.used.items asked.mode made.target.desk.policy (threshold_of None) (count_by is_some made.target.desk.tree.entries)
+pub made_so : (n : ℕ) (asked : Asked) (made : Made) (tree : Mapping) (crew : CrewState) → asked.actor < n
+    → made.target.desk ≡ opened made.root.geometry (made.root.generation + 1) tree made.used.items asked.mode made.target.desk.policy (threshold_of None) (count_by is_some made.target.desk.tree.entries)
     → made.target.crew ≡ crew_by crew asked.actor (sealing_steps made.root.clean 0 (with_bits made.dirty tree.entries))
-    → crew.words ≡ fresh_words g.origin_blocks → crew.cards ≡ replicate n blank_card → crew.blocks ≡ g.origin_blocks → made.target.failed ≡ false → made.target.commit ≡ None → made.members.items ≡ replicate n free → IsMade g n asked made
-made_so g n asked made tree crew h desk sealed fresh cards blocks failed commit members =
+    → crew.words ≡ fresh_words made.root.geometry.origin_blocks → crew.cards ≡ replicate n blank_card → crew.blocks ≡ made.root.geometry.origin_blocks → made.target.failed ≡ false → made.target.commit ≡ None → made.members.items ≡ replicate n free → IsMade n asked made
+made_so n asked made tree crew h desk sealed fresh cards blocks failed commit members =
     let entries = with_bits made.dirty tree.entries in
     let seals = sealing_steps made.root.clean 0 entries in
-    let words = fresh_words g.origin_blocks in
+    let words = fresh_words made.root.geometry.origin_blocks in
     let same : made.target.desk.tree ≡ tree = ap (λ (d : DeskState Quiet). d.tree) desk in
     let steps : seals ≡ seals_of (read_of made) = ap (λ (t : Mapping). sealing_steps made.root.clean 0 (with_bits made.dirty t.entries)) (sym same) in
     let words_so : made.target.crew.words ≡ words_by words seals = ap (λ (k : CrewState). k.words) sealed ∙ words_come crew asked.actor seals ∙ ap (λ (w : Words). words_by w seals) fresh in
     let blank : card_of crew asked.actor ≡ blank_card = ap (λ (cs : List Card). get_or cs asked.actor blank_card) cards ∙ get_or-replicate n asked.actor blank_card blank_card h in
     let there : asked.actor < length crew.cards = subst (λ k. asked.actor < k) (sym (ap length cards ∙ length-replicate n blank_card)) h in
     record {
-      desk_is = desk ∙ ap (λ (t : Mapping). opened g (made.root.generation + 1) t made.used.items asked.mode made.target.desk.policy (threshold_of None) (count_by is_some made.target.desk.tree.entries)) (sym same);
+      desk_is = desk ∙ ap (λ (t : Mapping). opened made.root.geometry (made.root.generation + 1) t made.used.items asked.mode made.target.desk.policy (threshold_of None) (count_by is_some made.target.desk.tree.entries)) (sym same);
       words_are = words_so ∙ ap (λ (ss : List CellStep). words_by words ss) steps;
       cards_are = ap (λ (k : CrewState). k.cards) sealed ∙ cards_come crew asked.actor seals there
           ∙ ap (λ (w : Words). slice_set crew.cards asked.actor (card_by w (card_of crew asked.actor) seals)) fresh

@@ -1,8 +1,10 @@
 -- What an event does over a target that stands is what wb_promise says.
 use Rattle.std.proofs.Common.{◌≡◌, ◌≤◌, inl, inr, ℕ, zero, suc, Bool, true, false, List, [], ◌∷◌, Option, Some, None, refl, sym, ap, subst, ◌∙◌, if◌then◌else◌, slice_get, slice_set, slice_index_or, length, length-set, replicate, is_none, arith}
 use Rattle.std.specs.declared.alloc.Global.{Global}
-use Rattle.wb_types.specs.declared.geometry.Geometry.{Geometry}
 use Rattle.wb_types.specs.Limits.{most_nodes}
+use Rattle.wb_types.specs.declared.geometry.Geometry.{Geometry}
+use Rattle.wb_types.specs.declared.version.Version.TheVariants.{Two}
+use Rattle.wb_meta.specs.Sizes.{AreSameSizes}
 use Rattle.wb_types.specs.declared.mode.Dev.TheVariants.{Metadata, Cache, Origin}
 use Rattle.wb_types.specs.declared.number.OBlock.{OBlock}
 use Rattle.wb_types.specs.declared.number.CBlock.{CBlock}
@@ -40,7 +42,7 @@ use Rattle.wb_promise.specs.declared.event.Event.TheVariants.{Start, Step, Fault
 use Rattle.wb_promise.specs.declared.event.What.{What}
 use Rattle.wb_promise.specs.declared.event.What.TheVariants.{Skipped, Refused, Started, Stepped, Stopped}
 use Rattle.wb_promise.specs.States.{Shape, Actor, Stands, Phase, Target as RunTarget}
-use Rattle.wb_promise.specs.Happenings.{Chosen, Plain, Cut, Orders, Looks, Begins, Reaches, Puts, Commits, Asks, Opened, OfSome, Awaits, DoesNotApply, DoesMap, DoesRelease, DoesUnmap, Gives, Falters, IsSuspending, MayFailAt, StartGives, StartsAs}
+use Rattle.wb_promise.specs.Happenings.{Chosen, Plain, Cut, Orders, Looks, Begins, Reaches, Puts, Commits, Asks, Opened, OfSome, Awaits, DoesNotApply, DoesMap, DoesRelease, DoesUnmap, Gives, Falters, IsSuspending, MayFailAt, StartGives, StartsAs, most_for}
 use Rattle.wb_promise.specs.Effects.{actor_then, after_what, asked_desk, begun_desk, commit_then, desk_then, devices_then, given, job_of, phase_given, seen_then, task_then, went, words_then}
 use Rattle.wb_runs.proofs.Desks.{is_live, is_unmappable}
 use Rattle.wb_machine.specs.declared.target.Target.{Target}
@@ -87,7 +89,7 @@ in_place devices t actors a (Write extent content) x w fits alone at e (inr (inr
 in_place devices t actors a (Invalidate block) x w fits alone at e (inr (inr (inr f))) = f (passes_by t.desk.mode fits)
 in_place devices t actors a Flush x w fits alone at e (inr (inr (inr f))) = f tt
 in_place devices t actors a Suspend x w fits alone at e (inr (inr (inr f))) = f tt
-in_place devices t actors a (Open mode) x w fits alone at e (inr (inr (inr f))) = absurd (cc)
+in_place devices t actors a (Open mode second) x w fits alone at e (inr (inr (inr f))) = absurd (cc)
 in_place devices t actors a (Migrate migration block) x w fits alone at e (inr (inr (inr f))) = f tt
 in_place devices t actors a (Replace old new) x w fits alone at e (inr (inr (inr f))) = f tt
 
@@ -98,7 +100,7 @@ of_target (Write extent content) b = refl
 of_target (Invalidate block) b = refl
 of_target Flush b = refl
 of_target Suspend b = refl
-of_target (Open mode) b = absurd (cc)
+of_target (Open mode second) b = absurd (cc)
 of_target (Migrate migration block) b = refl
 of_target (Replace old new) b = refl
 
@@ -108,7 +110,7 @@ starts_as shape w a (Write extent content) what chosen b g = g
 starts_as shape w a (Invalidate block) what chosen b g = g
 starts_as shape w a Flush what chosen b g = g
 starts_as shape w a Suspend what chosen b g = absurd (cc)
-starts_as shape w a (Open mode) what chosen b g = absurd (cc)
+starts_as shape w a (Open mode second) what chosen b g = absurd (cc)
 starts_as shape w a (Migrate migration block) what chosen b g = g
 starts_as shape w a (Replace old new) what chosen b g = g
 
@@ -119,7 +121,7 @@ phase_so words desk (Write extent content) chosen = refl
 phase_so words desk (Invalidate block) chosen = refl
 phase_so words desk Flush chosen = refl
 phase_so words desk Suspend chosen = refl
-phase_so words desk (Open mode) chosen = refl
+phase_so words desk (Open mode second) chosen = refl
 phase_so words desk (Migrate migration block) Plain = refl
 phase_so words desk (Migrate migration block) (Cut cut) = refl
 phase_so words desk (Migrate migration block) (Orders cut cache) = refl
@@ -149,7 +151,7 @@ given_so shape devices t actors a x (Write extent content) chosen w at = rw at r
 given_so shape devices t actors a x (Invalidate block) chosen w at = rw at refl
 given_so shape devices t actors a x Flush chosen w at = rw at refl
 given_so shape devices t actors a x Suspend chosen w at = rw at refl
-given_so shape devices t actors a x (Open mode) chosen w at = absurd (cc)
+given_so shape devices t actors a x (Open mode second) chosen w at = absurd (cc)
 given_so shape devices t actors a x (Migrate migration block) chosen w at = rw at (ap (λ (p : Phase Quiet Global). record { devices = devices; commit = t.commit; phase = p; actors = slice_set actors a (given {P = Quiet} {A = Global} shape t.desk.mode x (Migrate migration block) chosen) })
     (phase_so t.crew.words t.desk (Migrate migration block) chosen))
 given_so shape devices t actors a x (Replace old new) chosen w at = rw at (ap (λ (p : Phase Quiet Global). record { devices = devices; commit = t.commit; phase = p; actors = slice_set actors a (given {P = Quiet} {A = Global} shape t.desk.mode x (Replace old new) chosen) })
@@ -368,7 +370,7 @@ module _ (shape : Shape) (devices : Devices (List History)) (commit : Option Run
   desk_sizes (Invalidate block) (Desk (Map b c)) g = absurd g
   desk_sizes Flush (Desk (Map b c)) g = absurd g
   desk_sizes Suspend (Desk (Map b c)) g = absurd g
-  desk_sizes (Open mode) (Desk (Map b c)) g = absurd g
+  desk_sizes (Open mode second) (Desk (Map b c)) g = absurd g
   desk_sizes (Replace old new) (Desk (Map b c)) g = absurd g
   desk_sizes (Migrate migration block) (Desk (Unmap b)) g = unmap_sizes t.desk b chosen g.2
   desk_sizes (Read extent) (Desk (Unmap b)) g = absurd g
@@ -376,7 +378,7 @@ module _ (shape : Shape) (devices : Devices (List History)) (commit : Option Run
   desk_sizes (Invalidate block) (Desk (Unmap b)) g = unmap_sizes t.desk b chosen g.2
   desk_sizes Flush (Desk (Unmap b)) g = absurd g
   desk_sizes Suspend (Desk (Unmap b)) g = absurd g
-  desk_sizes (Open mode) (Desk (Unmap b)) g = absurd g
+  desk_sizes (Open mode second) (Desk (Unmap b)) g = absurd g
   desk_sizes (Replace old new) (Desk (Unmap b)) g = absurd g
   desk_sizes (Migrate migration block) (Desk (ReleaseOrder b)) g = release_sizes t.desk actor.orders b chosen g.2
   desk_sizes (Read extent) (Desk (ReleaseOrder b)) g = absurd g
@@ -384,7 +386,7 @@ module _ (shape : Shape) (devices : Devices (List History)) (commit : Option Run
   desk_sizes (Invalidate block) (Desk (ReleaseOrder b)) g = absurd g
   desk_sizes Suspend (Desk (ReleaseOrder b)) g = absurd g
   desk_sizes Flush (Desk (ReleaseOrder b)) g = release_sizes t.desk actor.awaiting b chosen g.2
-  desk_sizes (Open mode) (Desk (ReleaseOrder b)) g = absurd g
+  desk_sizes (Open mode second) (Desk (ReleaseOrder b)) g = absurd g
   desk_sizes (Replace old new) (Desk (ReleaseOrder b)) g = absurd g
   desk_sizes job (Desk (Arrive most)) g = begun_sizes t.desk chosen
   desk_sizes job (Desk (Ask most)) g = begun_sizes t.desk chosen
@@ -453,7 +455,7 @@ start_sizes shape desk m job what desk' m' s = by_test (is_none m.task) s
     given_sizes (Invalidate block) chosen = refl
     given_sizes Flush chosen = refl
     given_sizes Suspend chosen = refl
-    given_sizes (Open mode) chosen = refl
+    given_sizes (Open mode second) chosen = refl
 
     by_what : (what : What) (chosen : Chosen Quiet Global) → LeavesStarted shape desk m job what chosen desk' m' → desk'.geometry ≡ desk.geometry
     by_what Started chosen l = ap (λ (k : DeskState Quiet). k.geometry) l.0 ∙ given_sizes job chosen
@@ -481,7 +483,7 @@ bits_then next got seen (Write extent content) = refl
 bits_then next got seen (Invalidate block) = refl
 bits_then next got seen Flush = refl
 bits_then next got seen Suspend = as_many_seen next got seen
-bits_then next got seen (Open mode) = refl
+bits_then next got seen (Open mode second) = refl
 bits_then next got seen (Migrate migration block) = refl
 bits_then next got seen (Replace old new) = refl
 
@@ -530,9 +532,9 @@ pub given_roomy : (shape : Shape) (mode : Mode) (m : Member) (job : Job) (chosen
 given_roomy shape mode m (Read extent) chosen = tt
 given_roomy shape mode m (Write extent content) chosen = tt
 given_roomy shape mode m (Invalidate block) chosen = tt
-given_roomy shape mode m Flush chosen = no_more (most_nodes shape.geometry.version false shape.geometry.cache_blocks)
-given_roomy shape mode m Suspend chosen = (no_more (most_nodes shape.geometry.version true shape.geometry.cache_blocks), length_replicate shape.geometry.cache_blocks false)
-given_roomy shape mode m (Open opened_in) chosen = tt
+given_roomy shape mode m Flush chosen = no_more (most_for shape.geometry false)
+given_roomy shape mode m Suspend chosen = (no_more (most_for shape.geometry true), length_replicate shape.geometry.cache_blocks false)
+given_roomy shape mode m (Open opened_in second) chosen = tt
 given_roomy shape mode m (Migrate migration block) chosen = tt
 given_roomy shape mode m (Replace old new) chosen = tt
 
@@ -554,6 +556,19 @@ roomy_set g (y ∷ ys) zero m all r zero x e = let same : m ≡ x = cc in subst 
 roomy_set g (y ∷ ys) zero m all r (suc b) x e = all (suc b) x e
 roomy_set g (y ∷ ys) (suc a) m all r zero x e = all zero x e
 roomy_set g (y ∷ ys) (suc a) m all r (suc b) x e = roomy_set g ys a m (λ c z h. all (suc c) z h) r b x e
+
+-- for the target's own geometry too, which has the same sizes
+pub own_room : (g own : Geometry) (m : Member) → AreSameSizes own g → IsRoomy g m → IsRoomy own m
+own_room g own m same roomy = of_task m.task roomy
+  where
+    of_job : (job : TaskJob) → AllowsImages g m.seen job → AllowsImages own m.seen job
+    of_job (Flushing serves most) a = subst (λ (n : ℕ). most_nodes Two false n ≤ most) (sym same.cache_blocks) a
+    of_job (Suspending looks most) a = (subst (λ (n : ℕ). most_nodes Two true n ≤ most) (sym same.cache_blocks) a.0, a.1 ∙ sym same.cache_blocks)
+    of_job job a = tt
+
+    of_task : (task : Option (Job × Plan)) → IsTaskRoomy g m.seen task → IsTaskRoomy own m.seen task
+    of_task None a = tt
+    of_task (Some doing) a = of_job doing.1.job a
 
 pub roomy_free : (g : Geometry) (n : ℕ) → AllRoomy g (replicate n free)
 roomy_free g zero b x e = absurd (cc)

@@ -73,7 +73,7 @@ module _ (shape : Shape) (w : Now) (actor : Actor) (got : Got) (read : List Byte
   read_plain (Invalidate block) device e g = absurd g
   read_plain Flush device e g = absurd g
   read_plain Suspend device e g = absurd g
-  read_plain (Open mode) device e g = absurd g
+  read_plain (Open mode second) device e g = absurd g
   read_plain (Migrate migration block) device e g = g.1.1
   read_plain (Replace old new) device e g = absurd g
 
@@ -120,7 +120,7 @@ actor_size w None change devices s k = s
 actor_size w (Some x) change devices s k = k x
 
 cleared_size : (w : Now) (job : Job) → AsLarge w.devices (cleared w job).devices
-cleared_size w (Open mode) = same_size w.devices
+cleared_size w (Open mode second) = same_size w.devices
 cleared_size w job = same_size w.devices
 
 crashed_size : (choice : Choice) (devices : Devices (List History)) → AsLarge devices (all_crashed choice devices)

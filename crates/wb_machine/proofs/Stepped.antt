@@ -1,6 +1,9 @@
 -- What a member is after a step on its job, by the parts that the step changes.
-use Rattle.std.proofs.Common.{◌≡◌, ◌∙◌, inr, ℕ, Bool, true, false, List, [], Option, Some, None, refl, sym, ap, subst, ◌≢◌, Vec, arith}
+use Rattle.std.proofs.Common.{◌≡◌, ◌≤◌, ◌∙◌, inr, ℕ, Bool, true, false, List, [], Option, Some, None, refl, sym, ap, subst, ◌≢◌, Vec, arith}
+use Rattle.wb_types.specs.Limits.{most_nodes}
 use Rattle.wb_types.specs.declared.geometry.Geometry.{Geometry}
+use Rattle.wb_types.specs.declared.version.Version.{Version}
+use Rattle.wb_types.specs.declared.version.Version.TheVariants.{One, Two}
 use Rattle.wb_disk.specs.Device.{Content as Bytes, History}
 use Rattle.wb_devices.specs.declared.devices.Devices.{Devices}
 use Rattle.wb_policy.specs.declared.order.Order.{Order}
@@ -114,6 +117,11 @@ module _ (devices : Devices (List History)) (old : Target) (a : ℕ) (m : Member
 
 -- ---- what a step of a task asks for
 
+-- a clean image has most nodes in the second version
+in_either : (version : Version) (blocks : ℕ) → most_nodes version true blocks ≤ most_nodes Two true blocks
+in_either One blocks = omega arith
+in_either Two blocks = omega arith
+
 allows_next : (g : Geometry) (seen : List Bool) (job : TaskJob) (next : Want) → IsOwnStep job next → AllowsImages g seen job → Allows g seen next
 allows_next g seen job (Cell step) own a = tt
 allows_next g seen job (Device step) own a = tt
@@ -152,7 +160,7 @@ allows_next g seen (Flushing serves bound) (Desk (Ask most)) own a = omega (arit
 allows_next g seen (Flushing serves bound) (Desk (BeginCommit most)) own a = absurd own
 allows_next g seen (Suspending blocks bound) (Desk (Arrive most)) own a = absurd own
 allows_next g seen (Suspending blocks bound) (Desk (Ask most)) own a = absurd own
-allows_next g seen (Suspending blocks bound) (Desk (BeginCommit most)) own a = let enough = a.0 in (omega (arith, own, enough), a.1)
+allows_next g seen (Suspending blocks bound) (Desk (BeginCommit most)) own a = let enough = a.0 in let few = in_either g.version g.cache_blocks in (omega (arith, own, enough, few), a.1)
 allows_next g seen (Opening left) (Desk (Arrive most)) own a = absurd own
 allows_next g seen (Opening left) (Desk (Ask most)) own a = absurd own
 allows_next g seen (Opening left) (Desk (BeginCommit most)) own a = absurd own

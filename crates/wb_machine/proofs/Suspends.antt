@@ -53,7 +53,7 @@ module _ (shape : Shape) (devices : Devices (List History)) (t : Target) (member
   of_suspend (Invalidate block) w b = absurd (cc)
   of_suspend Flush w b = absurd (cc)
   of_suspend Suspend w b = refl
-  of_suspend (Open mode) w b = absurd (cc)
+  of_suspend (Open mode second) w b = absurd (cc)
   of_suspend (Migrate migration block) w b = absurd (cc)
   of_suspend (Replace old new) w b = absurd (cc)
 

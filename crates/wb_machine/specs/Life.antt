@@ -1,5 +1,5 @@
 -- A machine that runs, as its callers see it, and what an event does to it, by the definitions of wb_promise.
-use Rattle.std.specs.Prelude.{◌≡◌, ◌<◌, ◌==◌, ◌++◌, ◌∷◌, [], ℕ, Bool, true, false, not, List, Option, Some, None, IfSome, length, replicate, slice_set}
+use Rattle.std.specs.Prelude.{◌≡◌, ◌<◌, ◌==◌, ◌++◌, ◌∷◌, [], ℕ, Bool, true, false, not, List, Option, Some, None, length, replicate, slice_set}
 use Rattle.std.specs.declared.alloc.Global.{Global}
 use Rattle.wb_types.specs.declared.geometry.Geometry.{Geometry}
 use Rattle.wb_types.specs.declared.mode.Dev.{Dev}
@@ -11,11 +11,7 @@ use Rattle.wb_disk.specs.Memory.{Memory}
 use Rattle.wb_disk.specs.Crash.{Choice}
 use Rattle.wb_disk.specs.Failing.{lands, synced_where}
 use Rattle.wb_words.specs.Cards.{blank_card}
-use Rattle.wb_format.specs.Layout.{SpellsRoot}
-use Rattle.wb_format.specs.declared.root.Root.{Root}
 use Rattle.wb_meta.specs.Formats.{IsFormatted}
-use Rattle.wb_meta.specs.Steps.{Puts, slot_of}
-use Rattle.wb_meta.specs.declared.commit_steps.CommitSteps.TheVariants.{RootWritten, Done as Committed}
 use Rattle.wb_meta.specs.declared.read_steps.ReadSteps.{ReadSteps}
 use Rattle.wb_meta.specs.declared.read_steps.ReadSteps.TheVariants.{Begun}
 use Rattle.wb_policy.specs.declared.quiet.Quiet.{Quiet}
@@ -25,7 +21,8 @@ use Rattle.wb_devices.specs.Moving.{device_in}
 use Rattle.wb_devices.specs.declared.running.RunningCommit.{RunningCommit}
 use Rattle.wb_tasks.specs.Plan.{Plan, want}
 use Rattle.wb_tasks.specs.declared.step.DeviceStep.{DeviceStep}
-use Rattle.wb_tasks.specs.declared.step.DeviceStep.TheVariants.{Sync, ReadMetadata, WriteRoot}
+use Rattle.wb_tasks.specs.declared.step.DeviceStep.TheVariants.{Sync, ReadMetadata, WriteNode, WriteRoot}
+use Rattle.wb_tasks.specs.declared.step.Got.TheVariants.{Done}
 use Rattle.wb_tasks.specs.declared.step.Want.{Want}
 use Rattle.wb_tasks.specs.declared.step.Want.TheVariants.{Device, End}
 use Rattle.wb_tasks.specs.declared.step.Answer.TheVariants.{Done as Finished}
@@ -36,8 +33,9 @@ use Rattle.wb_promise.specs.declared.event.Event.{Event}
 use Rattle.wb_promise.specs.declared.event.What.{What}
 use Rattle.wb_promise.specs.declared.event.Record.{Record}
 use Rattle.wb_promise.specs.States.{Shape, State, Actor, Phase as RunPhase, Stands, Gone, Opens, resting, start, with_device}
-use Rattle.wb_promise.specs.Happenings.{Chosen, Happening, LandedOr, MayBe, May}
-use Rattle.wb_promise.specs.Effects.{after_what, after_happening, after_all, IsRun, records_of}
+use Rattle.wb_promise.specs.Happenings.{Chosen, Happening, Puts, DoesPut, FailsPut, MayBe, May}
+use Rattle.wb_promise.specs.Effects.{led, after_what, after_happening, after_all, IsRun, records_of}
+use Rattle.wb_machine.specs.declared.asked.Asked.{Asked}
 use Rattle.wb_machine.specs.declared.making.Made.{Made}
 use Rattle.wb_machine.specs.declared.phase.Phase.{Phase}
 use Rattle.wb_machine.specs.declared.phase.Phase.TheVariants.{Closed, Underway, Standing}
@@ -66,14 +64,14 @@ pub record Life : Type 0 where
 abbrev pub contents_of : Devices Memory → Devices (List History)
 contents_of devices = record { metadata = devices.metadata.contents; cache = devices.cache.contents; origin = devices.origin.contents }
 
--- who opens in this mode, with this left of the opening
-abbrev pub opening_actor : Mode → Plan → Actor
-opening_actor mode plan = record { task = Some (Open mode, plan); card = blank_card; orders = []; awaiting = []; buffer = []; seen = []; share = Nothing }
+-- who has asked for an opening so, with this left of it
+abbrev pub opening_actor : Asked → Plan → Actor
+opening_actor asked plan = record { task = Some (Open asked.mode asked.second, plan); card = blank_card; orders = []; awaiting = []; buffer = []; seen = []; share = Nothing }
 
 -- Beside who opens nobody is at anything. Over a target each is at what its member is at, and has a card.
 abbrev pub actors_of : ℕ → Phase → List Actor
 actors_of actors Closed = replicate actors resting
-actors_of actors (Underway opener) = slice_set (replicate actors resting) opener.asked.actor (opening_actor opener.asked.mode opener.task)
+actors_of actors (Underway opener) = slice_set (replicate actors resting) opener.asked.actor (opening_actor opener.asked opener.task)
 actors_of actors (Standing target members) = with_cards members.items target.crew.cards
 
 abbrev pub phase_of : Phase → RunPhase Quiet Global
@@ -126,14 +124,14 @@ abbrev pub is_sound : Phase → Bool
 is_sound (Standing target members) = not target.failed
 is_sound phase = false
 
--- the mode of an opening
-abbrev pub opened_in : Job → Option Mode
-opened_in (Open mode) = Some mode
-opened_in job = None
+-- what this actor asks for, if the job is an opening
+abbrev pub asked_by : ℕ → Job → Option Asked
+asked_by actor (Open mode second) = Some (record { actor = actor; mode = mode; second = second })
+asked_by actor job = None
 
 -- a job of a target that stands
 abbrev pub wants_target : Job → Bool
-wants_target (Open mode) = false
+wants_target (Open mode second) = false
 wants_target job = true
 
 -- one that a target of this mode has: an invalidation is of passthrough alone
@@ -143,7 +141,7 @@ suits_mode job mode = true
 
 -- one that starts whatever the others are at
 abbrev pub starts_beside : Job → Bool
-starts_beside (Open mode) = false
+starts_beside (Open mode second) = false
 starts_beside Suspend = false
 starts_beside job = true
 
@@ -162,14 +160,9 @@ abbrev pub reading_failed : Dev → Option (ReadSteps Global) → Option (ReadSt
 reading_failed Metadata reading = None
 reading_failed device reading = reading
 
--- the commit of the root, once that was written
-abbrev pub commit_written : Option RunningCommit → Option RunningCommit
-commit_written None = None
-commit_written (Some commit) = Some (record commit { steps = RootWritten })
-
--- and once the metadata are durable
+-- the commit of an opening goes on once the metadata are durable
 abbrev pub commit_synced : Dev → Option RunningCommit → Option RunningCommit
-commit_synced Metadata (Some commit) = Some (record commit { steps = Committed })
+commit_synced Metadata commit = led commit Done
 commit_synced device commit = commit
 
 -- after a fault on the metadata there is none
@@ -177,23 +170,19 @@ abbrev pub commit_failed : Dev → Option RunningCommit → Option RunningCommit
 commit_failed Metadata commit = None
 commit_failed device commit = commit
 
--- this root was written to its slot
-abbrev pub PutsRoot : Root → List History → List History → Type 0
-PutsRoot root old new = Puts (λ content. SpellsRoot content root) (slot_of root).0 old new
+-- A node or the root was written, or, where that has failed, may have been: the metadata were these, and are those.
+abbrev pub WasPut : Option RunningCommit → DeviceStep → List History → List History → Type 0
+WasPut commit step old new = DoesPut {P = Quiet} {A = Global} commit step old (Puts new)
 
--- so was that of the commit
-abbrev pub PutsCommitted : Option RunningCommit → List History → List History → Type 0
-PutsCommitted commit old new = IfSome commit (λ running. PutsRoot running.image.root old new)
+abbrev pub MayBePut : Option RunningCommit → Choice → DeviceStep → List History → List History → Type 0
+MayBePut commit choice step old new = FailsPut {P = Quiet} {A = Global} commit choice step old (Puts new)
 
--- though its write failed, where the choice says so
-abbrev pub MayPutCommitted : Option RunningCommit → Choice → List History → List History → Type 0
-MayPutCommitted commit choice old new = IfSome commit (λ running. LandedOr (lands Metadata choice (slot_of running.image.root).0) (PutsRoot running.image.root old new) (new ≡ old))
-
--- What a step that fails leaves of the devices: a sync, or the root of the commit, has landed where the choice says so; one that
--- reads changes nothing.
+-- What a step that fails leaves of the devices: a sync, or a node or root of the commit, has landed where the choice says so; one
+-- that reads changes nothing.
 abbrev pub FailsOn : Option RunningCommit → DeviceStep → Choice → Devices (List History) → Devices (List History) → Type 0
 FailsOn commit (Sync device) choice old new = new ≡ with_device device old (synced_where (lands device choice) (device_in device old))
-FailsOn commit WriteRoot choice old new = MayPutCommitted commit choice old.metadata new.metadata × (new ≡ record old { metadata = new.metadata })
+FailsOn commit (WriteNode number) choice old new = MayBePut commit choice (WriteNode number) old.metadata new.metadata × (new ≡ record old { metadata = new.metadata })
+FailsOn commit WriteRoot choice old new = MayBePut commit choice WriteRoot old.metadata new.metadata × (new ≡ record old { metadata = new.metadata })
 FailsOn commit step choice old new = new ≡ old
 
 -- ---- what an event does
@@ -227,5 +216,6 @@ pub record IsReached (life : Life) : Type 0 where
 abbrev pub device_step_of : Want → Option DeviceStep
 device_step_of (Device (Sync device)) = Some (Sync device)
 device_step_of (Device (ReadMetadata left)) = Some (ReadMetadata left)
+device_step_of (Device (WriteNode number)) = Some (WriteNode number)
 device_step_of (Device WriteRoot) = Some WriteRoot
 device_step_of next = None

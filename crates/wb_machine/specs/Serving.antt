@@ -21,7 +21,7 @@ use Rattle.wb_policy.specs.declared.quiet.Quiet.{Quiet}
 use Rattle.wb_tree.specs.declared.image.Image.{Image}
 use Rattle.wb_meta.specs.Steps.{coming_step}
 use Rattle.wb_meta.specs.declared.commit_steps.CommitSteps.{CommitSteps}
-use Rattle.wb_meta.specs.declared.commit_steps.CommitSteps.TheVariants.{NodesWritten, NodesSynced, RootWritten}
+use Rattle.wb_meta.specs.declared.commit_steps.CommitSteps.TheVariants.{NodesWritten, NodesSynced}
 use Rattle.wb_tasks.specs.Plan.{Plan, Fits, IsStep, table, want, device_of}
 use Rattle.wb_tasks.specs.Ready.{HoldsBlocks}
 use Rattle.wb_tasks.specs.declared.step.DeviceStep.{DeviceStep}
@@ -54,11 +54,15 @@ use Rattle.wb_stage.specs.Sharing.{share_then}
 use Rattle.wb_stage.specs.Stages.{DidAsk, DidBeginWith, is_all_done}
 use Rattle.wb_stage.specs.declared.share.Share.{Share}
 use Rattle.wb_promise.specs.States.{Shape, Actor, Stands, Gone, Target as RunTarget, block_size}
-use Rattle.wb_promise.specs.Happenings.{Chosen, Plain, Orders, Looks, Puts, AreMapped, Awaits, DoesPut, FailsPut, Gives, IsNextOf, MayFailAt, Falters, KeepsMigration, KeepsReplacement, StartGives, begun_as, extent_of, order_for, task_job, sector_put}
+use Rattle.wb_promise.specs.Happenings.{Chosen, Plain, Orders, Looks, Puts, AreMapped, Awaits, Gives, IsNextOf, MayFailAt, Falters, KeepsMigration, KeepsReplacement, StartGives, begun_as, extent_of, order_for, task_job, sector_put}
+use Rattle.wb_meta.specs.declared.read_steps.ReadSteps.{ReadSteps}
 use Rattle.wb_runs.specs.Holding.{AllSuited}
+use Rattle.wb_runs.specs.Laws.{FindsSizes}
 use Rattle.wb_promise.specs.Effects.{buffer_then, commit_then, contents_at, contents_for, cut_of, desk_then, device_done, device_failed, devices_then, job_of, looks_of, awaiting_then, orders_given, orders_then, seen_then, task_then, unseen}
 use Rattle.wb_machine.specs.declared.phase.Phase.{Phase}
-use Rattle.wb_machine.specs.declared.phase.Phase.TheVariants.{Standing}
+use Rattle.wb_machine.specs.declared.phase.Phase.TheVariants.{Standing, Underway}
+use Rattle.wb_machine.specs.declared.opener.Opener.{Opener}
+use Rattle.wb_machine.specs.Making.{reading_of}
 use Rattle.wb_machine.specs.declared.target.Target.{Target}
 use Rattle.wb_machine.specs.Life.{Now, contents_of}
 use Rattle.wb_machine.specs.Members.{Member, seat, somebody_works, with_cards, works_there}
@@ -210,21 +214,22 @@ abbrev pub noted_read : Job → Want → List Bytes → List Bytes
 noted_read job next read = if is_copied job next then [] else read
 
 abbrev pub Opens : Job → Type 0
-Opens (Open mode) = Unit {0}
+Opens (Open mode second) = Unit {0}
 Opens job = ⊥
 
 -- the step comes next of the commit that runs
 abbrev pub ComesNext : Option RunningCommit → DeviceStep → List History → Type 0
 ComesNext commit step device = IsNextOf commit step device (λ running. Unit {0})
 
--- where the step writes a root, it comes next of the commit
-abbrev pub RootComes : DeviceStep → Option RunningCommit → List History → Type 0
-RootComes WriteRoot commit device = ComesNext commit WriteRoot device
-RootComes step commit device = Unit {0}
+-- where the step writes a node or a root, it comes next of the commit
+abbrev pub PutComes : DeviceStep → Option RunningCommit → List History → Type 0
+PutComes (WriteNode number) commit device = ComesNext commit (WriteNode number) device
+PutComes WriteRoot commit device = ComesNext commit WriteRoot device
+PutComes step commit device = Unit {0}
 
--- where a commit runs, a sync of the metadata is its last step
+-- where a commit runs, so does a sync of the metadata
 abbrev pub SyncComes : Dev → Option RunningCommit → List History → Type 0
-SyncComes Metadata commit device = IfSome commit (λ running. (running.steps ≡ RootWritten) × (goes_on (length device) running.image running.steps (Sync Metadata) ≡ true))
+SyncComes Metadata commit device = IfSome commit (λ running. goes_on (length device) running.image running.steps (Sync Metadata) ≡ true)
 SyncComes device commit disk = Unit {0}
 
 -- a node or the root is written
@@ -232,13 +237,6 @@ abbrev pub IsPut : DeviceStep → Type 0
 IsPut (WriteNode number) = Unit {0}
 IsPut WriteRoot = Unit {0}
 IsPut step = ⊥
-
--- It was written, or, where that has failed, may have been: the metadata were these, and are those.
-abbrev pub WasPut : Option RunningCommit → DeviceStep → List History → List History → Type 0
-WasPut commit step old new = DoesPut {P = Quiet} {A = Global} commit step old (Puts new)
-
-abbrev pub MayBePut : Option RunningCommit → Choice → DeviceStep → List History → List History → Type 0
-MayBePut commit choice step old new = FailsPut {P = Quiet} {A = Global} commit choice step old (Puts new)
 
 -- the next step of a commit writes: a node, where there is one more, or the root
 abbrev pub PutsSector : Image → CommitSteps → Type 0
@@ -485,6 +483,11 @@ pub record AreServed (g : Geometry) (devices : Devices (List History)) (commit :
   pub suited : AllSuited g.origin_blocks actors
   pub can : AllCan devices commit actors
 
+-- an opening that reads one sector more of these metadata, while no commit runs, finds a root of these sizes, if it finds one
+abbrev pub FindsItsRoot : Geometry → List History → Opener → Type 0
+FindsItsRoot g metadata o = (was : ReadSteps Global) → reading_of o ≡ Some was → o.opening.commit ≡ None → FindsSizes g was metadata
+
 abbrev pub IsPhaseServed : Geometry → Devices Memory → Phase → Type 0
 IsPhaseServed g devices (Standing target members) = AreServed g (contents_of devices) target.commit (with_cards members.items target.crew.cards)
+IsPhaseServed g devices (Underway opener) = FindsItsRoot g devices.metadata.contents opener
 IsPhaseServed g devices phase = Unit {0}

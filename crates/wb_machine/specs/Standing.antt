@@ -1,22 +1,23 @@
 -- Where an opening of the machine stands in its table, and how far its reading has come there.
 use Rattle.std.specs.Prelude.{◌≡◌, ◌≤◌, ◌+◌, ℕ, Bool, true, false, List, Option, Some, None, length, slice_get}
 use Rattle.std.specs.declared.alloc.Global.{Global}
-use Rattle.wb_types.specs.Limits.{most_nodes}
 use Rattle.wb_types.specs.declared.geometry.Geometry.{Geometry}
 use Rattle.wb_disk.specs.Memory.{Memory}
-use Rattle.wb_meta.specs.Openings.{IsOpening}
+use Rattle.wb_meta.specs.Openings.{reopened}
 use Rattle.wb_meta.specs.Reads.{AreStepsOn, FitsDevice, IsDone, sectors_read}
+use Rattle.wb_meta.specs.Sizes.{AreSameSizes}
 use Rattle.wb_meta.specs.declared.commit_steps.CommitSteps.{CommitSteps}
-use Rattle.wb_meta.specs.declared.commit_steps.CommitSteps.TheVariants.{NodesSynced, RootWritten, Done as Committed}
+use Rattle.wb_meta.specs.declared.commit_steps.CommitSteps.TheVariants.{NodesWritten, NodesSynced, RootWritten, Done as Committed}
 use Rattle.wb_meta.specs.declared.read_steps.ReadSteps.{ReadSteps}
 use Rattle.wb_meta.specs.declared.read_steps.ReadSteps.TheVariants.{Done as AllRead}
 use Rattle.wb_meta.specs.declared.read_steps.State.{State}
 use Rattle.wb_tasks.specs.Tables.{TaskJob, Flushing, Suspending, Opening as OpeningJob}
 use Rattle.wb_tasks.specs.Plan.{Plan}
-use Rattle.wb_tasks.specs.Points.{OpenPoint, AtFirst, AtCache, AtOrigin, AtRead, AtRoot, AtRootSync, AtEnd, AtRefusal, open_left, open_answer}
+use Rattle.wb_tasks.specs.Points.{OpenPoint, AtFirst, AtCache, AtOrigin, AtRead, AtNodes, AtRoot, AtRootSync, AtEnd, AtRefusal, open_left, open_answer}
 use Rattle.wb_devices.specs.declared.devices.Devices.{Devices}
 use Rattle.wb_devices.specs.declared.running.RunningCommit.{RunningCommit}
 use Rattle.wb_words.specs.SharedWords.{flag}
+use Rattle.wb_promise.specs.Happenings.{IsAsked, most_for}
 use Rattle.wb_promise.specs.declared.job.Job.{Job}
 use Rattle.wb_machine.specs.Members.{Member}
 use Rattle.wb_machine.specs.declared.asked.Asked.{Asked}
@@ -35,16 +36,23 @@ abbrev pub IsReading : Geometry → ℕ → Option (ReadSteps Global) → Option
 IsReading g left None commit = ⊥
 IsReading g left (Some was) commit = (commit ≡ None) × (¬ IsDone was) × AreStepsOn g.meta_sectors was × (left + sectors_read was ≡ g.meta_sectors)
 
--- All was read of a tree of this geometry, and the commit of the root that comes next over it, not clean, has come so far.
-pub record HasReadAll (g : Geometry) (steps : CommitSteps) (reading : Option (ReadSteps Global)) (commit : Option RunningCommit) : Type 0 where
+-- All was read of a tree of these sizes, and the commit of the root that comes next over it, not clean, runs.
+pub record HasReadAll (g : Geometry) (reading : Option (ReadSteps Global)) (commit : Option RunningCommit) : Type 0 where
   pub state : State Global
   pub reading_is : reading ≡ Some (AllRead state)
   pub fits : FitsDevice g.meta_sectors state.root state.tree state.used.items
-  pub geometry : state.root.geometry ≡ g
+  pub sizes : AreSameSizes state.root.geometry g
   pub next : RunningCommit
   pub commit_is : commit ≡ Some next
-  pub opens : IsOpening next.image state.root
-  pub steps_are : next.steps ≡ steps
+  pub root_is : next.image.root ≡ reopened state.root
+
+-- that commit has come so far
+abbrev pub HasCommitted : Geometry → CommitSteps → Option (ReadSteps Global) → Option RunningCommit → Type 0
+HasCommitted g steps reading commit = (all : HasReadAll g reading commit) × (all.next.steps ≡ steps)
+
+-- it has written its nodes up to this one, and so many are left
+abbrev pub HasNodesLeft : Geometry → (left from : ℕ) → Option (ReadSteps Global) → Option RunningCommit → Type 0
+HasNodesLeft g left from reading commit = (all : HasReadAll g reading commit) × (all.next.steps ≡ NodesWritten from) × (length all.next.image.nodes.items ≡ from + left)
 
 -- how far the reading has come there, and the commit of the root
 abbrev pub HasComeTo : Geometry → OpenPoint → Option (ReadSteps Global) → Option RunningCommit → Type 0
@@ -52,31 +60,33 @@ HasComeTo g AtFirst reading commit = commit ≡ None
 HasComeTo g AtCache reading commit = IsReading g g.meta_sectors reading commit
 HasComeTo g AtOrigin reading commit = IsReading g g.meta_sectors reading commit
 HasComeTo g (AtRead left) reading commit = IsReading g left reading commit
-HasComeTo g AtRoot reading commit = HasReadAll g NodesSynced reading commit
-HasComeTo g AtRootSync reading commit = HasReadAll g RootWritten reading commit
-HasComeTo g AtEnd reading commit = HasReadAll g Committed reading commit
+HasComeTo g (AtNodes left from) reading commit = HasNodesLeft g left from reading commit
+HasComeTo g AtRoot reading commit = HasCommitted g NodesSynced reading commit
+HasComeTo g AtRootSync reading commit = HasCommitted g RootWritten reading commit
+HasComeTo g AtEnd reading commit = HasCommitted g Committed reading commit
 HasComeTo g (AtRefusal refusal) reading commit = Unit {0}
 
 -- What the answer wants was made once all was read, and not before.
-abbrev pub HasMadeThere : Geometry → ℕ → OpenPoint → Asked → Option Made → Type 0
-HasMadeThere g actors AtRoot asked made = HasMade g actors asked made
-HasMadeThere g actors AtRootSync asked made = HasMade g actors asked made
-HasMadeThere g actors AtEnd asked made = HasMade g actors asked made
-HasMadeThere g actors (AtRefusal refusal) asked made = Unit {0}
-HasMadeThere g actors point asked made = made ≡ None
+abbrev pub HasMadeThere : ℕ → OpenPoint → Asked → Option Made → Type 0
+HasMadeThere actors (AtNodes left from) asked made = HasMade actors asked made
+HasMadeThere actors AtRoot asked made = HasMade actors asked made
+HasMadeThere actors AtRootSync asked made = HasMade actors asked made
+HasMadeThere actors AtEnd asked made = HasMade actors asked made
+HasMadeThere actors (AtRefusal refusal) asked made = Unit {0}
+HasMadeThere actors point asked made = made ≡ None
 
--- An opening over metadata of this geometry, for so many actors, stands at some point.
+-- An opening over metadata of these sizes, for so many actors, asks for the version that it was asked for, and stands at some point.
 pub record StandsAt (g : Geometry) (actors : ℕ) (o : Opener) : Type 0 where
   pub point : OpenPoint
   pub plan_is : o.task ≡ plan_from g.meta_sectors point
-  pub geometry : o.opening.geometry ≡ g
+  pub asks : IsAsked g o.asked.second o.opening.geometry
   pub come : HasComeTo g point (reading_of o) o.opening.commit
-  pub made : HasMadeThere g actors point o.asked o.made
+  pub made : HasMadeThere actors point o.asked o.made
 
--- A flush, and a suspend, whose image is clean, allows as many nodes as its image may have, and a suspend has a bit for each cache block.
+-- A flush, and a suspend, whose image is clean, allows as many nodes as its image may have in either version, and a suspend has a bit for each cache block.
 abbrev pub AllowsImages : Geometry → List Bool → TaskJob → Type 0
-AllowsImages g seen (Flushing serves most) = most_nodes g.version false g.cache_blocks ≤ most
-AllowsImages g seen (Suspending looks most) = (most_nodes g.version true g.cache_blocks ≤ most) × (length seen ≡ g.cache_blocks)
+AllowsImages g seen (Flushing serves most) = most_for g false ≤ most
+AllowsImages g seen (Suspending looks most) = (most_for g true ≤ most) × (length seen ≡ g.cache_blocks)
 AllowsImages g seen job = Unit {0}
 
 abbrev pub IsTaskRoomy : Geometry → List Bool → Option (Job × Plan) → Type 0
@@ -89,12 +99,12 @@ IsRoomy g m = IsTaskRoomy g m.seen m.task
 abbrev pub AllRoomy : Geometry → List Member → Type 0
 AllRoomy g members = (a : ℕ) (m : Member) → slice_get members a ≡ Some m → IsRoomy g m
 
--- A target has as many words as the origin has blocks, knows whether it has failed, and its desk is of this geometry; whoever
+-- A target has as many words as the origin has blocks, knows whether it has failed, and its desk is of these sizes; whoever
 -- flushes or suspends it allows as many nodes as an image may have, and a suspend has a bit for each cache block.
 pub record IsWholeTarget (g : Geometry) (target : Target) (members : List Member) : Type 0 where
   pub blocks : target.crew.blocks ≡ g.origin_blocks
   pub failed : target.failed ≡ flag target.crew.words.fail
-  pub sizes : target.desk.geometry ≡ g
+  pub sizes : AreSameSizes target.desk.geometry g
   pub roomy : AllRoomy g members
 
 abbrev pub StandsSo : Geometry → ℕ → Phase → Type 0
@@ -102,7 +112,7 @@ StandsSo g actors Closed = Unit {0}
 StandsSo g actors (Underway opener) = StandsAt g actors opener
 StandsSo g actors (Standing target members) = IsWholeTarget g target members.items
 
--- The metadata device is of this geometry, and what is there is sound.
+-- The metadata device is of these sizes, and what is there is sound.
 pub record IsSoundPhase (g : Geometry) (actors : ℕ) (devices : Devices Memory) (phase : Phase) : Type 0 where
   pub whole : length devices.metadata.contents ≡ g.meta_sectors
   pub stands : StandsSo g actors phase

@@ -79,7 +79,7 @@ pub(crate) fn awaits(desk: &Desk<Quiet>, share: &Share, want: Want) -> bool
 }
 
 /// The image of a commit has whole nodes. It does nothing.
-fn see_commit(commit: &Option<RunningCommit>)
+pub(crate) fn see_commit(commit: &Option<RunningCommit>)
     ensures { IfSome commit.now (λ running. AreWhole running.image) }
 {
     if let Some(running) = commit {

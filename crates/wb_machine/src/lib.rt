@@ -9,6 +9,7 @@ mod asked;
 mod asking;
 mod keeping;
 mod known_crew;
+mod limits;
 mod machine;
 mod making;
 mod member;

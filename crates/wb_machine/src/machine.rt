@@ -23,7 +23,7 @@ use wb_disk::MemDisk;
 use wb_meta::format;
 use wb_policy::Quiet;
 use wb_promise::{Event, Record};
-use wb_runs::{never_stuck, words_are_used_rightly};
+use wb_runs::{metadata_keep_sizes, never_stuck, words_are_used_rightly};
 use wb_types::{Content, Geometry, Refusal};
 
 /// How many actors a machine has.
@@ -103,6 +103,7 @@ impl Machine {
         if self.trace.reserve().is_err() {
             return Err(Refusal::Memory);
         }
+        metadata_keep_sizes::<Quiet, Global>();
         never_stuck::<Quiet, Global>();
         words_are_used_rightly::<Quiet, Global>();
         let Outcome { what, read } = happen(

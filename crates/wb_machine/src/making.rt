@@ -44,7 +44,7 @@ pub(crate) fn make(
     requires actor { asked.actor < ACTORS }
     requires fits { FitsDevice state.root.geometry.meta_sectors state.root state.tree state.used.items }
     requires next { next ≡ reopened state.root }
-    ensures made { IfOk result (IsMade state.root.geometry ACTORS asked) }
+    ensures made { IfOk result (IsMade ACTORS asked) }
     ensures read { IfOk result (λ made. read_of made ≡ state) }
     ensures refused { IfErr result (λ refusal. refusal ≡ Memory) }
 {

@@ -21,6 +21,7 @@ use crate::asking::awaits;
 use crate::keeping::{
     awaiting_after, keep, keeps_migration, keeps_replacement, orders_after, see_desk,
 };
+use crate::limits::most_for;
 use crate::moving::fail_step;
 use crate::outcome::Outcome;
 use crate::requests::{begun_as, is_ordered, order_for, refusal_of, task_of};
@@ -157,7 +158,7 @@ impl Member {
     {
         let looks = mapped_blocks(alloc, desk)?;
         let bits = no_bits(alloc, geometry.cache_blocks)?;
-        let task = CommitTask::suspend(looks, geometry.most_nodes(true));
+        let task = CommitTask::suspend(looks, most_for(geometry, true));
         self.task = Some((Job::Suspend, Work::commits(task)));
         self.seen = bits;
         Ok(())

@@ -1,6 +1,6 @@
 //! An opening at work, and its steps on devices.
 
-ghost use Rattle.std.specs.Prelude.{◌≡◌, ◌≤◌, ◌<◌, ◌↔◌, ℕ, [], None, Some, IfOk, OnOk, OnErr, IfErr, IsTrue, length, map, slice_get};
+ghost use Rattle.std.specs.Prelude.{◌≡◌, ◌<◌, ◌↔◌, ℕ, [], None, Some, IfOk, IfSome, OnOk, OnErr, IfErr, IsTrue, length, map, slice_get};
 ghost use Rattle.std.specs.declared.alloc.Global.{Global as GlobalValue};
 ghost use Rattle.std.specs.Bool.{OnTrue, OnFalse};
 ghost use Rattle.wb_types.specs.declared.mode.Dev.TheVariants.{Metadata};
@@ -9,24 +9,26 @@ ghost use Rattle.wb_disk.specs.Device.{newest, synced};
 ghost use Rattle.wb_disk.specs.Failing.{MayFail};
 ghost use Rattle.wb_tasks.specs.Plan.{Fits, want, after, device_of};
 ghost use Rattle.wb_tasks.specs.declared.step.Got.TheVariants.{Done, Fault};
-ghost use Rattle.wb_tasks.specs.declared.step.DeviceStep.TheVariants.{Sync, ReadMetadata, WriteRoot};
-ghost use Rattle.wb_meta.specs.Reads.{coming_sector};
-ghost use Rattle.wb_meta.specs.declared.commit_steps.CommitSteps.TheVariants.{NodesSynced};
+ghost use Rattle.wb_tasks.specs.declared.step.DeviceStep.TheVariants.{Sync, ReadMetadata};
 ghost use Rattle.wb_meta.specs.declared.read_steps.ReadSteps.{ReadSteps as Steps};
 ghost use Rattle.wb_tasks.specs.declared.step.Want.TheVariants.{Device};
 ghost use Rattle.wb_devices.specs.Moving.{device_in};
 ghost use Rattle.wb_devices.specs.Clean.{DidTell};
+ghost use Rattle.wb_runs.specs.Laws.{FindsSizes};
+ghost use Rattle.wb_promise.specs.Effects.{led};
+ghost use Rattle.wb_promise.specs.Happenings.{AreWhole, IsAsked};
 ghost use Rattle.wb_promise.specs.States.{with_device};
 ghost use Rattle.wb_promise.specs.declared.event.Event.TheVariants.{Step};
 ghost use Rattle.wb_promise.specs.declared.event.What.TheVariants.{Stepped};
 ghost use Rattle.wb_machine.specs.declared.machine.TheConstants.{ACTORS};
 ghost use Rattle.wb_machine.specs.declared.phase.Phase.TheVariants.{Underway};
-ghost use Rattle.wb_machine.specs.Life.{FailsOn, Happens, PutsCommitted, commit_failed, commit_synced, commit_written, contents_of, device_step_of, made_synced, reading_synced, reading_failed, shape_of, state_of};
-ghost use Rattle.wb_machine.specs.Making.{HasMade, MadeBy, reading_of};
-ghost use Rattle.wb_machine.specs.Serving.{ComesNext, RootComes, SyncComes};
+ghost use Rattle.wb_machine.specs.Life.{FailsOn, Happens, WasPut, commit_failed, commit_synced, contents_of, device_step_of, made_synced, reading_synced, reading_failed, shape_of, state_of};
+ghost use Rattle.wb_machine.specs.Making.{HasMade, MadeBy, ends_reading, reading_of};
+ghost use Rattle.wb_machine.specs.Serving.{ComesNext, FindsItsRoot, IsPut, PutComes, SyncComes};
 ghost use Rattle.wb_machine.specs.Standing.{HasReadAll, IsReading, StandsAt};
 
 use crate::asked::Asked;
+use crate::asking::see_commit;
 use crate::machine::ACTORS;
 use crate::making::{Made, make};
 use crate::moving::{device_of, falter, make_room, sectors_of};
@@ -39,7 +41,8 @@ use wb_tasks::{DeviceStep, Got, Task};
 use wb_types::{Content, Dev, Geometry, Refusal, SECTOR_BYTES};
 
 /// Who opens in which mode, what is left of the opening, and what was read: the reading begins once the metadata were synced, and is over where
-/// the metadata device has failed, as is the commit of the root. Once all was read, what the answer wants has been made of it.
+/// the metadata device has failed, as is the commit of the root, and of the nodes that are written anew before it. Once all was read, what the
+/// answer wants has been made of it.
 #[derive(Drop)]
 pub struct Opener {
     pub asked: Asked,
@@ -49,7 +52,8 @@ pub struct Opener {
 }
 
 impl Opener {
-    /// Its next step, on a device, is done. `Memory` where there is none for the root that it writes: no content has changed.
+    /// Its next step, on a device, is done. `Memory` where there is none for the node or root that it writes: no content has
+    /// changed.
     pub(crate) fn perform(
         &mut self,
         geometry: &Geometry,
@@ -60,6 +64,7 @@ impl Opener {
         requires whole { length devices.old.metadata.contents ≡ geometry.now.meta_sectors }
         requires there { self.old.asked.actor < ACTORS }
         requires stands { StandsAt geometry.now ACTORS self.old }
+        requires finds { FindsItsRoot geometry.now devices.old.metadata.contents self.old }
         ensures asked { self.new.asked ≡ self.old.asked }
         ensures whole { length devices.new.metadata.contents ≡ geometry.now.meta_sectors }
         ensures stands { StandsAt geometry.now ACTORS self.new }
@@ -74,11 +79,10 @@ impl Opener {
                 Ok(Got::Done)
             }
             DeviceStep::ReadMetadata(left) => Ok(self.read(geometry, &mut devices.metadata, left)),
-            DeviceStep::WriteRoot => {
-                self.write_root(devices)?;
+            _ => {
+                self.write(devices, step)?;
                 Ok(Got::Done)
             }
-            _ => unreachable!(),
         }
     }
 
@@ -121,23 +125,24 @@ impl Opener {
         });
     }
 
-    /// Writes the root, as the next step. `Memory` where there is none for it: no content has changed.
-    fn write_root(&mut self, devices: &mut Devices<MemDisk>) -> Result<(), Refusal>
-        requires next { want self.old.task ≡ Device WriteRoot }
-        requires comes { ComesNext self.old.opening.commit WriteRoot devices.old.metadata.contents }
+    /// Writes a node or the root, as the next step. `Memory` where there is none for it: no content has changed.
+    fn write(&mut self, devices: &mut Devices<MemDisk>, step: DeviceStep) -> Result<(), Refusal>
+        requires next { want self.old.task ≡ Device step }
+        requires puts { IsPut step }
+        requires comes { ComesNext self.old.opening.commit step devices.old.metadata.contents }
         ensures size { length devices.new.metadata.contents ≡ length devices.old.metadata.contents }
         ensures asked { self.new.asked ≡ self.old.asked }
         ensures task { OnOk result (self.new.task ≡ after self.old.task Done) }
         ensures geometry { self.new.opening.geometry ≡ self.old.opening.geometry }
         ensures reading { reading_of self.new ≡ reading_of self.old }
         ensures made { self.new.made ≡ self.old.made }
-        ensures commit { OnOk result (self.new.opening.commit ≡ commit_written self.old.opening.commit) }
-        ensures puts { OnOk result (PutsCommitted self.old.opening.commit devices.old.metadata.contents devices.new.metadata.contents) }
+        ensures commit { OnOk result (self.new.opening.commit ≡ led self.old.opening.commit Done) }
+        ensures puts { OnOk result (WasPut self.old.opening.commit step devices.old.metadata.contents devices.new.metadata.contents) }
         ensures others { OnOk result (contents_of devices.new ≡ record (contents_of devices.old) { metadata = devices.new.metadata.contents }) }
         ensures err { OnErr result ((contents_of devices.new ≡ contents_of devices.old) × (self.new ≡ self.old)) }
         ensures refusal { IfErr result (λ refusal. refusal ≡ Memory) }
     {
-        put_root(devices, &mut self.opening.commit)?;
+        put_next(devices, &mut self.opening.commit, step)?;
         self.task.next(Got::Done);
         Ok(())
     }
@@ -147,17 +152,20 @@ impl Opener {
         requires there { self.old.asked.actor < ACTORS }
         requires next { want self.old.task ≡ Device (ReadMetadata left) }
         requires none { self.old.made ≡ None }
-        requires geometry { self.old.opening.geometry ≡ geometry.now }
+        requires asks { IsAsked geometry.now self.old.asked.second self.old.opening.geometry }
         requires size { length metadata.old.contents ≡ geometry.now.meta_sectors }
         requires reads { IsReading geometry.now left self.old.opening.reading self.old.opening.commit }
+        requires finds { (was : Steps GlobalValue) → self.old.opening.reading ≡ Some was → FindsSizes geometry.now was metadata.old.contents }
         ensures contents { metadata.new.contents ≡ metadata.old.contents }
         ensures asked { self.new.asked ≡ self.old.asked }
         ensures task { self.new.task ≡ after self.old.task result }
         ensures geometry { self.new.opening.geometry ≡ self.old.opening.geometry }
-        ensures did { (was : Steps GlobalValue) → self.old.opening.reading ≡ Some was → DidTell self.old.asked.mode geometry.now geometry.now.meta_sectors left was metadata.old.contents self.old.opening.commit result (reading_of self.new) self.new.opening.commit }
-        ensures made { MadeBy geometry.now ACTORS result self.old.asked self.new.made }
+        ensures did { (was : Steps GlobalValue) → self.old.opening.reading ≡ Some was → DidTell self.old.asked.mode self.old.opening.geometry geometry.now.meta_sectors left was metadata.old.contents self.old.opening.commit result (reading_of self.new) self.new.opening.commit }
+        ensures made { MadeBy ACTORS result self.old.asked self.new.made }
+        ensures whole { IfSome self.new.opening.commit (λ running. AreWhole running.image) }
     {
         let got = self.tell(geometry, metadata, left);
+        see_commit(&self.opening.commit);
         self.task.next(got);
         got
     }
@@ -167,41 +175,44 @@ impl Opener {
     fn tell(&mut self, geometry: &Geometry, metadata: &mut MemDisk, left: u32) -> Got
         requires there { self.old.asked.actor < ACTORS }
         requires none { self.old.made ≡ None }
-        requires geometry { self.old.opening.geometry ≡ geometry.now }
+        requires asks { IsAsked geometry.now self.old.asked.second self.old.opening.geometry }
         requires size { length metadata.old.contents ≡ geometry.now.meta_sectors }
         requires reads { IsReading geometry.now left self.old.opening.reading self.old.opening.commit }
+        requires finds { (was : Steps GlobalValue) → self.old.opening.reading ≡ Some was → FindsSizes geometry.now was metadata.old.contents }
         ensures contents { metadata.new.contents ≡ metadata.old.contents }
         ensures asked { self.new.asked ≡ self.old.asked }
         ensures task { self.new.task ≡ self.old.task }
         ensures kind { Fits (Device (ReadMetadata left)) result }
         ensures geometry { self.new.opening.geometry ≡ self.old.opening.geometry }
-        ensures did { (was : Steps GlobalValue) → self.old.opening.reading ≡ Some was → DidTell self.old.asked.mode geometry.now geometry.now.meta_sectors left was metadata.old.contents self.old.opening.commit result (reading_of self.new) self.new.opening.commit }
-        ensures made { MadeBy geometry.now ACTORS result self.old.asked self.new.made }
+        ensures did { (was : Steps GlobalValue) → self.old.opening.reading ≡ Some was → DidTell self.old.asked.mode self.old.opening.geometry geometry.now.meta_sectors left was metadata.old.contents self.old.opening.commit result (reading_of self.new) self.new.opening.commit }
+        ensures made { MadeBy ACTORS result self.old.asked self.new.made }
     {
         let _two_slots = geometry.node_count();
-        match self.opening.read(self.asked.mode, metadata, left) {
-            Got::Done => match self.prepare() {
-                Ok(()) => Got::Done,
-                Err(refusal) => Got::Refused(refusal),
-            },
-            got => got,
+        let got = self.opening.read(self.asked.mode, metadata, left);
+        if !ends_reading(got) {
+            return got;
+        }
+        match self.prepare(geometry) {
+            Ok(()) => got,
+            Err(refusal) => Got::Refused(refusal),
         }
     }
 
     /// Makes what the answer wants, once all was read. `Memory` where there is none for it: then the reading is over.
-    fn prepare(&mut self) -> Result<(), Refusal>
+    fn prepare(&mut self, geometry: &Geometry) -> Result<(), Refusal>
         requires there { self.old.asked.actor < ACTORS }
         requires none { self.old.made ≡ None }
-        requires all { HasReadAll self.old.opening.geometry NodesSynced self.old.opening.reading self.old.opening.commit }
+        requires all { HasReadAll geometry.now self.old.opening.reading self.old.opening.commit }
         ensures asked { self.new.asked ≡ self.old.asked }
         ensures task { self.new.task ≡ self.old.task }
         ensures geometry { self.new.opening.geometry ≡ self.old.opening.geometry }
         ensures reading { OnOk result (reading_of self.new ≡ self.old.opening.reading) }
         ensures commit { OnOk result (self.new.opening.commit ≡ self.old.opening.commit) }
-        ensures made { OnOk result (HasMade self.old.opening.geometry ACTORS self.old.asked self.new.made) }
+        ensures made { OnOk result (HasMade ACTORS self.old.asked self.new.made) }
         ensures over { OnErr result ((reading_of self.new ≡ None) × (self.new.opening.commit ≡ None) × (self.new.made ≡ None)) }
         ensures refused { IfErr result (λ refusal. refusal ≡ Memory) }
     {
+        let _ = geometry;
         let Some(ReadSteps::Done(state)) = self.opening.reading.take() else {
             return Ok(());
         };
@@ -251,6 +262,13 @@ impl Opener {
     }
 }
 
+/// Whether all was read: the root is to be written, or the nodes of a whole image before it.
+fn ends_reading(got: Got) -> bool
+    ensures { result ≡ ends_reading got }
+{
+    matches!(got, Got::Done | Got::Began(_))
+}
+
 /// What was read is let go.
 fn end_reading(reading: &mut Option<ReadSteps<Global>>)
     ensures { reading.new ≡ None }
@@ -288,27 +306,29 @@ fn sync(devices: &mut Devices<MemDisk>, commit: &mut Option<RunningCommit>, devi
     let _ = devices.perform(commit, DeviceStep::Sync(device), &mut []);
 }
 
-/// Writes the root that comes next of this commit, which goes on. `Memory` where there is none for it: no content has changed.
-fn put_root(
+/// Writes the node or root that comes next of this commit, which goes on. `Memory` where there is none for it: no content has changed.
+fn put_next(
     devices: &mut Devices<MemDisk>,
     commit: &mut Option<RunningCommit>,
+    step: DeviceStep,
 ) -> Result<(), Refusal>
-    requires { ComesNext commit.old WriteRoot devices.old.metadata.contents }
+    requires puts { IsPut step }
+    requires comes { ComesNext commit.old step devices.old.metadata.contents }
     ensures size { length devices.new.metadata.contents ≡ length devices.old.metadata.contents }
-    ensures root { OnOk result ((commit.new ≡ commit_written commit.old) × PutsCommitted commit.old devices.old.metadata.contents devices.new.metadata.contents) }
+    ensures put { OnOk result ((commit.new ≡ led commit.old Done) × WasPut commit.old step devices.old.metadata.contents devices.new.metadata.contents) }
     ensures others { OnOk result (contents_of devices.new ≡ record (contents_of devices.old) { metadata = devices.new.metadata.contents }) }
     ensures err { OnErr result ((contents_of devices.new ≡ contents_of devices.old) × (commit.new ≡ commit.old)) }
     ensures refusal { IfErr result (λ refusal. refusal ≡ Memory) }
 {
-    make_room(devices, commit, DeviceStep::WriteRoot)?;
-    match put(commit, &mut devices.metadata, DeviceStep::WriteRoot) {
+    make_room(devices, commit, step)?;
+    match put(commit, &mut devices.metadata, step) {
         Got::Done => Ok(()),
         Got::Fault => Err(Refusal::Memory),
         _ => unreachable!(),
     }
 }
 
-/// A step of an opening on a device that fails: a sync, or the write of this commit's root, which lands where the choice says so, or
+/// A step of an opening on a device that fails: a sync, or the write of this commit's node or root, which lands where the choice says so, or
 /// one that reads metadata. False, and nothing changes, where it cannot fail so. `Memory` where there is none for it: no content has
 /// changed.
 pub(crate) fn fail_step(
@@ -319,7 +339,7 @@ pub(crate) fn fail_step(
     choice: &CrashChoice,
 ) -> Result<bool, Refusal>
     requires next { device_step_of (Device step) ≡ Some step }
-    requires comes { RootComes step commit.old devices.old.metadata.contents }
+    requires comes { PutComes step commit.old devices.old.metadata.contents }
     ensures may { IfOk result (λ may. IsTrue may ↔ MayFail (device_of step) choice.now (length (device_in (device_of step) (contents_of devices.old)))) }
     ensures failed { IfOk result (λ may. OnTrue may (FailsOn commit.old step choice.now (contents_of devices.old) (contents_of devices.new))) }
     ensures commit { commit.new ≡ commit.old }

@@ -2,17 +2,19 @@
 
 ghost use Rattle.std.specs.Prelude.{◌≡◌, ◌/◌, [], None, true, IfOk, IfErr};
 ghost use Rattle.wb_types.specs.declared.refusal.Refusal.TheVariants.{Memory};
+ghost use Rattle.wb_types.specs.declared.mode.Mode.{Mode as ModeValue};
 ghost use Rattle.wb_types.specs.Extents.{pieces};
 ghost use Rattle.wb_tasks.specs.Plan.{table};
 ghost use Rattle.wb_tasks.specs.Phases.{job_on_block};
 ghost use Rattle.wb_tasks.specs.Tables.{OnBlock, Migrating, whole_block};
 ghost use Rattle.wb_promise.specs.Happenings.{begun_as, block_range, extent_refusal, job_refusal, migrated_range, order_for, task_job, write_job};
-ghost use Rattle.wb_promise.specs.declared.job.Job.TheVariants.{Invalidate};
+ghost use Rattle.wb_promise.specs.declared.job.Job.TheVariants.{Invalidate, Open};
 ghost use Rattle.wb_machine.specs.declared.machine.TheConstants.{ACTORS};
 ghost use Rattle.wb_machine.specs.Life.{shape_of, starts_beside};
 ghost use Rattle.wb_machine.specs.Serving.{cut_for, is_ordered};
 
 use crate::keeping::blocks_left;
+use crate::limits::{geometry_asked, most_for};
 use crate::work::Work;
 use std::alloc::Global;
 use wb_flow::CommitTask;
@@ -30,7 +32,7 @@ pub(crate) fn refusal_of(geometry: &Geometry, job: &Job) -> Option<Refusal>
         Job::Write(extent, _) => extent_refusal(geometry, *extent),
         Job::Flush => None,
         Job::Suspend => None,
-        Job::Open(_) => None,
+        Job::Open(_, second) => room_refusal(geometry, *second),
         Job::Invalidate(block) => block_refusal(geometry, *block),
         Job::Migrate(_, _) => None,
         Job::Replace(_, _) => None,
@@ -65,6 +67,16 @@ fn block_refusal(geometry: &Geometry, block: OBlock) -> Option<Refusal>
         None
     } else {
         Some(Refusal::Range)
+    }
+}
+
+/// Why an opening that asks for the second version, or does not, is not started: `Geometry` where the metadata have no room for it.
+fn room_refusal(geometry: &Geometry, second: bool) -> Option<Refusal>
+    ensures { (mode : ModeValue) → result ≡ job_refusal (shape_of geometry.now ACTORS) (Open mode second) }
+{
+    match geometry_asked(geometry, second) {
+        Some(_) => None,
+        None => Some(Refusal::Geometry),
     }
 }
 
@@ -122,7 +134,7 @@ pub(crate) fn task_of(
         }
         Job::Flush => {
             let serves = blocks_left(alloc, awaiting)?;
-            Ok(Work::commits(CommitTask::flush(serves, geometry.most_nodes(false))))
+            Ok(Work::commits(CommitTask::flush(serves, most_for(geometry, false))))
         }
         Job::Invalidate(block) => {
             let task = BlockTask::invalidate(geometry.block, *block);
@@ -130,7 +142,7 @@ pub(crate) fn task_of(
         }
         Job::Migrate(migration, block) => Ok(migrates(geometry, *migration, *block)),
         Job::Replace(old, _) => Ok(migrates(geometry, Migration::Demote, *old)),
-        Job::Suspend | Job::Open(_) => unreachable!(),
+        Job::Suspend | Job::Open(_, _) => unreachable!(),
     }
 }
 

@@ -111,7 +111,7 @@ fn start_over(
 fn starts_beside(job: &Job) -> bool
     ensures { result ≡ starts_beside job.now }
 {
-    !matches!(job, Job::Suspend | Job::Open(_))
+    !matches!(job, Job::Suspend | Job::Open(_, _))
 }
 
 /// Whether a target of this mode has such a job: an invalidation is of passthrough alone.
@@ -128,7 +128,7 @@ fn suits_mode(job: &Job, mode: Mode) -> bool
 fn wants_target(job: &Job) -> bool
     ensures { result ≡ wants_target job.now }
 {
-    !matches!(job, Job::Open(_))
+    !matches!(job, Job::Open(_, _))
 }
 
 /// The next step of an actor's task, if it has one.

@@ -3,11 +3,12 @@
 ghost use Rattle.std.specs.Prelude.{◌≡◌, ◌<◌, [], false, length};
 ghost use Rattle.wb_promise.specs.declared.event.Event.TheVariants.{Start};
 ghost use Rattle.wb_machine.specs.declared.machine.TheConstants.{ACTORS};
-ghost use Rattle.wb_machine.specs.Life.{Happens, IsThere, has_task, is_sound, opened_in, shape_of, state_of, wants_target};
+ghost use Rattle.wb_machine.specs.Life.{Happens, IsThere, asked_by, has_task, is_sound, shape_of, state_of, wants_target};
 ghost use Rattle.wb_machine.specs.Members.{works_there};
 ghost use Rattle.wb_machine.specs.Standing.{IsSoundPhase};
 
 use crate::asked::Asked;
+use crate::limits::geometry_asked;
 use crate::machine::ACTORS;
 use crate::member::Member;
 use crate::opener::Opener;
@@ -18,10 +19,11 @@ use wb_devices::{Devices, Opening};
 use wb_disk::MemDisk;
 use wb_flow::OpenTask;
 use wb_promise::{Job, What};
-use wb_types::{Geometry, Mode};
+use wb_types::{Geometry, Refusal};
 
 /// An actor gets an opening, if it has no task, and what another actor was opening is given up; over a target that stands it
-/// starts once that has failed and while nobody suspends it, and ends it and what everybody was at.
+/// starts once that has failed and while nobody suspends it, and ends it and what everybody was at. It is refused where the metadata have
+/// no room for the version that it asks for.
 pub(crate) fn open(
     geometry: &Geometry,
     alloc: Global,
@@ -43,17 +45,20 @@ pub(crate) fn open(
     if is_suspending(phase) {
         return What::Skipped;
     }
-    let Some(mode) = opened_in(job) else {
+    let Some(asked) = asked_by(actor, job) else {
         return What::Skipped;
     };
     if is_sound(phase) {
         return What::Skipped;
     }
+    let Some(wanted) = geometry_asked(geometry, asked.second) else {
+        return What::Refused(Refusal::Geometry);
+    };
     let opener = Opener {
-        asked: Asked { actor, mode },
+        asked,
         task: OpenTask::reading(geometry.meta_sectors),
         opening: Opening {
-            geometry: *geometry,
+            geometry: wanted,
             alloc,
             reading: None,
             commit: None,
@@ -64,12 +69,16 @@ pub(crate) fn open(
     What::Started
 }
 
-/// The mode of an opening, if the job is one.
-fn opened_in(job: &Job) -> Option<Mode>
-    ensures { result ≡ opened_in job.now }
+/// What this actor asks for, if the job is an opening.
+fn asked_by(actor: usize, job: &Job) -> Option<Asked>
+    ensures { result ≡ asked_by actor job.now }
 {
     match job {
-        Job::Open(mode) => Some(*mode),
+        Job::Open(mode, second) => Some(Asked {
+            actor,
+            mode: *mode,
+            second: *second,
+        }),
         _ => None,
     }
 }

@@ -5,6 +5,7 @@ ghost use Rattle.wb_types.specs.declared.refusal.Refusal.TheVariants.{Memory};
 ghost use Rattle.wb_promise.specs.declared.event.Event.TheVariants.{Step, FaultStep};
 ghost use Rattle.wb_machine.specs.declared.machine.TheConstants.{ACTORS};
 ghost use Rattle.wb_machine.specs.Life.{Happens, IsThere, answered, contents_of, device_step_of, shape_of, stands, stands_by, state_of};
+ghost use Rattle.wb_machine.specs.Serving.{IsPhaseServed};
 ghost use Rattle.wb_machine.specs.Standing.{IsSoundPhase};
 
 use crate::making::Made;
@@ -27,6 +28,7 @@ pub(crate) fn step_opening(
 ) -> Result<What, Refusal>
     requires there { IsThere ACTORS phase.old }
     requires sound { IsSoundPhase geometry.now ACTORS devices.old phase.old }
+    requires served { IsPhaseServed geometry.now devices.old phase.old }
     requires no_target { stands phase.old ≡ false }
     ensures there { IsThere ACTORS phase.new }
     ensures sound { IsSoundPhase geometry.now ACTORS devices.new phase.new }
@@ -124,6 +126,7 @@ fn device_step_of(want: &Want) -> Option<DeviceStep>
     match want {
         Want::Device(DeviceStep::Sync(device)) => Some(DeviceStep::Sync(*device)),
         Want::Device(DeviceStep::ReadMetadata(left)) => Some(DeviceStep::ReadMetadata(*left)),
+        Want::Device(DeviceStep::WriteNode(number)) => Some(DeviceStep::WriteNode(*number)),
         Want::Device(DeviceStep::WriteRoot) => Some(DeviceStep::WriteRoot),
         _ => None,
     }

@@ -51,22 +51,31 @@ impl Player {
             Line::Stop { base, named } => {
                 self.unless_skipped(Event::Stop(CrashChoice::new(base, named)), text)
             }
-            Line::Open { mode } => {
-                self.open(mode, text)?;
+            Line::Open { mode, metadata2 } => {
+                self.open(mode, metadata2, text)?;
                 Ok(())
             }
             Line::View { at, count } => self.view(at, count, text),
         }
     }
 
-    /// An opening in this mode by the first actor, from its start to its answer. False, and only that it is skipped is told, where it does not
-    /// start.
-    pub(crate) fn open(&mut self, mode: Mode, text: &mut String) -> Result<bool, Refusal> {
-        match self.happen(Event::Start(0, Job::Open(mode)))? {
+    /// An opening in this mode by the first actor, which asks for metadata of the second version or not, from its start to its answer. False, and
+    /// only that it is skipped or refused is told, where it does not start.
+    pub(crate) fn open(
+        &mut self,
+        mode: Mode,
+        metadata2: bool,
+        text: &mut String,
+    ) -> Result<bool, Refusal> {
+        match self.happen(Event::Start(0, Job::Open(mode, metadata2)))? {
             What::Started => {
                 self.begin(0, Given::Open, 0);
                 self.steps(0, u64::MAX, text)?;
                 Ok(true)
+            }
+            What::Refused(refusal) => {
+                tell_refused(0, refusal, text)?;
+                Ok(false)
             }
             _ => {
                 tell_skipped(text)?;
@@ -245,7 +254,7 @@ fn job_of(task: Task) -> (Given, u64, Job) {
             Job::Migrate(Migration::Clean, OBlock(block)),
         ),
         Task::Replace { old, new } => (Given::Other, 0, Job::Replace(OBlock(old), OBlock(new))),
-        Task::Open { mode } => (Given::Open, 0, Job::Open(mode)),
+        Task::Open { mode, metadata2 } => (Given::Open, 0, Job::Open(mode, metadata2)),
     }
 }
 

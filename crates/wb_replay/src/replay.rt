@@ -134,14 +134,14 @@ fn play_line(
     }
 }
 
-/// A cache as the first line says, opened: only that the opening is skipped is told. One that is refused ends the replay.
+/// A cache as the first line says, opened as it was formatted: only that the opening is skipped is told. One that is refused ends the replay.
 fn set_up(alloc: Global, words: &str, number: u64, text: &mut String) -> Result<Player, Halt> {
     let Some(setup) = read_setup(words) else {
         return Err(Halt::BadLine(number));
     };
     let mut player = Player::new(alloc, setup).map_err(|refusal| Halt::Refused(refusal))?;
     let opened = player
-        .open(setup.mode, text)
+        .open(setup.mode, setup.metadata2, text)
         .map_err(|refusal| Halt::Refused(refusal))?;
     if opened {
         if let Some(refusal) = player.refused() {

@@ -288,6 +288,40 @@ const SUSPENDS: [Row; 4] = [
     },
 ];
 
+/// Metadata of the first version are written anew in the second, and the power is lost.
+const CONVERSIONS: [Row; 5] = [
+    Row {
+        name: "a root of the second version that was written and not synced may be lost, and the opening begins again",
+        lines: "setup writeback 64 4 10 5\nstart 0 w 0 1 11\nend 0\nstart 0 promote 0 0\nend 0\nstart 0 flush\nend 0\nstart 0 w 0 1 22\nend 0\nstart 0 suspend\nend 0\nstart 0 open writeback metadata2\nstep 0 9\nstop old\nopen writeback metadata2\nview 0 1\n",
+        prints: "0 done\n0 done\n0 done\n0 done\n0 done\nopen 4 1 1\n0 22\n",
+        ends: Ended::Played,
+    },
+    Row {
+        name: "or kept",
+        lines: "setup writeback 64 4 10 5\nstart 0 w 0 1 11\nend 0\nstart 0 promote 0 0\nend 0\nstart 0 flush\nend 0\nstart 0 w 0 1 22\nend 0\nstart 0 suspend\nend 0\nstart 0 open writeback metadata2\nstep 0 9\nstop new\nopen writeback metadata2\nview 0 1\n",
+        prints: "0 done\n0 done\n0 done\n0 done\n0 done\nopen 5 1 1\n0 22\n",
+        ends: Ended::Played,
+    },
+    Row {
+        name: "a node that was written and not synced changes nothing where it is lost",
+        lines: "setup writeback 64 4 10 5\nstart 0 w 0 1 11\nend 0\nstart 0 promote 0 0\nend 0\nstart 0 flush\nend 0\nstart 0 w 0 1 22\nend 0\nstart 0 suspend\nend 0\nstart 0 open writeback metadata2\nstep 0 7\nstop old\nopen writeback metadata2\nview 0 1\n",
+        prints: "0 done\n0 done\n0 done\n0 done\n0 done\nopen 4 1 1\n0 22\n",
+        ends: Ended::Played,
+    },
+    Row {
+        name: "nor where it is kept",
+        lines: "setup writeback 64 4 10 5\nstart 0 w 0 1 11\nend 0\nstart 0 promote 0 0\nend 0\nstart 0 flush\nend 0\nstart 0 w 0 1 22\nend 0\nstart 0 suspend\nend 0\nstart 0 open writeback metadata2\nstep 0 7\nstop new\nopen writeback metadata2\nview 0 1\n",
+        prints: "0 done\n0 done\n0 done\n0 done\n0 done\nopen 4 1 1\n0 22\n",
+        ends: Ended::Played,
+    },
+    Row {
+        name: "over metadata that are too small for the second version the opening is refused",
+        lines: "setup writeback 64 4 10 4\nstop old\nstart 0 open writeback metadata2\nopen writeback metadata2\nopen writeback\n",
+        prints: "0 refused 9 Geometry\n0 refused 9 Geometry\nopen 2 0 0\n",
+        ends: Ended::Played,
+    },
+];
+
 /// Lines that do not apply, that are refused at the start, and that do nothing.
 const SKIPPED: [Row; 4] = [
     Row {
@@ -432,6 +466,11 @@ fn a_block_makes_way_for_another(rt: HostRuntime) -> Result<(), Fail> {
 #[test]
 fn a_suspend_stores_what_is_dirty(rt: HostRuntime) -> Result<(), Fail> {
     compare(rt.alloc(), &SUSPENDS)
+}
+
+#[test]
+fn metadata_are_written_anew_in_the_second_version(rt: HostRuntime) -> Result<(), Fail> {
+    compare(rt.alloc(), &CONVERSIONS)
 }
 
 #[test]

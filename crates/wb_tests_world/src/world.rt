@@ -75,7 +75,8 @@ fn named(
 /// What is to happen, as an event.
 fn event_of(alloc: Global, act: Act) -> Result<Event, Refusal> {
     match act {
-        Act::Open(actor, mode) => Ok(Event::Start(actor, Job::Open(mode))),
+        Act::Open(actor, mode) => Ok(Event::Start(actor, Job::Open(mode, false))),
+        Act::OpenSecond(actor, mode) => Ok(Event::Start(actor, Job::Open(mode, true))),
         Act::Read(actor, sectors) => Ok(Event::Start(actor, Job::Read(sectors))),
         Act::Write(actor, sectors) => Ok(Event::Start(actor, write(sectors, 7))),
         Act::WriteOf(actor, sectors, byte) => Ok(Event::Start(actor, write(sectors, byte))),
@@ -194,7 +195,7 @@ fn write(sectors: Extent, byte: u8) -> Job {
 
 fn job_of(task: Task) -> Job {
     match task {
-        Task::Open => Job::Open(Mode::Writeback),
+        Task::Open => Job::Open(Mode::Writeback, false),
         Task::Read => Job::Read(FIRST_SECTOR),
         Task::Write => write(FIRST_SECTOR, 7),
         Task::Flush => Job::Flush,

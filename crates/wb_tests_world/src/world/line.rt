@@ -11,6 +11,8 @@ use wb_words::{Access, Kind, Word};
 pub enum Act {
     /// An actor is told to open a target.
     Open(usize, Mode),
+    /// The same, and it asks for metadata of the second version.
+    OpenSecond(usize, Mode),
     Read(usize, Extent),
     /// Each write is of sevens.
     Write(usize, Extent),

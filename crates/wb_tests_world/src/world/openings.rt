@@ -12,7 +12,7 @@ use wb_types::{Dev, Mode, Refusal};
 const METADATA_FAILED: Want = Want::End(Answer::Refused(Refusal::Io(Dev::Metadata)));
 
 /// Openings of which no step fails.
-pub const OPENINGS: [Row; 6] = [
+pub const OPENINGS: [Row; 7] = [
     (
         "without a target only an opening starts, in any mode",
         &[
@@ -22,6 +22,19 @@ pub const OPENINGS: [Row; 6] = [
             Line::Does(Act::Step(0), What::Skipped),
             Line::Does(Act::Open(0, Mode::Passthrough), What::Started),
             Line::Does(Act::Open(0, Mode::Writeback), What::Skipped),
+        ],
+    ),
+    (
+        "an opening that asks for the second version is refused where the metadata have no room for it, and else skipped as any",
+        &[
+            Line::Does(Act::OpenSecond(64, Mode::Writeback), What::Skipped),
+            Line::Does(
+                Act::OpenSecond(0, Mode::Writeback),
+                What::Refused(Refusal::Geometry),
+            ),
+            Line::Does(Act::Step(0), What::Skipped),
+            Line::Does(Act::Open(0, Mode::Writeback), What::Started),
+            Line::Does(Act::OpenSecond(0, Mode::Writeback), What::Skipped),
         ],
     ),
     (

@@ -12,8 +12,8 @@ use wb_types::{Mode, Refusal};
 /// Behind a promotion this is written to the cache.
 const WRITE: Act = Act::WriteOf(0, FIRST_SECTOR, 0x22);
 
-/// The mapping of a cache of four blocks has one node at most.
-const BEGIN_CLEAN: Want = Want::Desk(DeskStep::BeginCommit(1));
+/// The mapping of a cache of four blocks has one node at most, and so have its dirty bits in the second version.
+const BEGIN_CLEAN: Want = Want::Desk(DeskStep::BeginCommit(2));
 
 const NODE: Want = Want::Device(DeviceStep::WriteNode(0));
 

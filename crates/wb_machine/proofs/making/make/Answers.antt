@@ -30,4 +30,4 @@ returns-clause-made c =
     let read = c.in_ok-desk.ensures.opened
     ∙ ap (λ (r : Root). opened r.geometry r.generation c.args.state.tree c.in_ok-places.places.items c.args.asked.mode desk.policy (threshold_of None) mapped) c.requires.next
     ∙ ap (λ (used : List Place). opened g (c.args.state.root.generation + 1) c.args.state.tree used c.args.asked.mode desk.policy (threshold_of None) mapped) c.in_ok-places.ensures in
-    made_so g ACTORS c.args.asked _ c.args.state.tree c.in_ok-crew.crew c.requires.actor read c.seal_all.ensures c.in_ok-crew.ensures.new.1 c.in_ok-crew.ensures.new.2 c.in_ok-crew.ensures.new.0 refl refl c.in_ok-members.ensures.members
+    made_so ACTORS c.args.asked _ c.args.state.tree c.in_ok-crew.crew c.requires.actor read c.seal_all.ensures c.in_ok-crew.ensures.new.1 c.in_ok-crew.ensures.new.2 c.in_ok-crew.ensures.new.0 refl refl c.in_ok-members.ensures.members

@@ -1,6 +1,8 @@
 use Rattle.std.proofs.Common.{◌≡◌, ◌∙◌, List, ap, arith, inl, length, length-set, refl, subst, sym}
 use Rattle.std.proofs.lemmas.Option.{slice_get_past, slice_get_read}
+use Rattle.wb_types.specs.declared.geometry.Geometry.{Geometry}
 use Rattle.wb_types.specs.declared.mode.Mode.{Mode}
+use Rattle.wb_meta.specs.Sizes.{AreSameSizes}
 use Rattle.wb_desk.specs.Desks.{DeskState}
 use Rattle.wb_policy.specs.declared.quiet.Quiet.{Quiet}
 use Rattle.wb_promise.specs.declared.event.Event.TheVariants.{Start}
@@ -100,7 +102,7 @@ returns-clause-sound c =
       stands = record {
         blocks = stands.blocks;
         failed = stands.failed;
-        sizes = start_sizes (shape_of g ACTORS) target.desk m c.args.job.now c.in_ok-what.what c.start.new.desk c.start.new.self c.in_ok-what.ensures.ok ∙ stands.sizes;
+        sizes = subst (λ (f : Geometry). AreSameSizes f g) (sym (start_sizes (shape_of g ACTORS) target.desk m c.args.job.now c.in_ok-what.what c.start.new.desk c.start.new.self c.in_ok-what.ensures.ok)) stands.sizes;
         roomy = roomy_set g members.items c.args.actor c.start.new.self stands.roomy
             (start_roomy (shape_of g ACTORS) target.desk m c.args.job.now c.in_ok-what.what c.start.new.desk c.start.new.self (stands.roomy c.args.actor m here) c.in_ok-what.ensures.ok);
       };

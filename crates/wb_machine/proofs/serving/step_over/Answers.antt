@@ -5,10 +5,10 @@ use Rattle.wb_promise.specs.declared.event.Event.TheVariants.{Step}
 use Rattle.wb_machine.specs.declared.machine.TheConstants.{ACTORS}
 use Rattle.wb_machine.specs.declared.phase.Phase.TheVariants.{Standing}
 use Rattle.wb_machine.specs.Life.{contents_of, shape_of, state_of}
-use Rattle.wb_machine.specs.Standing.{IsRoomy}
+use Rattle.wb_meta.specs.Sizes.{AreSameSizes}
 use Rattle.wb_machine.proofs.Members.{absent, put_back, somebody}
 use Rattle.wb_machine.proofs.Openings.{passes}
-use Rattle.wb_machine.proofs.Served.{nobody_there, roomy_set, step_happens, step_keeps, step_roomy}
+use Rattle.wb_machine.proofs.Served.{nobody_there, own_room, roomy_set, step_happens, step_keeps, step_roomy}
 use Rattle.wb_machine.proofs.serving.step_over.Goals as goal
 use Rattle.wb_types.proofs.Truth.{on_err}
 
@@ -42,7 +42,7 @@ step-requires-clause-roomy c =
     let members = c.args.members.now in
     let m = c.index_mut-member.result.now in
     let here = slice_get_read members.items c.len.result c.args.actor m (omega (arith, members.ok)) (omega arith) c.index_mut-member.ensures.value in
-    subst (λ (g : Geometry). IsRoomy g m) (sym c.requires.sound.stands.sizes) (c.requires.sound.stands.roomy c.args.actor m here)
+    own_room c.args.geometry.now c.args.target.now.desk.geometry m c.requires.sound.stands.sizes (c.requires.sound.stands.roomy c.args.actor m here)
 
 pub returns-clause-ok : goal.returns-clause-ok
 returns-clause-ok c =
@@ -75,7 +75,7 @@ returns-clause-sound c =
       stands = record {
         blocks = keeps.blocks ∙ stands.blocks;
         failed = keeps.failed;
-        sizes = keeps.sizes ∙ stands.sizes;
+        sizes = subst (λ (f : Geometry). AreSameSizes f g) (sym keeps.sizes) stands.sizes;
         roomy = roomy_set g members.items c.args.actor c.step.new.self stands.roomy
             (step_roomy g (contents_of c.args.devices.now) target c.args.actor m c.in_ok-done.done.what c.in_ok-done.done.read.items (contents_of c.step.new.devices) c.step.new.target c.step.new.self (stands.roomy c.args.actor m here) c.in_ok-done.ensures.ok);
       };

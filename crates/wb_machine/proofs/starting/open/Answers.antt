@@ -1,10 +1,12 @@
-use Rattle.std.proofs.Common.{◌∙◌, None, arith, refl, sym}
+use Rattle.std.specs.Prelude.{IfSome}
+use Rattle.std.proofs.Common.{◌≡◌, ◌∙◌, Option, None, ap, arith, is_some, refl, subst, sym}
+use Rattle.wb_types.specs.declared.geometry.Geometry.{Geometry}
 use Rattle.wb_promise.specs.declared.event.Event.TheVariants.{Start}
-use Rattle.wb_promise.specs.Happenings.{DoesNotApply}
+use Rattle.wb_promise.specs.Happenings.{DoesNotApply, IsAsked}
 use Rattle.wb_machine.specs.declared.machine.TheConstants.{ACTORS}
 use Rattle.wb_machine.specs.Life.{shape_of, state_of}
 use Rattle.wb_tasks.specs.Points.{AtFirst}
-use Rattle.wb_machine.proofs.Openings.{nobody_starts, busy_starts, passes, starts, suspended_starts}
+use Rattle.wb_machine.proofs.Openings.{asked_actor, busy_starts, nobody_starts, passes, starts, starts_not, suspended_starts}
 use Rattle.wb_machine.proofs.starting.open.Goals as goal
 use Rattle.wb_machine.proofs.starting.open.Goals.{then-actor-ge-ACTORS-via-then-actor-ge-ACTORS, then-actor-ge-ACTORS-via-else-actor-ge-ACTORS+then-is_busy}
 
@@ -23,15 +25,25 @@ returns-then-is_suspending-clause-does c =
     passes shape (state_of ACTORS c.args.devices.now c.args.phase.now) (Start c.args.actor c.args.job.now) _
     (suspended_starts c.args.devices.now ACTORS c.args.phase.now c.args.actor c.args.job.now c.requires.there (sym c.is_suspending.ensures ∙ c.if-is_suspending.true)) refl
 
+pub returns-in_default-geometry_asked-clause-does : goal.returns-in_default-geometry_asked-clause-does
+returns-in_default-geometry_asked-clause-does c =
+    let shape = shape_of c.args.geometry.now ACTORS in
+    starts_not shape c.args.devices.now ACTORS c.args.phase.now c.requires.there c.requires.sound.stands c.args.actor (omega (arith, c.if-actor-ge-ACTORS.false)) (sym c.is_busy.ensures ∙ c.if-is_busy.false) (sym c.is_suspending.ensures ∙ c.if-is_suspending.false) (sym c.is_sound.ensures ∙ c.if-is_sound.false)
+    c.args.job.now c.in-Some.asked _ (sym c.asked_by.ensures ∙ c.in-Some.is) (sym c.geometry_asked.ensures.room ∙ ap is_some c.in_default-geometry_asked.is) refl
+
 pub returns-clause-does : goal.returns-clause-does
 returns-clause-does c =
     let shape = shape_of c.args.geometry.now ACTORS in
     rw c.put.ensures (starts shape c.args.devices.now ACTORS c.args.phase.now c.requires.there c.requires.sound.stands c.args.actor (omega (arith, c.if-actor-ge-ACTORS.false)) (sym c.is_busy.ensures ∙ c.if-is_busy.false) (sym c.is_suspending.ensures ∙ c.if-is_suspending.false) (sym c.is_sound.ensures ∙ c.if-is_sound.false)
-    c.args.job.now c.in-Some.mode _ (record { asked = record { actor = c.args.actor; mode = c.in-Some.mode }; task = c.reading.result; opening = record { geometry = c.args.geometry.now; alloc = c.args.alloc; reading = None; commit = None }; made = None })
-    (sym c.opened_in.ensures ∙ c.in-Some.is) refl c.reading.ensures refl refl refl)
+    c.args.job.now c.in-Some.asked _ (record { asked = c.in-Some.asked; task = c.reading.result; opening = record { geometry = c.in-Some-geometry_asked.wanted; alloc = c.args.alloc; reading = None; commit = None }; made = None })
+    (sym c.asked_by.ensures ∙ c.in-Some.is) (sym c.geometry_asked.ensures.room ∙ ap is_some c.in-Some-geometry_asked.is) refl c.reading.ensures refl refl refl)
 
 pub returns-clause-there : goal.returns-clause-there
-returns-clause-there c = rw c.put.ensures (omega (arith, c.if-actor-ge-ACTORS.false))
+returns-clause-there c =
+    let same : c.args.actor ≡ c.in-Some.asked.actor = asked_actor c.args.actor c.args.job.now c.in-Some.asked (sym c.asked_by.ensures ∙ c.in-Some.is) in
+    rw c.put.ensures (omega (arith, same, c.if-actor-ge-ACTORS.false))
 
 pub returns-clause-sound : goal.returns-clause-sound
-returns-clause-sound c = rw c.put.ensures (record { whole = c.requires.sound.whole; stands = record { point = AtFirst; plan_is = c.reading.ensures; geometry = refl; come = refl; made = refl } })
+returns-clause-sound c =
+    let asks = subst (λ (o : Option Geometry). IfSome o (λ wanted. IsAsked c.args.geometry.now c.in-Some.asked.second wanted)) c.in-Some-geometry_asked.is c.geometry_asked.ensures.asked in
+    rw c.put.ensures (record { whole = c.requires.sound.whole; stands = record { point = AtFirst; plan_is = c.reading.ensures; asks = asks; come = refl; made = refl } })

@@ -4,13 +4,12 @@ use Rattle.wb_promise.specs.Happenings.{MayFailAt}
 use Rattle.wb_machine.specs.declared.machine.TheConstants.{ACTORS}
 use Rattle.wb_machine.specs.Life.{IsThere, contents_of, device_step_of, shape_of, state_of}
 use Rattle.wb_machine.proofs.Openings.{only_busy, idle, idle_beside, is_device_step, nobody_opens, cannot_fail, on_false, on_true, passes}
-use Rattle.wb_machine.proofs.Wherever.{fails_there, root_comes}
+use Rattle.wb_machine.proofs.Wherever.{fails_there, step_comes}
 use Rattle.wb_machine.specs.Life.{commit_failed}
 use Rattle.wb_tasks.specs.Plan.{device_of}
 use Rattle.wb_machine.specs.declared.phase.Phase.TheVariants.{Underway}
-use Rattle.wb_machine.specs.Making.{reading_of}
 use Rattle.wb_machine.specs.Standing.{StandsSo}
-use Rattle.wb_machine.proofs.Standing.{failed_size, failed_stands, finds, never_fails}
+use Rattle.wb_machine.proofs.Standing.{failed_size, failed_stands, never_fails}
 use Rattle.wb_machine.proofs.stepping.fail_opening.Goals as goal
 
 pub returns-in_default-clause-ok : goal.returns-in_default-clause-ok
@@ -52,7 +51,7 @@ returns-clause-sound c =
     let opener = c.in-Underway.opener in
     let step = c.in-Some.step in
     record {
-      whole = failed_size c.args.geometry.now opener.opening.commit step (reading_of opener) c.args.choice.now (contents_of c.args.devices.now) (contents_of c.fail_step.new.devices) (finds c.args.geometry.now ACTORS opener step stands coming) failed ∙ c.requires.sound.whole;
+      whole = failed_size opener.opening.commit step c.args.choice.now (contents_of c.args.devices.now) (contents_of c.fail_step.new.devices) failed ∙ c.requires.sound.whole;
       stands = failed_stands c.args.geometry.now ACTORS opener c.fail.new.self step stands coming c.fail.ensures.asked c.fail.ensures.task c.fail.ensures.geometry;
     }
 
@@ -69,4 +68,4 @@ pub fail_step-requires-clause-comes : goal.fail_step-requires-clause-comes
 fail_step-requires-clause-comes c =
     let kind = sym c.device_step_of.ensures ∙ c.in-Some.is in
     let stands = subst (λ o. StandsSo c.args.geometry.now ACTORS o) c.in-Underway.is c.requires.sound.stands in
-    root_comes c.args.geometry.now ACTORS c.args.devices.now c.in-Underway.opener c.in-Some.step c.requires.sound.whole stands (ap device_step_of (sym c.want-want.ensures) ∙ kind)
+    step_comes c.args.geometry.now ACTORS c.args.devices.now c.in-Underway.opener c.in-Some.step c.requires.sound.whole stands (ap device_step_of (sym c.want-want.ensures) ∙ kind)

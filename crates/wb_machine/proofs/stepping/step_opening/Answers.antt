@@ -3,6 +3,7 @@ use Rattle.wb_promise.specs.declared.event.Event.TheVariants.{Step}
 use Rattle.wb_machine.specs.declared.machine.TheConstants.{ACTORS}
 use Rattle.wb_machine.specs.declared.phase.Phase.TheVariants.{Underway}
 use Rattle.wb_machine.specs.Life.{IsThere, device_step_of, shape_of, state_of}
+use Rattle.wb_machine.specs.Serving.{IsPhaseServed}
 use Rattle.wb_machine.specs.Standing.{StandsSo}
 use Rattle.wb_machine.proofs.Answering.{answers}
 use Rattle.wb_machine.proofs.Openings.{idle, idle_beside, is_device_step, nobody_opens, passes}
@@ -46,3 +47,6 @@ returns-clause-sound c =
     let none = ap device_step_of (sym c.want-want.ensures) ∙ sym c.device_step_of.ensures ∙ c.in_default-device_step_of.is in
     let answer = answers c.args.geometry.now ACTORS c.args.devices.now opener inside stands none in
     rw (c.answer.ensures) (record { whole = c.requires.sound.whole; stands = answer.so })
+
+pub perform-requires-clause-finds : goal.perform-requires-clause-finds
+perform-requires-clause-finds c = subst (λ o. IsPhaseServed c.args.geometry.now c.args.devices.now o) c.in-Underway.is c.requires.served

@@ -2,7 +2,6 @@ use Rattle.std.proofs.Common.{◌∙◌, ◌<◌, ◌/◌, ◌%◌, ℕ, Option,
 use Rattle.std.proofs.Math.Nat.{mod-lt}
 use Rattle.std.proofs.lemmas.List.{length-map}
 use Rattle.std.specs.Prelude.{IfSome}
-use Rattle.wb_types.specs.declared.geometry.Geometry.{Geometry}
 use Rattle.wb_disk.specs.Device.{newest}
 use Rattle.wb_promise.specs.Headline.{content_of, place_of}
 use Rattle.wb_machine.specs.declared.machine.TheConstants.{ACTORS}
@@ -33,7 +32,7 @@ returns-clause-shown c =
     (c.content_at.ensures.content ∙ ap (λ p. content_of (shape_of g ACTORS) p cache origin at) found) (length-map devices.origin.contents newest ∙ c.requires.origin)
     (λ k is.
     let here : k < desk.geometry.cache_blocks = subst (λ (o : Option ℕ). IfSome o (λ n. n < desk.geometry.cache_blocks)) (found ∙ is) place.inside in
-    let there : k < g.cache_blocks = subst (λ (x : Geometry). k < x.cache_blocks) whole.sizes here in
+    let there : k < g.cache_blocks = subst (λ (n : ℕ). k < n) whole.sizes.cache_blocks here in
     let under = inside_cache k g.cache_blocks g.block (at % g.block) there offset in
     let many = length-map devices.cache.contents newest ∙ c.requires.cache in
     omega (arith, under, many)))

@@ -2,6 +2,7 @@ use Rattle.std.proofs.Common.{◌≡◌, ◌∙◌, ◌++◌, ◌∷◌, [], ap,
 use Rattle.wb_meta.specs.declared.read_steps.ReadSteps.TheVariants.{Begun}
 use Rattle.wb_promise.specs.declared.event.Record.{Record}
 use Rattle.wb_runs.specs.Holding.{AreUsedRightly}
+use Rattle.wb_runs.specs.Laws.{OpeningFinds}
 use Rattle.wb_runs.specs.Progress.{IsFree}
 use Rattle.wb_machine.specs.declared.machine.TheConstants.{ACTORS}
 use Rattle.wb_machine.specs.Life.{Now, shape_of, state_of}
@@ -17,6 +18,7 @@ happen-requires-clause-served c =
     served shape ACTORS m.devices m.phase
     (subst (λ (w : Now). IsFree shape w) run.leads (c.never_stuck.ensures (record {}) (Begun m.alloc m.alloc) refl shape run.metadata run.happenings run.formatted run.size run.run))
     (subst (λ (w : Now). AreUsedRightly shape w) run.leads (c.words_are_used_rightly.ensures shape run.metadata run.happenings run.formatted run.size run.run))
+    (subst (λ (w : Now). OpeningFinds shape.geometry w) run.leads (c.metadata_keep_sizes.ensures shape run.metadata run.happenings run.formatted run.size run.run))
 
 pub invariant_of-self-2 : goal.invariant_of-self-2
 invariant_of-self-2 c =

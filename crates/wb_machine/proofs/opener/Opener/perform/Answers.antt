@@ -1,8 +1,8 @@
-use Rattle.std.proofs.Common.{◌≡◌, ◌≤◌, ◌∙◌, [], None, ap, arith, refl, subst}
+use Rattle.std.proofs.Common.{◌≡◌, ◌∙◌, [], None, ap, refl, subst}
 use Rattle.std.proofs.Common.{List}
 use Rattle.wb_disk.specs.Device.{History}
 use Rattle.wb_tasks.specs.Plan.{want}
-use Rattle.wb_tasks.specs.declared.step.DeviceStep.TheVariants.{Sync, ReadMetadata, WriteRoot}
+use Rattle.wb_tasks.specs.declared.step.DeviceStep.TheVariants.{Sync, ReadMetadata}
 use Rattle.wb_tasks.specs.declared.step.Got.TheVariants.{Done}
 use Rattle.wb_tasks.specs.declared.step.Want.TheVariants.{Device}
 use Rattle.wb_devices.specs.Clean.{DidTell}
@@ -14,9 +14,8 @@ use Rattle.wb_machine.specs.Life.{Happens, contents_of, shape_of, state_of}
 use Rattle.wb_machine.specs.Making.{reading_by, reading_of}
 use Rattle.wb_machine.specs.Standing.{IsReading}
 use Rattle.wb_machine.proofs.Openings.{at_commit, is_device_step, reads}
-use Rattle.wb_machine.specs.Serving.{RootComes}
-use Rattle.wb_machine.proofs.Wherever.{puts_there, root_comes, sync_comes, syncs_there}
-use Rattle.wb_machine.proofs.Standing.{does_read, read_stands, reads_at, synced_stands, under_way, written_stands}
+use Rattle.wb_machine.proofs.Wherever.{put_comes, puts_there, sync_comes, syncs_there}
+use Rattle.wb_machine.proofs.Standing.{does_read, else_puts, had_room, read_stands, reads_at, synced_stands, under_way, written_stands}
 use Rattle.wb_machine.proofs.opener.Opener.perform.Goals as goal
 
 pub returns-in-Sync-clause-stands : goal.returns-in-Sync-clause-stands
@@ -51,6 +50,16 @@ read-requires-clause-reads c =
     let at = reads_at g ACTORS self left c.requires.stands next in
     subst (λ m. IsReading g left (reading_by m self.opening.reading) self.opening.commit) at.none at.at
 
+pub read-requires-clause-finds : goal.read-requires-clause-finds
+read-requires-clause-finds c was is =
+    let self = c.args.self.now in
+    let g = c.args.geometry.now in
+    let left = c.in-ReadMetadata.left in
+    let next : want self.task ≡ Device (ReadMetadata left) = is_device_step (want self.task) c.args.step c.requires.next ∙ ap (λ s. Device s) c.in-ReadMetadata.is in
+    let at = reads_at g ACTORS self left c.requires.stands next in
+    let plain = subst (λ m. IsReading g left (reading_by m self.opening.reading) self.opening.commit) at.none at.at in
+    c.requires.finds was (ap (λ m. reading_by m self.opening.reading) at.none ∙ is) (under_way g left self.opening.reading self.opening.commit plain).commit_is
+
 pub returns-in-ReadMetadata-clause-stands : goal.returns-in-ReadMetadata-clause-stands
 returns-in-ReadMetadata-clause-stands c =
     let self = c.args.self.now in
@@ -59,13 +68,15 @@ returns-in-ReadMetadata-clause-stands c =
     let device = c.args.devices.now.metadata.contents in
     let new = c.read.new.self in
     let did = c.read.ensures in
+    let asked = self.opening.geometry in
     let next : want self.task ≡ Device (ReadMetadata left) = is_device_step (want self.task) c.args.step c.requires.next ∙ ap (λ s. Device s) c.in-ReadMetadata.is in
     let at = reads_at g ACTORS self left c.requires.stands next in
     let plain = subst (λ m. IsReading g left (reading_by m self.opening.reading) self.opening.commit) at.none at.at in
     let u = under_way g left self.opening.reading self.opening.commit plain in
-    let two : 2 ≤ g.meta_sectors = omega (arith, c.node_count-two_slots.ensures.two_images_fit) in
-    let told = subst (λ x. DidTell self.asked.mode g g.meta_sectors left u.was device x c.read.result (reading_of new) new.opening.commit) u.commit_is (did.did u.was u.is) in
-    read_stands self.asked.mode g left u.was device c.read.result (reading_of new) new.opening.commit two c.requires.whole u.not_done u.left_is told ACTORS self new c.requires.stands next did.asked did.task did.geometry refl refl did.made
+    let room = had_room g _ c.node_count-two_slots.ensures.value c.node_count-two_slots.ensures.two_images_fit in
+    let told = subst (λ x. DidTell self.asked.mode asked g.meta_sectors left u.was device x c.read.result (reading_of new) new.opening.commit) u.commit_is (did.did u.was u.is) in
+    read_stands self.asked.mode g self.asked.second asked left u.was device c.read.result (reading_of new) new.opening.commit c.requires.stands.asks room c.requires.whole u.not_done u.left_is (c.requires.finds u.was (ap (λ m. reading_by m self.opening.reading) at.none ∙ u.is) u.commit_is) told
+    ACTORS self new c.requires.stands next did.asked did.task did.geometry refl refl did.made
 
 pub returns-in-ReadMetadata-clause-does : goal.returns-in-ReadMetadata-clause-does
 returns-in-ReadMetadata-clause-does c =
@@ -76,38 +87,48 @@ returns-in-ReadMetadata-clause-does c =
     let device = c.args.devices.now.metadata.contents in
     let new = c.read.new.self in
     let did = c.read.ensures in
+    let asked = self.opening.geometry in
     let next : want self.task ≡ Device (ReadMetadata left) = is_device_step (want self.task) c.args.step c.requires.next ∙ ap (λ s. Device s) c.in-ReadMetadata.is in
     let at = reads_at g ACTORS self left c.requires.stands next in
     let plain = subst (λ m. IsReading g left (reading_by m self.opening.reading) self.opening.commit) at.none at.at in
     let u = under_way g left self.opening.reading self.opening.commit plain in
-    let two : 2 ≤ g.meta_sectors = omega (arith, c.node_count-two_slots.ensures.two_images_fit) in
-    let told = subst (λ x. DidTell self.asked.mode g g.meta_sectors left u.was device x c.read.result (reading_of new) new.opening.commit) u.commit_is (did.did u.was u.is) in
+    let room = had_room g _ c.node_count-two_slots.ensures.value c.node_count-two_slots.ensures.two_images_fit in
+    let told = subst (λ x. DidTell self.asked.mode asked g.meta_sectors left u.was device x c.read.result (reading_of new) new.opening.commit) u.commit_is (did.did u.was u.is) in
     let after = record c.args.devices.now { metadata = c.read.new.metadata } in
+    let finds = c.requires.finds u.was (ap (λ m. reading_by m self.opening.reading) at.none ∙ u.is) u.commit_is in
     at_commit ACTORS c.args.devices.now self (λ w. Happens shape w (Step self.asked.actor) (Stepped (Device c.args.step) c.read.result) [] (state_of ACTORS after (Underway new))) None u.commit_is
     (reads shape ACTORS c.args.devices.now after self new c.requires.there did.asked left u.was c.read.result (Stepped (Device c.args.step) c.read.result) next (ap (λ s. Stepped (Device s) c.read.result) c.in-ReadMetadata.is)
     (ap (λ m. reading_by m self.opening.reading) at.none ∙ u.is)
-    (does_read self.asked.mode g left u.was device c.read.result (reading_of new) new.opening.commit two c.requires.whole u.not_done u.left_is told) did.task (ap (λ (m : List History). record (contents_of c.args.devices.now) { metadata = m }) did.contents))
+    (does_read self.asked.mode g self.asked.second asked left u.was device c.read.result (reading_of new) new.opening.commit c.requires.stands.asks room c.requires.whole u.not_done u.left_is finds told did.whole)
+    did.task (ap (λ (m : List History). record (contents_of c.args.devices.now) { metadata = m }) did.contents))
 
-pub returns-in_ok-write_root-in-WriteRoot-clause-stands : goal.returns-in_ok-write_root-in-WriteRoot-clause-stands
-returns-in_ok-write_root-in-WriteRoot-clause-stands c =
-    let self = c.args.self.now in
-    let next : want self.task ≡ Device WriteRoot = is_device_step (want self.task) c.args.step c.requires.next ∙ ap (λ s. Device s) c.in-WriteRoot.is in
-    let done = c.in_ok-write_root-in-WriteRoot.ensures in
-    written_stands c.args.geometry.now ACTORS self c.write_root.new.self c.requires.stands next done.asked done.task done.geometry done.commit done.reading done.made
+pub write-requires-clause-puts : goal.write-requires-clause-puts
+write-requires-clause-puts c = else_puts (want c.args.self.now.task) c.args.step c.requires.next c.in_default.not-Sync c.in_default.not-ReadMetadata
 
-pub returns-in_ok-write_root-in-WriteRoot-clause-does : goal.returns-in_ok-write_root-in-WriteRoot-clause-does
-returns-in_ok-write_root-in-WriteRoot-clause-does c =
-    let self = c.args.self.now in
-    let new = c.write_root.new.self in
-    let after = c.write_root.new.devices in
-    let next : want self.task ≡ Device WriteRoot = is_device_step (want self.task) c.args.step c.requires.next ∙ ap (λ s. Device s) c.in-WriteRoot.is in
-    let done = c.in_ok-write_root-in-WriteRoot.ensures in
-    puts_there (shape_of c.args.geometry.now ACTORS) ACTORS c.args.devices.now after self new c.requires.there done.asked c.requires.whole c.requires.stands (Stepped (Device c.args.step) Done) next (ap (λ s. Stepped (Device s) Done) c.in-WriteRoot.is) done.task done.reading done.commit done.puts done.others
+pub write-requires-clause-next : goal.write-requires-clause-next
+write-requires-clause-next c = is_device_step (want c.args.self.now.task) c.args.step c.requires.next
 
-pub write_root-requires-clause-comes : goal.write_root-requires-clause-comes
-write_root-requires-clause-comes c =
+pub write-requires-clause-comes : goal.write-requires-clause-comes
+write-requires-clause-comes c =
     let self = c.args.self.now in
-    subst (λ s. RootComes s self.opening.commit c.args.devices.now.metadata.contents) c.in-WriteRoot.is (root_comes c.args.geometry.now ACTORS c.args.devices.now self c.args.step c.requires.whole c.requires.stands c.requires.next)
+    put_comes c.args.geometry.now ACTORS c.args.devices.now self c.args.step c.requires.whole c.requires.stands c.requires.next
+    (else_puts (want self.task) c.args.step c.requires.next c.in_default.not-Sync c.in_default.not-ReadMetadata)
+
+pub returns-in_ok-write-in_default-clause-stands : goal.returns-in_ok-write-in_default-clause-stands
+returns-in_ok-write-in_default-clause-stands c =
+    let self = c.args.self.now in
+    let next = is_device_step (want self.task) c.args.step c.requires.next in
+    let puts = else_puts (want self.task) c.args.step c.requires.next c.in_default.not-Sync c.in_default.not-ReadMetadata in
+    let done = c.in_ok-write-in_default.ensures in
+    written_stands c.args.geometry.now ACTORS self c.write.new.self c.args.step puts c.requires.stands next done.asked done.task done.geometry done.commit done.reading done.made
+
+pub returns-in_ok-write-in_default-clause-does : goal.returns-in_ok-write-in_default-clause-does
+returns-in_ok-write-in_default-clause-does c =
+    let self = c.args.self.now in
+    let next = is_device_step (want self.task) c.args.step c.requires.next in
+    let puts = else_puts (want self.task) c.args.step c.requires.next c.in_default.not-Sync c.in_default.not-ReadMetadata in
+    let done = c.in_ok-write-in_default.ensures in
+    puts_there (shape_of c.args.geometry.now ACTORS) ACTORS c.args.devices.now c.write.new.devices self c.write.new.self c.requires.there done.asked c.requires.whole c.requires.stands c.args.step (Stepped (Device c.args.step) Done) puts next c.requires.next refl done.task done.reading done.commit done.puts done.others
 
 pub sync-requires-clause-comes : goal.sync-requires-clause-comes
 sync-requires-clause-comes c =
