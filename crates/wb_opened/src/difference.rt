@@ -9,7 +9,7 @@ use wb_disk::Disk;
 use wb_format::Root;
 use wb_types::{Content, SECTOR_BYTES};
 
-/// A size that differs, in sectors, or the version of the metadata: what it was when they were formatted, and what it is.
+/// A size that differs, in sectors: what it was when the metadata were formatted, and what it is.
 #[derive(Clone, Copy)]
 pub struct Difference {
     part: Part,
@@ -17,23 +17,18 @@ pub struct Difference {
     found: u64,
 }
 
-/// Which of them it is.
+/// Which size it is.
 #[derive(Clone, Copy)]
 enum Part {
     Block,
     Cache,
     Origin,
     Metadata,
-    Version,
 }
 
-/// The first of these by which the newest root is none of the devices: the sizes of the block, the cache, the origin and the metadata, and the
-/// version that is asked for. None where there is no root, or it differs in none of them.
-pub(crate) fn find_difference<D: Disk>(
-    devices: &mut Devices<D>,
-    block: u64,
-    metadata2: bool,
-) -> Option<Difference> {
+/// The first of these by which the newest root is none of the devices: the sizes of the block, the cache, the origin and the metadata. None
+/// where there is no root, or it differs in none of them.
+pub(crate) fn find_difference<D: Disk>(devices: &mut Devices<D>, block: u64) -> Option<Difference> {
     let root = newest_root(&mut devices.metadata)?;
     let formatted = root.geometry;
     let of_block = u64::from(formatted.block);
@@ -53,11 +48,6 @@ pub(crate) fn find_difference<D: Disk>(
             Part::Metadata,
             u64::from(formatted.meta_sectors),
             devices.metadata.sectors(),
-        ),
-        (
-            Part::Version,
-            u64::from(formatted.version.number()),
-            1 + u64::from(metadata2),
         ),
     ];
     for (part, formatted, found) in parts {
@@ -112,10 +102,6 @@ impl Display for Difference {
             Part::Metadata => write!(
                 f,
                 "the metadata were formatted on {formatted} sectors, and have {found}"
-            ),
-            Part::Version => write!(
-                f,
-                "the metadata were formatted in version {formatted}, and the table asks for version {found}"
             ),
         }
     }

@@ -120,7 +120,7 @@ fn unserved_of<'a, D: Disk>(
     refusal: Refusal,
 ) -> Unserved<'a> {
     if refusal == Refusal::Mismatch {
-        if let Some(difference) = find_difference(devices, table.block, table.metadata2) {
+        if let Some(difference) = find_difference(devices, table.block) {
             return Unserved::Differs(difference);
         }
     }

@@ -13,7 +13,7 @@ pub enum Unserved<'a> {
     Unopened(Unopened<'a>),
     /// There is no memory, or a step of an open device failed, or what the devices hold is no target of this table.
     Refused(Refusal),
-    /// The metadata are those of other files, of another block size, or of another version.
+    /// The metadata are those of other files, or of another block size.
     Differs(Difference),
 }
 

@@ -1,5 +1,5 @@
 -- A step of an opening that makes its target is one of the opening.
-use Rattle.std.proofs.Common.{◌≡◌, ◌⊎◌, ◌∙◌, ℕ, Bool, true, false, List, inl, sym}
+use Rattle.std.proofs.Common.{◌≡◌, ◌⊎◌, ◌∙◌, ◌&&◌, ℕ, Bool, true, false, List, inl, refl, sym}
 use Rattle.std.specs.Bool.{OnTrue}
 use Rattle.std.specs.Result.{is_ok}
 use Rattle.std.proofs.lemmas.Bool.{OnTrue_from}
@@ -14,17 +14,27 @@ use Rattle.wb_devices.specs.declared.opening_stage.OpeningStage.{OpeningStage}
 use Rattle.std.specs.Prelude.{Result, Ok, Err, IfOk, IfErr, OnOk}
 use Rattle.wb_target.specs.Making.{IsTakenFor}
 
-pub led_on : {D : Type 0} (Made Kept : Type 0) (tells : Type 0) (size : D → ℕ) (contents : D → List History) (faults : D → ℕ) (old before new : OpeningStage D) (want : Want) (got : Got)
-    → IsTakenFor want old before → before.mode ≡ old.mode → Kept → LedOpening tells size contents faults before want got new → Made
+pub led_on : {D : Type 0} (due : Bool) (Made Once Kept : Type 0) (tells : Type 0) (size : D → ℕ) (contents : D → List History) (faults : D → ℕ) (old before new : OpeningStage D) (want : Want) (got : Got)
+    → IsTakenFor due old before → before.mode ≡ old.mode → Kept → LedOpening tells size contents faults before want got new → Made → Once
     → MayGoOn (size new.devices.metadata) new.opening
     × (new.mode ≡ old.mode)
     × Kept
-    × (((mid : OpeningStage D) × IsTakenFor want old mid × LedOpening tells size contents faults mid want got new × Made)
+    × (((mid : OpeningStage D) × IsTakenFor due old mid × LedOpening tells size contents faults mid want got new × Made × Once)
     ⊎ ((got ≡ Fault) × (new.devices ≡ old.devices)))
-led_on Made Kept tells size contents faults old before new (Device step) got taken m kept led made = (led.3, led.5 ∙ m, kept, inl (before, taken, led, made))
-led_on Made Kept tells size contents faults old before new (Cell step) got taken m kept led made = absurd led
-led_on Made Kept tells size contents faults old before new (Desk step) got taken m kept led made = absurd led
-led_on Made Kept tells size contents faults old before new (End answer) got taken m kept led made = absurd led
+led_on due Made Once Kept tells size contents faults old before new (Device step) got taken m kept led made once = (led.3, led.5 ∙ m, kept, inl (before, taken, led, made, once))
+led_on due Made Once Kept tells size contents faults old before new (Cell step) got taken m kept led made once = absurd led
+led_on due Made Once Kept tells size contents faults old before new (Desk step) got taken m kept led made once = absurd led
+led_on due Made Once Kept tells size contents faults old before new (End answer) got taken m kept led made once = absurd led
+
+-- what is due is not there, and is a step's that writes
+pub due_writes : (w none : Bool) → (w && none) ≡ true → w ≡ true
+due_writes true none due = refl
+due_writes false none due = due
+
+-- where nothing is due a step that writes finds it there
+pub there_already : (w none : Bool) → (w && none) ≡ false → w ≡ true → none ≡ false
+there_already true none undue writing = undue
+there_already false none undue writing = absurd cc
 
 -- what holds of every refusal holds of the one that there is
 pub err_anyway : {T E : Type 0} (r : Result T E) (Q : E → Type 0) → ((e : E) → Q e) → IfErr r Q

@@ -1,5 +1,5 @@
 -- What a target's opening has opened. Its steps are those of an opening of the devices alone, which keeps what it has read; and a desk was made of just that.
-use Rattle.std.proofs.Common.{◌≡◌, ◌∙◌, ℕ, false, ◌-◌, List, [], ◌∷◌, Option, Some, refl, sym, subst, ap, inl, inr}
+use Rattle.std.proofs.Common.{◌≡◌, ◌∙◌, ◌&&◌, ℕ, zero, suc, Bool, true, false, ◌+◌, ◌-◌, List, [], ◌∷◌, ◌++◌, Option, Some, None, is_none, refl, sym, subst, ap, inl, inr}
 use Rattle.std.specs.declared.alloc.Global.{Global}
 use Rattle.wb_types.specs.declared.message.Key.{Key}
 use Rattle.wb_types.specs.declared.mode.Dev.TheVariants.{Metadata, Cache, Origin}
@@ -13,25 +13,26 @@ use Rattle.wb_meta.specs.declared.read_steps.ReadSteps.{ReadSteps}
 use Rattle.wb_meta.specs.declared.read_steps.ReadSteps.TheVariants.{Done as AllRead}
 use Rattle.wb_meta.specs.declared.read_steps.State.{State}
 use Rattle.wb_tasks.specs.Tables.{TaskJob, Opening as OpeningJob}
-use Rattle.wb_tasks.specs.Plan.{Plan, table, want, after, Fits, IsStep}
+use Rattle.wb_tasks.specs.Plan.{Plan, table, want, after, node_writes, opening_root, Fits, IsStep}
 use Rattle.wb_tasks.specs.Run.{IsRunOf, Leads}
 use Rattle.wb_tasks.specs.declared.step.Answer.{Answer}
 use Rattle.wb_tasks.specs.declared.step.Answer.TheVariants.{Done as Finished, Refused as Refuses}
-use Rattle.wb_tasks.specs.declared.step.DeviceStep.TheVariants.{Sync, ReadMetadata, WriteRoot}
+use Rattle.wb_tasks.specs.declared.step.DeviceStep.{DeviceStep}
+use Rattle.wb_tasks.specs.declared.step.DeviceStep.TheVariants.{Sync, ReadMetadata, WriteNode, WriteRoot}
 use Rattle.wb_tasks.specs.declared.step.Want.{Want}
 use Rattle.wb_tasks.specs.declared.step.Want.TheVariants.{Device, End}
 use Rattle.wb_tasks.specs.declared.step.Got.{Got}
-use Rattle.wb_tasks.specs.declared.step.Got.TheVariants.{Done, Fault, Refused, More}
+use Rattle.wb_tasks.specs.declared.step.Got.TheVariants.{Done, Fault, Refused, Began, More}
 use Rattle.wb_tasks.proofs.Driving.{no_result}
 use Rattle.wb_devices.specs.Moving.{OthersStay}
-use Rattle.wb_devices.specs.Stepping.{CommitGoes, DidStep, Goes}
+use Rattle.wb_devices.specs.Stepping.{DidStep, Goes}
 use Rattle.wb_devices.specs.Openings.{MayGoOn, HasNotBegun}
 use Rattle.wb_devices.specs.OpeningLed.{LedOpening}
 use Rattle.wb_devices.specs.declared.devices.Devices.{Devices}
 use Rattle.wb_devices.specs.declared.opening_stage.OpeningStage.{OpeningStage}
 use Rattle.wb_devices.specs.declared.running.RunningCommit.{RunningCommit}
 use Rattle.wb_devices.proofs.Ending.{has_ended}
-use Rattle.wb_target.specs.Making.{IsMade, IsTakenFor, MakingGoesOn, WasOpened, writes_root}
+use Rattle.wb_target.specs.Making.{IsMade, IsMadeOnce, MakingGoesOn, WasOpened, is_due, writes}
 use Rattle.wb_target.specs.declared.making.MakingStage.{MakingStage}
 
 -- an opening with these steps to come
@@ -61,6 +62,33 @@ with_read stage state = record stage { opening = record stage.opening { reading 
 abbrev ReadOn : ℕ → State Global → Type 0
 ReadOn sectors state = AreStepsOn sectors (AllRead state)
 
+-- a step that writes or syncs the metadata, and a list of them
+abbrev IsPut : Want → Type 0
+IsPut (Device (WriteNode number)) = Unit {0}
+IsPut (Device WriteRoot) = Unit {0}
+IsPut (Device (Sync Metadata)) = Unit {0}
+IsPut want = ⊥
+
+abbrev AllPut : List Want → Type 0
+AllPut [] = Unit {0}
+AllPut (w ∷ ws) = IsPut w × AllPut ws
+
+all_put : (nodes first : ℕ) → AllPut (node_writes nodes first ++ Device (Sync Metadata) ∷ opening_root)
+all_put zero first = (tt, (tt, (tt, tt)))
+all_put (suc nodes) first = (tt, all_put nodes (first + 1))
+
+and_false : (w none : Bool) → none ≡ false → (w && none) ≡ false
+and_false true none there = there
+and_false false none there = refl
+
+-- a target that is there stays
+is_there : {M : Type 0} (old new : Option M) (w : Want) → IsMadeOnce old w new → is_none old ≡ false → is_none new ≡ false
+is_there old new w once there = by_cases (writes w) refl
+  where
+    by_cases : (b : Bool) → b ≡ writes w → is_none new ≡ false
+    by_cases true is = once.there (sym is)
+    by_cases false is = ap is_none (once.kept (sym is)) ∙ there
+
 -- the image stays as a commit goes on
 image_stays : (size : ℕ) (next : RunningCommit) (step : _) (got : Got) (commit commit' : Option RunningCommit) → commit ≡ Some next → Goes size commit step got commit' → (later : RunningCommit) × (commit' ≡ Some later) × (later.image ≡ next.image)
 image_stays size next step got commit commit' is goes = let so : Goes size (Some next) step got commit' = subst (λ (c : Option RunningCommit). Goes size c step got commit') is goes in (so.0, so.1, so.2)
@@ -72,14 +100,12 @@ module _ {D P : Type 0} (tells : Type 0) (size : D → ℕ) (contents : D → Li
   abbrev Makes : MakingStage D P → Want → Got → MakingStage D P → Type 0
   Makes = MakingGoesOn tells size contents faults with_setting
 
-  -- an opening in this mode, with these keys, that may go on
+  -- an opening in this mode, with these keys, that may go on, and has made no target yet
   record Stands (m : MakingStage D P) : Type 0 where
     may : MayGoOn (size m.stage.devices.metadata) m.stage.opening
     mode_is : m.stage.mode ≡ mode
     keys_are : m.keys.now ≡ keys
-
-  stands_on : (m mid : MakingStage D P) (w : Want) (got : Got) → Stands m → Makes m w got mid → Stands mid
-  stands_on m mid w got h makes = record { may = makes.0; mode_is = makes.1 ∙ h.mode_is; keys_are = ap (λ k. k.now) makes.2 ∙ h.keys_are }
+    made_none : is_none m.made ≡ true
 
   -- a desk was made of what was read here, by the root that is written
   record IsMadeHere (stage : OpeningStage D) : Type 0 where
@@ -123,81 +149,172 @@ module _ {D P : Type 0} (tells : Type 0) (size : D → ℕ) (contents : D → Li
     leads = l.2;
   }
 
-  -- a step that is not the root's is the opening's own, as it stands
-  exact : (m mid : MakingStage D P) (w : Want) (got : Got) → writes_root w ≡ false → (got ≡ Fault → ⊥) → Makes m w got mid → Led m.stage w got mid.stage
-  exact m mid w got other well makes = elim makes.3 [
-    | inl led ↦ subst (λ (s : OpeningStage D). Led s w got mid.stage) (led.1.others other) led.2
+  -- a step that is the opening's own, as it stands
+  record Stays (m mid : MakingStage D P) (w : Want) (got : Got) : Type 0 where
+    led : Led m.stage w got mid.stage
+    once : IsMadeOnce m.made w mid.made
+
+  -- as one is where nothing is due
+  exact : (m mid : MakingStage D P) (w : Want) (got : Got) → is_due m.made w ≡ false → (got ≡ Fault → ⊥) → Makes m w got mid → Stays m mid w got
+  exact m mid w got undue well makes = elim makes.3 [
+    | inl so ↦ record { led = subst (λ (s : OpeningStage D). Led s w got mid.stage) (so.1.others undue) so.2; once = so.4 }
     | inr failed ↦ absurd (well failed.0)
   ]
 
-  -- ---- the sync behind the root
+  -- one that writes nothing
+  record Passes (m mid : MakingStage D P) (w : Want) (got : Got) : Type 0 where
+    led : Led m.stage w got mid.stage
+    stands : Stands mid
 
-  sync_led : (m mid : MakingStage D P) (state : State Global) → ReadOn (size m.stage.devices.metadata) state → Led m.stage (Device (Sync Metadata)) Done mid.stage → Led (with_read m.stage state) (Device (Sync Metadata)) Done (with_read mid.stage state)
-  sync_led m mid state on led = (led.0, led.1, led.2, subst (λ (n : ℕ). AreStepsOn n (AllRead state)) (sym led.1) on, (refl, led.4.1, led.4.2), led.5)
+  passes : (m mid : MakingStage D P) (w : Want) (got : Got) → writes w ≡ false → (got ≡ Fault → ⊥) → Stands m → Makes m w got mid → Passes m mid w got
+  passes m mid w got other well h makes =
+      let so = exact m mid w got (ap (λ b. b && is_none m.made) other) well makes in
+      record {
+        led = so.led;
+        stands = record { may = makes.0; mode_is = makes.1 ∙ h.mode_is; keys_are = ap (λ k. k.now) makes.2 ∙ h.keys_are; made_none = ap is_none (so.once.kept other) ∙ h.made_none };
+      }
 
-  synced_by : (left : ℕ) (m : MakingStage D P) (state : State Global) → ReadOn (size m.stage.devices.metadata) state → IsMadeHere (with_read m.stage state) → (got : Got) (mid : MakingStage D P) (rest : List (Want × Got)) (last : MakingStage D P) →
-      Fits (Device (Sync Metadata)) got → Makes m (Device (Sync Metadata)) got mid → IsRunOf (after (to_come left (Device (Sync Metadata) ∷ [])) got) rest Finished → Leads Makes mid rest last → Alone (to_come left (Device (Sync Metadata) ∷ [])) (with_read m.stage state) last
-  synced_by left m state on made Fault mid rest last f makes r l = absurd (not_done (OpeningJob left) (Io Metadata) rest r)
-  synced_by left m state on made Done mid rest last f makes r l =
-      let led = sync_led m mid state on (exact m mid (Device (Sync Metadata)) Done refl no_fault makes) in
-      let later = image_stays (size m.stage.devices.metadata) made.next (Sync Metadata) Done m.stage.opening.commit mid.stage.opening.commit made.commit_is led.4.1 in
-      let nothing = (ends_so (OpeningJob left) Finished Finished rest r).0 in
-      let is : mid ≡ last = subst (λ (steps : List (Want × Got)). Leads Makes mid steps last) nothing l in
-      step_first (to_come left (Device (Sync Metadata) ∷ [])) (with_read m.stage state) (with_read mid.stage state) Done last f led (record {
-        steps = [];
-        run = refl;
-        new = with_read mid.stage state;
-        leads = refl;
-        devices = ap (λ (x : MakingStage D P). x.stage.devices) is;
-        made = record {
-          state = made.state;
-          next = later.0;
-          reading_is = made.reading_is;
-          commit_is = later.1;
-          made = subst (λ (image : Image). IsMade with_setting made.state.root.geometry image.root.generation made.state.tree made.state.used.items mode keys) (sym later.2) made.made;
-        };
-      })
-  synced_by left m state on made got mid rest last f makes r l = absurd f
+  -- ---- behind the first step that writes
 
-  -- ---- the root
+  -- the target was made of this state, which the opening has no longer
+  record Holds (m : MakingStage D P) (state : State Global) : Type 0 where
+    there : is_none m.made ≡ false
+    on : ReadOn (size m.stage.devices.metadata) state
+    made : IsMadeHere (with_read m.stage state)
 
-  -- what it does besides to what was read
-  abbrev PutOn : Devices D → Option RunningCommit → MakingStage D P → Type 0
-  PutOn devices commit mid = OthersStay Metadata devices mid.stage.devices
+  -- what a step on the metadata does besides to what was read
+  abbrev PutOn : DeviceStep → Devices D → Option RunningCommit → MakingStage D P → Type 0
+  PutOn step devices commit mid = OthersStay Metadata devices mid.stage.devices
       × (size mid.stage.devices.metadata ≡ size devices.metadata)
-      × CommitGoes (size devices.metadata) commit WriteRoot Done mid.stage.opening.commit
-      × (tells → DidStep commit WriteRoot Done (size devices.metadata) (contents devices.metadata) (faults devices.metadata) [] [] (contents mid.stage.devices.metadata) (faults mid.stage.devices.metadata))
+      × Goes (size devices.metadata) commit step Done mid.stage.opening.commit
+      × (tells → DidStep commit step Done (size devices.metadata) (contents devices.metadata) (faults devices.metadata) [] [] (contents mid.stage.devices.metadata) (faults mid.stage.devices.metadata))
 
-  root_led : (m mid : MakingStage D P) (before : OpeningStage D) (state : State Global) → Stands m → m.stage.opening.reading ≡ Some (AllRead state) → IsTakenFor (Device WriteRoot) m.stage before → mid.stage.mode ≡ m.stage.mode → Led before (Device WriteRoot) Done mid.stage
-      → Led m.stage (Device WriteRoot) Done (with_read mid.stage state) × ReadOn (size mid.stage.devices.metadata) state
-  root_led m mid before state h reads taken same led =
-      let put = subst (λ (commit : Option RunningCommit). PutOn m.stage.devices commit mid) taken.commit (subst (λ (devices : Devices D). PutOn devices before.opening.commit mid) taken.devices (led.0, led.1, led.4.1, led.4.2)) in
-      let was : ReadOn (size m.stage.devices.metadata) state = subst (λ (r : Option (ReadSteps Global)). IfSome r (AreStepsOn (size m.stage.devices.metadata))) reads h.may in
-      let on : ReadOn (size mid.stage.devices.metadata) state = subst (λ (n : ℕ). AreStepsOn n (AllRead state)) (sym put.1) was in
-      ((put.0, put.1, led.2 ∙ taken.geometry, on, (sym reads, put.2, put.3), same), on)
+  put_of : (step : DeviceStep) (before : OpeningStage D) (mid : MakingStage D P) → IsPut (Device step) → Led before (Device step) Done mid.stage → PutOn step before.devices before.opening.commit mid
+  put_of (WriteNode number) before mid is led = (led.0, led.1, led.4.1, led.4.2)
+  put_of WriteRoot before mid is led = (led.0, led.1, led.4.1, led.4.2)
+  put_of (Sync Metadata) before mid is led = (led.0, led.1, led.4.1, led.4.2)
+  put_of step before mid is led = absurd is
 
-  root_by : (left : ℕ) (m : MakingStage D P) → Stands m → (got : Got) (mid : MakingStage D P) (rest : List (Want × Got)) (last : MakingStage D P) → Fits (Device WriteRoot) got → Makes m (Device WriteRoot) got mid →
-      IsRunOf (after (to_come left (Device WriteRoot ∷ Device (Sync Metadata) ∷ [])) got) rest Finished → Leads Makes mid rest last → Alone (to_come left (Device WriteRoot ∷ Device (Sync Metadata) ∷ [])) m.stage last
-  root_by left m h Fault mid rest last f makes r l = absurd (not_done (OpeningJob left) (Io Metadata) rest r)
-  root_by left m h Done mid rest last f makes r l = elim makes.3 [
+  -- what was read stays with it
+  led_with : (step : DeviceStep) (m : OpeningStage D) (mid : MakingStage D P) (state : State Global) → IsPut (Device step) → m.opening.reading ≡ Some (AllRead state) → mid.stage.opening.geometry ≡ m.opening.geometry → mid.stage.mode ≡ m.mode → ReadOn (size mid.stage.devices.metadata) state
+      → PutOn step m.devices m.opening.commit mid → Led m (Device step) Done (with_read mid.stage state)
+  led_with (WriteNode number) m mid state is reads geometry same on put = (put.0, put.1, geometry, on, (sym reads, put.2, put.3), same)
+  led_with WriteRoot m mid state is reads geometry same on put = (put.0, put.1, geometry, on, (sym reads, put.2, put.3), same)
+  led_with (Sync Metadata) m mid state is reads geometry same on put = (put.0, put.1, geometry, on, (sym reads, put.2, put.3), same)
+  led_with step m mid state is reads geometry same on put = absurd is
+
+  -- the target that was made stays that of the commit which goes on
+  made_on : (step : DeviceStep) (devices : Devices D) (commit : Option RunningCommit) (mid : MakingStage D P) (state : State Global) (next : RunningCommit) → commit ≡ Some next → IsMade with_setting state.root.geometry next.image.root.generation state.tree state.used.items mode keys
+      → PutOn step devices commit mid → IsMadeHere (with_read mid.stage state)
+  made_on step devices commit mid state next commit_is made put =
+      let later = image_stays (size devices.metadata) next step Done commit mid.stage.opening.commit commit_is put.2 in
+      record {
+        state = state;
+        next = later.0;
+        reading_is = refl;
+        commit_is = later.1;
+        made = subst (λ (image : Image). IsMade with_setting state.root.geometry image.root.generation state.tree state.used.items mode keys) (sym later.2) made;
+      }
+
+  -- a step on the metadata behind which the target is there
+  record Wrote (s : OpeningStage D) (step : DeviceStep) (mid : MakingStage D P) : Type 0 where
+    state : State Global
+    led : Led s (Device step) Done (with_read mid.stage state)
+    holds : Holds mid state
+
+  -- one that comes when it is there
+  wrote_on : (step : DeviceStep) (m mid : MakingStage D P) (state : State Global) → IsPut (Device step) → Holds m state → Makes m (Device step) Done mid → Wrote (with_read m.stage state) step mid
+  wrote_on step m mid state is h makes =
+      let so = exact m mid (Device step) Done (and_false (writes (Device step)) (is_none m.made) h.there) no_fault makes in
+      let put = put_of step m.stage mid is so.led in
+      let on : ReadOn (size mid.stage.devices.metadata) state = subst (λ (n : ℕ). AreStepsOn n (AllRead state)) (sym put.1) h.on in
+      let same_state : h.made.state ≡ state = let both : Some (AllRead h.made.state) ≡ Some (AllRead state) = sym h.made.reading_is in cc in
+      record {
+        state = state;
+        led = led_with step (with_read m.stage state) mid state is refl so.led.2 makes.1 on put;
+        holds = record {
+          there = is_there m.made mid.made (Device step) so.once h.there;
+          on = on;
+          made = made_on step m.stage.devices m.stage.opening.commit mid state h.made.next h.made.commit_is (subst (λ (x : State Global). IsMade with_setting x.root.geometry h.made.next.image.root.generation x.tree x.used.items mode keys) same_state h.made.made) put;
+        };
+      }
+
+  -- the first that writes
+  wrote : (step : DeviceStep) (m mid : MakingStage D P) → IsPut (Device step) → writes (Device step) ≡ true → Stands m → Makes m (Device step) Done mid → Wrote m.stage step mid
+  wrote step m mid is first h makes = elim makes.3 [
     | inl so ↦
-        let read = so.3 refl in
-        let led = root_led m mid so.0 read.state h read.reading_is so.1 makes.1 so.2 in
-        let later = image_stays (size m.stage.devices.metadata) read.next WriteRoot Done m.stage.opening.commit mid.stage.opening.commit read.commit_is led.0.4.1 in
-        let next = taken (to_come left (Device (Sync Metadata) ∷ [])) mid rest last tt r l in
-        step_first (to_come left (Device WriteRoot ∷ Device (Sync Metadata) ∷ [])) m.stage (with_read mid.stage read.state) Done last f led.0
-        (synced_by left mid read.state led.1 (record {
+        let read = so.3 (ap (λ b. b && is_none m.made) first ∙ h.made_none) in
+        let taken = so.1 in
+        let put = subst (λ (commit : Option RunningCommit). PutOn step m.stage.devices commit mid) taken.commit (subst (λ (devices : Devices D). PutOn step devices so.0.opening.commit mid) taken.devices (put_of step so.0 mid is so.2)) in
+        let was : ReadOn (size m.stage.devices.metadata) read.state = subst (λ (r : Option (ReadSteps Global)). IfSome r (AreStepsOn (size m.stage.devices.metadata))) read.reading_is h.may in
+        let on : ReadOn (size mid.stage.devices.metadata) read.state = subst (λ (n : ℕ). AreStepsOn n (AllRead read.state)) (sym put.1) was in
+        record {
           state = read.state;
-          next = later.0;
-          reading_is = refl;
-          commit_is = later.1;
-          made = subst (λ (image : Image). IsMade with_setting read.state.root.geometry image.root.generation read.state.tree read.state.used.items mode keys) (sym later.2)
-              (subst (λ (k : List (Key × ℕ)). IsMade with_setting read.state.root.geometry read.next.image.root.generation read.state.tree read.state.used.items mode k) h.keys_are
-              (subst (λ (x : Mode). IsMade with_setting read.state.root.geometry read.next.image.root.generation read.state.tree read.state.used.items x m.keys.now) h.mode_is read.made));
-        }) next.got next.mid next.rest last next.fits next.makes next.run next.leads)
+          led = led_with step m.stage mid read.state is read.reading_is (so.2.2 ∙ taken.geometry) makes.1 on put;
+          holds = record {
+            there = so.4.there first;
+            on = on;
+            made = made_on step m.stage.devices m.stage.opening.commit mid read.state read.next read.commit_is
+                (subst (λ (k : List (Key × ℕ)). IsMade with_setting read.state.root.geometry read.next.image.root.generation read.state.tree read.state.used.items mode k) h.keys_are
+                (subst (λ (x : Mode). IsMade with_setting read.state.root.geometry read.next.image.root.generation read.state.tree read.state.used.items x m.keys.now) h.mode_is read.made)) put;
+          };
+        }
     | inr failed ↦ absurd (no_fault failed.0)
   ]
-  root_by left m h got mid rest last f makes r l = absurd f
+
+  -- what is left then: steps that write or sync the metadata
+  after_put : (left : ℕ) (step : DeviceStep) (ws : List Want) (got : Got) (rest : List (Want × Got)) → IsPut (Device step) → Fits (Device step) got → IsRunOf (after (to_come left (Device step ∷ ws)) got) rest Finished → (got ≡ Done) × IsRunOf (to_come left ws) rest Finished
+  after_put left (WriteNode number) ws Done rest is f r = (refl, r)
+  after_put left (WriteNode number) ws Fault rest is f r = absurd (not_done (OpeningJob left) (Io Metadata) rest r)
+  after_put left WriteRoot ws Done rest is f r = (refl, r)
+  after_put left WriteRoot ws Fault rest is f r = absurd (not_done (OpeningJob left) (Io Metadata) rest r)
+  after_put left (Sync Metadata) ws Done rest is f r = (refl, r)
+  after_put left (Sync Metadata) ws Fault rest is f r = absurd (not_done (OpeningJob left) (Io Metadata) rest r)
+  after_put left (WriteNode number) ws got rest is f r = absurd f
+  after_put left WriteRoot ws got rest is f r = absurd f
+  after_put left (Sync Metadata) ws got rest is f r = absurd f
+  after_put left step ws got rest is f r = absurd is
+
+  before_put : (left : ℕ) (step : DeviceStep) (ws : List Want) (old mid : OpeningStage D) (last : MakingStage D P) → IsPut (Device step) → Led old (Device step) Done mid → Alone (to_come left ws) mid last → Alone (to_come left (Device step ∷ ws)) old last
+  before_put left (WriteNode number) ws old mid last is led a = step_first (to_come left (Device (WriteNode number) ∷ ws)) old mid Done last tt led a
+  before_put left WriteRoot ws old mid last is led a = step_first (to_come left (Device WriteRoot ∷ ws)) old mid Done last tt led a
+  before_put left (Sync Metadata) ws old mid last is led a = step_first (to_come left (Device (Sync Metadata) ∷ ws)) old mid Done last tt led a
+  before_put left step ws old mid last is led a = absurd is
+
+  putting : (left : ℕ) (ws : List Want) → AllPut ws → (m : MakingStage D P) (state : State Global) → Holds m state → (steps : List (Want × Got)) (last : MakingStage D P) → IsRunOf (to_come left ws) steps Finished → Leads Makes m steps last → Alone (to_come left ws) (with_read m.stage state) last
+  putting left [] all m state h steps last r l =
+      let nothing = (ends_so (OpeningJob left) Finished Finished steps r).0 in
+      let is : m ≡ last = subst (λ (s : List (Want × Got)). Leads Makes m s last) nothing l in
+      record { steps = []; run = refl; new = with_read m.stage state; leads = refl; devices = ap (λ (x : MakingStage D P). x.stage.devices) is; made = h.made }
+  putting left (Device step ∷ ws) all m state h steps last r l =
+      let next = taken (to_come left (Device step ∷ ws)) m steps last tt r l in
+      let well = after_put left step ws next.got next.rest all.0 next.fits next.run in
+      let w = wrote_on step m next.mid state all.0 h (subst (λ (got : Got). Makes m (Device step) got next.mid) well.0 next.makes) in
+      before_put left step ws (with_read m.stage state) (with_read next.mid.stage w.state) last all.0 w.led (putting left ws all.1 next.mid w.state w.holds next.rest last well.1 next.leads)
+  putting left (w ∷ ws) all m state h steps last r l = absurd all.0
+
+  -- the first of them writes
+  put_first : (left : ℕ) (step : DeviceStep) (ws : List Want) → IsPut (Device step) → writes (Device step) ≡ true → AllPut ws → (m : MakingStage D P) → Stands m → (steps : List (Want × Got)) (last : MakingStage D P) → IsRunOf (to_come left (Device step ∷ ws)) steps Finished → Leads Makes m steps last
+      → Alone (to_come left (Device step ∷ ws)) m.stage last
+  put_first left step ws is first all m h steps last r l =
+      let next = taken (to_come left (Device step ∷ ws)) m steps last tt r l in
+      let well = after_put left step ws next.got next.rest is next.fits next.run in
+      let w = wrote step m next.mid is first h (subst (λ (got : Got). Makes m (Device step) got next.mid) well.0 next.makes) in
+      before_put left step ws m.stage (with_read next.mid.stage w.state) last is w.led (putting left ws all next.mid w.state w.holds next.rest last well.1 next.leads)
+
+  -- ---- the root, and the nodes of what is converted before it
+
+  rooting : (left : ℕ) (m : MakingStage D P) → Stands m → (steps : List (Want × Got)) (last : MakingStage D P) → IsRunOf (to_come left opening_root) steps Finished → Leads Makes m steps last → Alone (to_come left opening_root) m.stage last
+  rooting left m h steps last r l = put_first left WriteRoot (Device (Sync Metadata) ∷ []) tt refl (tt, tt) m h steps last r l
+
+  writing : (left nodes : ℕ) (m : MakingStage D P) → Stands m → (steps : List (Want × Got)) (last : MakingStage D P) → IsRunOf (to_come left (node_writes nodes 0 ++ Device (Sync Metadata) ∷ opening_root)) steps Finished → Leads Makes m steps last
+      → Alone (to_come left (node_writes nodes 0 ++ Device (Sync Metadata) ∷ opening_root)) m.stage last
+  writing left zero m h steps last r l =
+      let next = taken (to_come left (Device (Sync Metadata) ∷ opening_root)) m steps last tt r l in
+      let well = after_put left (Sync Metadata) opening_root next.got next.rest tt next.fits next.run in
+      let p = passes m next.mid (Device (Sync Metadata)) Done refl no_fault h (subst (λ (got : Got). Makes m (Device (Sync Metadata)) got next.mid) well.0 next.makes) in
+      before_put left (Sync Metadata) opening_root m.stage next.mid.stage last tt p.led (rooting left next.mid p.stands next.rest last well.1 next.leads)
+  writing left (suc nodes) m h steps last r l = put_first left (WriteNode 0) (node_writes nodes 1 ++ Device (Sync Metadata) ∷ opening_root) tt refl (all_put nodes 1) m h steps last r l
 
   -- ---- reading
 
@@ -206,11 +323,14 @@ module _ {D P : Type 0} (tells : Type 0) (size : D → ℕ) (contents : D → Li
   read_by left more m h Fault mid rest last f makes on r l = absurd (not_done (OpeningJob left) (Io Metadata) rest r)
   read_by left more m h (Refused refusal) mid rest last f makes on r l = absurd (not_done (OpeningJob left) refusal rest r)
   read_by left more m h More mid rest last f makes on r l =
-      step_first (to_read left more) m.stage mid.stage More last f (exact m mid (Device (ReadMetadata more)) More refl (λ e. cc) makes) (on (more - 1) (stands_on m mid (Device (ReadMetadata more)) More h makes) r)
+      let p = passes m mid (Device (ReadMetadata more)) More refl (λ e. cc) h makes in
+      step_first (to_read left more) m.stage mid.stage More last f p.led (on (more - 1) p.stands r)
+  read_by left more m h (Began nodes) mid rest last f makes on r l =
+      let p = passes m mid (Device (ReadMetadata more)) (Began nodes) refl (λ e. cc) h makes in
+      step_first (to_read left more) m.stage mid.stage (Began nodes) last f p.led (writing left nodes mid p.stands rest last r l)
   read_by left more m h Done mid rest last f makes on r l =
-      let next = taken (to_come left (Device WriteRoot ∷ Device (Sync Metadata) ∷ [])) mid rest last tt r l in
-      step_first (to_read left more) m.stage mid.stage Done last f (exact m mid (Device (ReadMetadata more)) Done refl no_fault makes)
-      (root_by left mid (stands_on m mid (Device (ReadMetadata more)) Done h makes) next.got next.mid next.rest last next.fits next.makes next.run next.leads)
+      let p = passes m mid (Device (ReadMetadata more)) Done refl no_fault h makes in
+      step_first (to_read left more) m.stage mid.stage Done last f p.led (rooting left mid p.stands rest last r l)
   read_by left more m h got mid rest last f makes on r l = absurd f
 
   reading : (left more : ℕ) (m : MakingStage D P) → Stands m → (steps : List (Want × Got)) (last : MakingStage D P) → IsRunOf (to_read left more) steps Finished → Leads Makes m steps last → Alone (to_read left more) m.stage last
@@ -228,8 +348,8 @@ module _ {D P : Type 0} (tells : Type 0) (size : D → ℕ) (contents : D → Li
       IsRunOf (after (to_come left (Device (Sync Origin) ∷ (to_read left left).steps)) got) rest Finished → Leads Makes mid rest last → Alone (to_come left (Device (Sync Origin) ∷ (to_read left left).steps)) m.stage last
   origin_by left m h Fault mid rest last f makes r l = absurd (not_done (OpeningJob left) (Io Origin) rest r)
   origin_by left m h Done mid rest last f makes r l =
-      step_first (to_come left (Device (Sync Origin) ∷ (to_read left left).steps)) m.stage mid.stage Done last f (exact m mid (Device (Sync Origin)) Done refl no_fault makes)
-      (reading left left mid (stands_on m mid (Device (Sync Origin)) Done h makes) rest last r l)
+      let p = passes m mid (Device (Sync Origin)) Done refl no_fault h makes in
+      step_first (to_come left (Device (Sync Origin) ∷ (to_read left left).steps)) m.stage mid.stage Done last f p.led (reading left left mid p.stands rest last r l)
   origin_by left m h got mid rest last f makes r l = absurd f
 
   cache_by : (left : ℕ) (m : MakingStage D P) → Stands m → (got : Got) (mid : MakingStage D P) (rest : List (Want × Got)) (last : MakingStage D P) → Fits (Device (Sync Cache)) got → Makes m (Device (Sync Cache)) got mid →
@@ -237,8 +357,9 @@ module _ {D P : Type 0} (tells : Type 0) (size : D → ℕ) (contents : D → Li
   cache_by left m h Fault mid rest last f makes r l = absurd (not_done (OpeningJob left) (Io Cache) rest r)
   cache_by left m h Done mid rest last f makes r l =
       let next = taken (to_come left (Device (Sync Origin) ∷ (to_read left left).steps)) mid rest last tt r l in
-      step_first (to_come left (Device (Sync Cache) ∷ Device (Sync Origin) ∷ (to_read left left).steps)) m.stage mid.stage Done last f (exact m mid (Device (Sync Cache)) Done refl no_fault makes)
-      (origin_by left mid (stands_on m mid (Device (Sync Cache)) Done h makes) next.got next.mid next.rest last next.fits next.makes next.run next.leads)
+      let p = passes m mid (Device (Sync Cache)) Done refl no_fault h makes in
+      step_first (to_come left (Device (Sync Cache) ∷ Device (Sync Origin) ∷ (to_read left left).steps)) m.stage mid.stage Done last f p.led
+      (origin_by left mid p.stands next.got next.mid next.rest last next.fits next.makes next.run next.leads)
   cache_by left m h got mid rest last f makes r l = absurd f
 
   metadata_by : (left : ℕ) (m : MakingStage D P) → Stands m → (got : Got) (mid : MakingStage D P) (rest : List (Want × Got)) (last : MakingStage D P) → Fits (Device (Sync Metadata)) got → Makes m (Device (Sync Metadata)) got mid →
@@ -246,17 +367,18 @@ module _ {D P : Type 0} (tells : Type 0) (size : D → ℕ) (contents : D → Li
   metadata_by left m h Fault mid rest last f makes r l = absurd (not_done (OpeningJob left) (Io Metadata) rest r)
   metadata_by left m h Done mid rest last f makes r l =
       let next = taken (to_come left (Device (Sync Cache) ∷ Device (Sync Origin) ∷ (to_read left left).steps)) mid rest last tt r l in
-      step_first (table (OpeningJob left)) m.stage mid.stage Done last f (exact m mid (Device (Sync Metadata)) Done refl no_fault makes)
-      (cache_by left mid (stands_on m mid (Device (Sync Metadata)) Done h makes) next.got next.mid next.rest last next.fits next.makes next.run next.leads)
+      let p = passes m mid (Device (Sync Metadata)) Done refl no_fault h makes in
+      step_first (table (OpeningJob left)) m.stage mid.stage Done last f p.led
+      (cache_by left mid p.stands next.got next.mid next.rest last next.fits next.makes next.run next.leads)
   metadata_by left m h got mid rest last f makes r l = absurd f
 
   -- ---- all of it
 
-  pub was_opened : (first last : MakingStage D P) (left : ℕ) (steps : List (Want × Got)) → MayGoOn (size first.stage.devices.metadata) first.stage.opening → first.stage.mode ≡ mode → first.keys.now ≡ keys → HasNotBegun first.stage.opening
+  pub was_opened : (first last : MakingStage D P) (left : ℕ) (steps : List (Want × Got)) → MayGoOn (size first.stage.devices.metadata) first.stage.opening → first.stage.mode ≡ mode → first.keys.now ≡ keys → first.made ≡ None → HasNotBegun first.stage.opening
       → IsRunOf (table (OpeningJob left)) steps Finished → Leads Makes first steps last → WasOpened tells size contents with_setting mode keys first.stage.devices last.stage.devices
-  was_opened first last left steps may mode_is keys_are begun r l =
+  was_opened first last left steps may mode_is keys_are made_none begun r l =
       let next = taken (table (OpeningJob left)) first steps last tt r l in
-      let alone = metadata_by left first (record { may = may; mode_is = mode_is; keys_are = keys_are }) next.got next.mid next.rest last next.fits next.makes next.run next.leads in
+      let alone = metadata_by left first (record { may = may; mode_is = mode_is; keys_are = keys_are; made_none = ap is_none made_none }) next.got next.mid next.rest last next.fits next.makes next.run next.leads in
       let ended = has_ended tells size contents faults first.stage (table (OpeningJob left)) left alone.steps Finished alone.new refl begun alone.run alone.leads in
       let opened = ended.0 in
       let made = alone.made in

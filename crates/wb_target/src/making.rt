@@ -1,13 +1,13 @@
 //! Where a target is opened: an opening of its devices that makes the target of what was read before it writes the root.
 
-ghost use Rattle.std.specs.Prelude.{◌≡◌, ℕ, List, OnOk, IfOk};
+ghost use Rattle.std.specs.Prelude.{◌≡◌, ℕ, false, None, List, is_none, OnOk, IfOk};
 ghost use Rattle.wb_tasks.specs.Tables.{Opening as OpeningJob};
 ghost use Rattle.wb_tasks.specs.Plan.{table};
 ghost use Rattle.wb_tasks.specs.Run.{IsRunOf, Leads};
 ghost use Rattle.wb_tasks.specs.declared.step.Want.{Want as WantTerm};
 ghost use Rattle.wb_tasks.specs.declared.step.Got.{Got as GotTerm};
 ghost use Rattle.wb_devices.specs.Openings.{MayGoOn, HasNotBegun};
-ghost use Rattle.wb_target.specs.Making.{IsReadyToMake, IsMadeOfRead, MakingGoesOn, writes_root};
+ghost use Rattle.wb_target.specs.Making.{IsReadyToMake, IsMadeOfRead, MakingGoesOn, is_due, writes};
 ghost use Rattle.std.specs.Bool.{OnTrue};
 
 use crate::office::Office;
@@ -22,8 +22,9 @@ use wb_policy::Policy;
 use wb_tasks::{Answer, DeviceStep, Got, Stage, Task, Want, drive};
 use wb_types::{Geometry, Key, Mode, Refusal};
 
-/// The stage of an opening of a target. What can be refused for want of memory, or for a key's value, is refused before the
-/// root is written: then the devices are as they were, but synced.
+/// The stage of an opening of a target, whose geometry is that of the root that comes next over what was read, or was converted. What can be
+/// refused for want of memory, or for a key's value, is refused before the first node or root is written: then the devices are as they were,
+/// but synced.
 #[derive(Drop)]
 pub(crate) struct MakingStage<'k, D, P: Policy> {
     pub(crate) stage: OpeningStage<D>,
@@ -47,6 +48,7 @@ impl<'k, D: Disk + Drop, P: Policy> MakingStage<'k, D, P> {
         ensures begins { HasNotBegun result.stage.opening }
         ensures mode { result.stage.mode ≡ mode }
         ensures keys { result.keys ≡ keys.entry }
+        ensures made { result.made ≡ None }
     {
         let stage = OpeningStage::new(alloc, devices, geometry, mode);
         MakingStage {
@@ -78,13 +80,12 @@ impl<'k, D: Disk + Drop, P: Policy> MakingStage<'k, D, P> {
             keys: _,
             made,
         } = self;
-        let geometry = stage.opening.geometry;
         let mode = stage.mode;
         let (devices, _) = stage.finish();
         let opened = match made {
             Some(Err(refusal)) => Err(refusal),
             Some(Ok(office)) => match answer {
-                Answer::Done => Ok(Target::new(alloc, geometry, mode, office)),
+                Answer::Done => Ok(Target::new(alloc, mode, office)),
                 Answer::Refused(refusal) => Err(refusal),
             },
             None => match answer {
@@ -95,7 +96,14 @@ impl<'k, D: Disk + Drop, P: Policy> MakingStage<'k, D, P> {
         (devices, opened)
     }
 
-    /// Makes the target of what was read, by the root that comes next, and says whether it is there.
+    /// Whether the target is to be made before this step, which is the first that writes.
+    fn is_due(&self, want: &Want) -> bool
+        ensures { result ≡ is_due self.now.made want.now }
+    {
+        writes(want) && self.made.is_none()
+    }
+
+    /// Makes the target of what was read, or was converted, by the root that comes next, and says whether it is there.
     fn make(&mut self) -> bool
         requires { MayGoOn (D.size self.old.stage.devices.metadata) self.old.stage.opening }
         ensures devices { self.new.stage.devices ≡ self.old.stage.devices }
@@ -103,6 +111,7 @@ impl<'k, D: Disk + Drop, P: Policy> MakingStage<'k, D, P> {
         ensures geometry { self.new.stage.opening.geometry ≡ self.old.stage.opening.geometry }
         ensures goes_on { MayGoOn (D.size self.new.stage.devices.metadata) self.new.stage.opening }
         ensures made { OnTrue result (IsMadeOfRead P.with_setting self.old) }
+        ensures there { OnTrue result (is_none self.new.made ≡ false) }
         ensures mode { self.new.stage.mode ≡ self.old.stage.mode }
         ensures keys { self.new.keys ≡ self.old.keys }
     {
@@ -142,7 +151,7 @@ impl<'k, D: Disk + Drop, P: Policy> Stage for MakingStage<'k, D, P> {
     ghost led = { MakingGoesOn D.tells D.size D.contents D.faults P.with_setting };
 
     fn perform(&mut self, want: &Want) -> Got {
-        if writes_root(want) {
+        if self.is_due(want) {
             if !self.make() {
                 return Got::Fault;
             }
@@ -151,9 +160,12 @@ impl<'k, D: Disk + Drop, P: Policy> Stage for MakingStage<'k, D, P> {
     }
 }
 
-/// Whether a step writes the root.
-fn writes_root(want: &Want) -> bool
-    ensures { result ≡ writes_root want.now }
+/// Whether a step writes a node or the root.
+fn writes(want: &Want) -> bool
+    ensures { result ≡ writes want.now }
 {
-    matches!(want, Want::Device(DeviceStep::WriteRoot))
+    matches!(
+        want,
+        Want::Device(DeviceStep::WriteNode(_) | DeviceStep::WriteRoot)
+    )
 }

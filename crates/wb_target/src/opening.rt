@@ -31,12 +31,15 @@ impl<P: Policy> Target<P> {
     /// there. Without the clean flag each mapped block counts as dirty, in every mode (the kernel's device-mapper/cache.rst), so that
     /// passthrough, which reads the origin alone, opens over clean metadata only.
     ///
-    /// `Geometry` for sizes outside the limits, or with too little room for metadata of version 2 where `metadata2` asks for them;
-    /// `NotFormatted`, `Mismatch`, `Damaged`, `GenerationEnd` and `Memory` as the metadata are read, `Mismatch` also where the metadata
-    /// are of the other version: conversion is to come; in passthrough `NotClean` where all was read and the newest root has no clean
-    /// flag, or a mapped block is dirty, before `GenerationEnd`; then `Memory` where there is none for the target, and `BadMessage` for
-    /// a key's value that is out of its range: up to there nothing was written. `Io` where a step failed; after that of the root it may
-    /// be written.
+    /// Metadata of version 1 are converted where `metadata2` asks for version 2: the nodes of the whole mapping are durable on places
+    /// that were free before that root, which is of version 2, is written. Until it is, the mapping of version 1 counts; the target goes by
+    /// the same entries in either case. Metadata of version 2 stay of it without `metadata2`.
+    ///
+    /// `Geometry` for sizes outside the limits, or with too little room for metadata of version 2 where `metadata2` asks for them: then
+    /// nothing was read; `NotFormatted`, `Mismatch` (the metadata were formatted for other sizes), `Damaged`, `GenerationEnd` and `Memory`
+    /// as the metadata are read, `Memory` also as they are converted. In passthrough `NotClean` where all was read and the newest root has no
+    /// clean flag, or a mapped block is dirty, before `GenerationEnd`. Then `Memory` where there is none for the target, and `BadMessage` for a
+    /// key's value that is out of its range: up to there nothing was written. `Io` where a step failed; after that of the root it may be written.
     pub fn open<D: Disk + Drop>(
         alloc: Global,
         devices: Devices<D>,

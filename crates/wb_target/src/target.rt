@@ -20,7 +20,7 @@ use wb_policy::{Order, Policy};
 use wb_port::Port;
 use wb_table::status_text;
 use wb_tasks::Answer;
-use wb_types::{Geometry, Key, Mode, OBlock, Refusal};
+use wb_types::{Key, Mode, OBlock, Refusal};
 
 /// How many clients a target has at most.
 pub const CLIENTS: usize = 64;
@@ -28,7 +28,6 @@ pub const CLIENTS: usize = 64;
 /// An opened cache: its desk behind a lock, and a bell that rings when a commit has ended, or was broken.
 pub struct Target<P: Policy> {
     pub(crate) alloc: Global,
-    pub(crate) geometry: Geometry,
     /// In which mode its clients read and write.
     pub(crate) mode: Mode,
     pub(crate) office: Mutex<Office<P>>,
@@ -39,7 +38,6 @@ impl<P: Policy> Drop for Target<P> {
     fn drop(self) {
         let Target {
             alloc: _,
-            geometry: _,
             mode: _,
             office,
             bell,
@@ -50,13 +48,12 @@ impl<P: Policy> Drop for Target<P> {
 }
 
 impl<P: Policy> Target<P> {
-    /// A target of these sizes, in this mode, over what is to lie under its lock.
-    pub(crate) fn new(alloc: Global, geometry: Geometry, mode: Mode, office: Office<P>) -> Target<P>
+    /// A target in this mode, over what is to lie under its lock.
+    pub(crate) fn new(alloc: Global, mode: Mode, office: Office<P>) -> Target<P>
         ensures { result.mode ≡ mode }
     {
         Target {
             alloc,
-            geometry,
             mode,
             office: Mutex::new(office),
             bell: Condvar::new(),

@@ -12,7 +12,7 @@ use wb_policy::{Order, TinyLfu};
 use wb_target::{Client, Target};
 use wb_types::{CBlock, Dev, Mode, OBlock, Refusal, SECTOR_BYTES, Sector};
 
-type Failing = Devices<FaultDisk<MemDisk>>;
+pub type Failing = Devices<FaultDisk<MemDisk>>;
 
 /// No run makes as many calls of a device.
 const MOST_CALLS: u64 = 200;
@@ -113,7 +113,7 @@ fn played(
 }
 
 /// What these devices hold, and whether a call of them failed.
-fn unwrapped(devices: Failing) -> (Memory, bool) {
+pub fn unwrapped(devices: Failing) -> (Memory, bool) {
     let Devices {
         metadata,
         cache,

@@ -15,8 +15,13 @@ pub type Lent<'t> = Client<'t, MemDisk, TinyLfu>;
 
 /// Devices whose metadata are formatted.
 pub fn formatted(alloc: Global) -> Result<Memory, Refusal> {
-    let geometry = Geometry::new(64, 4, 10, 4)?;
-    let mut metadata = MemDisk::new(alloc, 4)?;
+    formatted_on(alloc, 4)
+}
+
+/// The same, on so many sectors.
+pub fn formatted_on(alloc: Global, sectors: u64) -> Result<Memory, Refusal> {
+    let geometry = Geometry::new(64, 4, 10, sectors)?;
+    let mut metadata = MemDisk::new(alloc, sectors)?;
     format(&mut metadata, &geometry)?;
     Ok(Devices {
         metadata,
@@ -37,6 +42,12 @@ pub fn open_with(
     keys: &[(Key, u64)],
 ) -> Result<(Memory, Target<TinyLfu>), Refusal> {
     let (devices, target) = Target::open(alloc, devices, 64, Mode::Writeback, keys, false);
+    Ok((devices, target?))
+}
+
+/// One that asks for metadata of version 2.
+pub fn open_second(alloc: Global, devices: Memory) -> Result<(Memory, Target<TinyLfu>), Refusal> {
+    let (devices, target) = Target::open(alloc, devices, 64, Mode::Writeback, &[], true);
     Ok((devices, target?))
 }
 

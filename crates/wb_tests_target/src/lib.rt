@@ -10,6 +10,8 @@ mod caching;
 #[cfg(test)]
 mod clean;
 #[cfg(test)]
+mod converting;
+#[cfg(test)]
 mod crashing;
 #[cfg(test)]
 mod faults;

@@ -3,6 +3,7 @@
 use crate::caching::{
     caches, caches_and_flushes, fills_and_flushes, replaces, replaces_another, shows_each,
 };
+use crate::converting::{is_converted, leaves_one_dirty, shows_what_was_left};
 use crate::faults::{Rounds, shows_allowed};
 use crate::fixture::{Asked, Lent, Memory, client_of, formatted, open_with, shows, worked};
 use crate::messages::{goes_by_threshold, invalidates, is_in_another_mode, takes_settings};
@@ -69,6 +70,12 @@ pub enum Question {
     IsKept,
     /// Whether so many blocks are dirty.
     CountsDirty(u32),
+    /// Whether four blocks are cached, one of which is written then.
+    LeavesOneDirty,
+    /// Whether a target of version 2 is as that was left.
+    IsConverted,
+    /// Whether all that is shown as it was left.
+    ShowsWhatWasLeft,
     /// Whether it leads each of its flushes.
     LeadsAlone,
 }
@@ -164,6 +171,9 @@ fn answer(
         Question::Orders(order) => orders(rt, client, order),
         Question::IsKept => is_kept(rt, target, client),
         Question::CountsDirty(blocks) => target.dirty(rt) == blocks,
+        Question::LeavesOneDirty => leaves_one_dirty(rt, client),
+        Question::IsConverted => is_converted(&asked, client),
+        Question::ShowsWhatWasLeft => shows_what_was_left(rt, client),
         Question::LeadsAlone => leads_alone(rt, target, client),
     }
 }

@@ -21,8 +21,9 @@ blocks, 32 a node: 4 sectors serve 32 cache blocks.
                         cache, which has to be clean
           metadata2     metadata of version 2: dirty bits have a tree of their
                         own, and each of its nodes, of 2048 cache blocks a leaf,
-                        a sector more. Metadata that were formatted with it are
-                        opened with it, and others without it
+                        a sector more. Metadata of version 1 are made of it as
+                        they are opened; those that are of it are opened without
+                        it, too, and stay so
   policy  tinylfu, or default, the same: caches what is read or written again;
           cleaner: caches nothing more, and writes back what is dirty
   keys    how many words follow, and these: 0, or
@@ -92,6 +93,7 @@ opening starts. The other lines:
                 content K of its list, from 0 on
   open <mode>   open the cache: prints 'open <generation> <mapped> <dirty>'
   start A open <mode>   the same as a task of actor A, to be stepped
+                Behind the mode, metadata2 asks for metadata of version 2
   view S N      what it shows: prints '<sector> <hh>' or '<sector> mixed'
   # ..          nothing; empty lines too
 An answer prints 'A done', or 'A refused <number> <Name>'; a read prints

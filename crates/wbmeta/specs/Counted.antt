@@ -8,16 +8,17 @@ use Rattle.wb_format.specs.declared.root.Root.{Root}
 use Rattle.wb_tree.specs.Mapping.{Mapping}
 use Rattle.wb_dirty.specs.ImageReading.{with_bits}
 use Rattle.wb_meta.specs.States.{RepresentsState}
+use Rattle.wb_meta.specs.Sizes.{AreSameSizes}
 
--- Sectors with these contents represent a root of these sizes, of this generation and clean flag, and a tree with these entries, each with the
--- dirty bit that stands beside the tree, where there is one.
+-- Sectors with these contents represent a root of the sizes of this geometry, of this generation and clean flag, and a tree with these entries, each with the dirty
+-- bit that stands beside the tree, where there is one.
 pub record IsFound (sectors : List Content) (geometry : Geometry) (generation : ℕ) (clean : Bool) (entries : List (Option Entry)) : Type 0 where
   pub root : Root
   pub tree : Mapping
   pub dirty : Option (List Bool)
   pub used : List Place
   pub represents : RepresentsState sectors root tree dirty used
-  pub geometry_is : root.geometry ≡ geometry
+  pub sizes : AreSameSizes root.geometry geometry
   pub generation_is : root.generation ≡ generation
   pub clean_is : root.clean ≡ clean
   pub entries_are : with_bits dirty tree.entries ≡ entries

@@ -1,13 +1,12 @@
 //! What an opening would find.
 
 ghost use Rattle.std.specs.Prelude.{◌≡◌, length, map, is_some, count_by, IfOk};
-ghost use Rattle.std.specs.Bool.{OnTrue};
 ghost use Rattle.wb_disk.specs.Device.{newest};
 ghost use Rattle.wb_devices.specs.Clean.{entries_of};
 ghost use Rattle.wbmeta.specs.Counted.{AreCounted, IsFound, counts_as_dirty};
 
 use std::alloc::{AllocError, Global};
-use wb_devices::stored_entry;
+use wb_devices::{are_same_sizes, stored_entry};
 use wb_disk::Disk;
 use wb_meta::{ReadSteps, State, read_state};
 use wb_types::{CBlock, Entry, Geometry, Mode, Refusal};
@@ -29,10 +28,10 @@ pub struct Counted {
     pub dirty: u64,
 }
 
-/// Reads what a metadata device of these sizes and this version stands for, and writes nothing.
+/// Reads what a metadata device stands for where these sizes are asked for, in either version, and writes nothing.
 ///
-/// The refusals of an opening, in its order: `NotFormatted`; `Mismatch` where the newest root is of other sizes, or of the other version; `Damaged` with the place of
-/// the first fault; and at any step `Io` where the device fails, and `Memory`.
+/// The refusals of an opening, in its order: `NotFormatted`; `Mismatch` where the newest root is of other sizes; `Damaged` with the place of the
+/// first fault; and at any step `Io` where the device fails, and `Memory`.
 pub fn read_metadata<D: Disk>(
     alloc: Global,
     geometry: &Geometry,
@@ -42,11 +41,11 @@ pub fn read_metadata<D: Disk>(
     ensures found { D.tells → IfOk result (λ found. IsFound (map newest (D.contents disk.old)) geometry.now found.generation found.clean found.entries.items) }
 {
     let known = known_geometry(alloc, disk)?;
-    if known.is_some_and(|known| known != *geometry) {
+    if known.is_some_and(|known| !are_same_sizes(known, *geometry)) {
         return Err(Refusal::Mismatch);
     }
     let state = read_state(alloc, alloc, disk)?;
-    if !is_same(state.root.geometry, *geometry) {
+    if !are_same_sizes(state.root.geometry, *geometry) {
         return Err(Refusal::Mismatch);
     }
     let entries = stored_entries(alloc, &state)?;
@@ -55,13 +54,6 @@ pub fn read_metadata<D: Disk>(
         clean: state.root.clean,
         entries,
     })
-}
-
-/// Whether these are one geometry.
-fn is_same(a: Geometry, b: Geometry) -> bool
-    ensures { OnTrue result (a ≡ b) }
-{
-    a == b
 }
 
 /// The sizes that the newest root tells, once both slots were read.

@@ -8,4 +8,5 @@ returns g c = record {
   begins = c.new-stage.ensures.begins;
   mode = c.new-stage.ensures.mode;
   keys = refl;
+  made = refl;
 }

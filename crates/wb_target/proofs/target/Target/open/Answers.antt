@@ -38,7 +38,7 @@ returns-clause-opened g c = on_ok_weaker c.finish.result.1 (λ (done : c.run-ans
     let run = c.run-answer.ensures.run in
     let last = c.run-answer.new.self in
     let opened = was_opened g.D.Disk.tells g.D.Disk.size g.D.Disk.contents g.D.Disk.faults g.P.Policy.with_setting c.args.mode c.args.keys.now c.new-stage.result last (c.in-Ok.geometry.meta_sectors - 1) run.0
-    c.new-stage.ensures.goes_on c.new-stage.ensures.mode (ap (λ k. k.now) c.new-stage.ensures.keys) c.new-stage.ensures.begins
+    c.new-stage.ensures.goes_on c.new-stage.ensures.mode (ap (λ k. k.now) c.new-stage.ensures.keys) c.new-stage.ensures.made c.new-stage.ensures.begins
     (subst (λ (answer : Answer). IsRunOf (table (OpeningJob (c.in-Ok.geometry.meta_sectors - 1))) run.0 answer) done (subst (λ (s : Plan). IsRunOf s run.0 c.run-answer.result) c.new-task.ensures run.1)) run.2 in
     subst (λ devices. WasOpened g.D.Disk.tells g.D.Disk.size g.D.Disk.contents g.P.Policy.with_setting c.args.mode c.args.keys.now devices c.finish.result.0) c.new-stage.ensures.devices
     (subst (λ back. WasOpened g.D.Disk.tells g.D.Disk.size g.D.Disk.contents g.P.Policy.with_setting c.args.mode c.args.keys.now c.new-stage.result.stage.devices back) (sym c.finish.ensures.devices) opened)) c.finish.ensures.done
