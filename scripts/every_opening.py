@@ -7,8 +7,10 @@ and then an opening in each mode that is not refused. Before and after each of t
 oldest content, one that leaves each its newest, and one for each other content of each single sector; and each step fails, lost or landed, behind
 which the devices are opened as they are, or there is a stop. Then an opening in write-back has to be answered, each sector has to show what the
 model allows, which is that of every_step.py, and the same once all blocks have left the cache. All of it is done over metadata of either version: in the
-second a suspend writes the dirty bits, where there are any, behind the node of the mapping, and an opening reads them. It prints what failed, how
-many replays there were, and at the end 'N passed, N failed': a check for each way to stop or fail of each task.
+second a suspend writes the dirty bits, where there are any, behind the node of the mapping, and an opening reads them. Openings that ask for the second
+version are tried over both: those of the first are converted, the node of the mapping being written anew before the root; and the opening behind a stop or
+a fault asks for the second version in its turn, or does not. It prints what failed, how many replays there were, and at the end 'N passed, N failed': a check for each way
+to stop or fail of each task.
 """
 import collections
 import copy
@@ -23,7 +25,12 @@ from every_step import BLOCK, DEVICES, RUN, SETUP, WATCHED, Model, Step, whole
 
 RUNS = {"whole run": RUN, "run with a new dirty block": RUN[:-2], "run with a block that is dirty again": RUN + ["w 320 1 55"]}
 MODES = ("writeback", "writethrough", "passthrough")
-SETUPS = {"": SETUP, " in version 2": "setup writeback 64 4 10 5 metadata2"}
+# What a line asks of an opening for the second version.
+SECOND = " metadata2"
+# Of each setup, whether the openings that are stopped or fail ask for the second version; in the last they convert.
+SETUPS = {"": (SETUP, ""), " in version 2": ("setup writeback 64 4 10 5 metadata2", ""),
+          " in version 2, which is asked for": ("setup writeback 64 4 10 5 metadata2", SECOND),
+          " in version 1, where version 2 is asked for": ("setup writeback 64 4 10 5", SECOND)}
 PLACES = (2, 3, 4)
 
 
@@ -40,7 +47,7 @@ class LaterModel(Model):
         if word == "suspend":
             yield from self.suspending()
         elif word == "open":
-            yield from self.opening()
+            yield from self.opening(SECOND in task and not self.has_bits)
         else:
             yield from super().steps(task)
 
@@ -60,7 +67,7 @@ class LaterModel(Model):
         yield Step("sync", "m")
         yield from self.rooting()
 
-    def opening(self):
+    def opening(self, converts):
         for device in "mco":
             yield Step("sync", device)
         yield Step("read", "m", 0)
@@ -68,6 +75,12 @@ class LaterModel(Model):
         for place in self.node, self.bits:
             if place is not None:
                 yield Step("read", "m", place)
+        self.coming = self.node
+        if converts:
+            if self.node is not None:
+                self.coming = next(place for place in PLACES if place != self.node)
+                yield Step("write", "m", self.coming, f"node {self.generation + 1}")
+            yield Step("sync", "m")
         yield from self.rooting()
 
     def rooting(self):
@@ -91,6 +104,7 @@ class LaterModel(Model):
             super().end("flush")
         elif task.startswith("open "):
             self.generation += 1
+            self.node, self.bits, self.has_bits = self.coming, None, self.has_bits or SECOND in task
         else:
             if task == "flush" and self.changed:
                 self.node = 2 if self.mapped else None
@@ -139,29 +153,31 @@ def stopped(model, name, before, printed, task):
 
 
 def replays():
-    """Each replay: the check that it belongs to, its lines, what is printed before the last opening, which sectors are looked at, and what
-    they may show."""
-    for (version, setup), (which, run) in itertools.product(SETUPS.items(), RUNS.items()):
+    """Each replay: the check that it belongs to, its lines, what is printed before the last opening, which sectors are looked at, what they may
+    show, and what that opening asks for."""
+    for (version, (setup, asks)), (which, run) in itertools.product(SETUPS.items(), RUNS.items()):
         which += version
-        model, before, printed = LaterModel(bool(version)), [setup], []
+        model, before, printed = LaterModel(SECOND in setup), [setup], []
         for task in run:
             printed += model.play(task)
             before += whole(task)
-        yield from stopped(model, f"suspend behind a {which}", before, printed, "suspend")
+        suspends = stopped(model, f"suspend behind a {which}", before, printed, "suspend")
+        # Suspends are the same, whatever openings ask for.
+        yield from ((*it, "") for it in suspends if not asks)
         before, printed = before + whole("suspend"), printed + ["0 done"]
-        for mode in MODES:
+        for mode, then in itertools.product(MODES, sorted({"", asks})):
             name = f"opening in {mode} behind a {which}"
             if mode == "passthrough" and model.dirty:
-                yield f"{name}: refused", before + [f"open {mode}"], printed + ["0 refused 13 NotClean"], WATCHED, model.allowed()
+                yield f"{name}: refused", before + [f"open {mode}{asks}"], printed + ["0 refused 13 NotClean"], WATCHED, model.allowed(), then
             else:
-                yield from stopped(copy.deepcopy(model), name, before, printed, f"open {mode}")
+                yield from ((*it, then) for it in stopped(copy.deepcopy(model), name, before, printed, f"open {mode}{asks}"))
 
 
 def fault_of(work):
     """What is wrong with a replay: nothing, mostly. What is shown stays where the blocks leave the cache."""
-    program, name, lines, printed, looks, shown = work
+    program, name, lines, printed, looks, shown, asks = work
     views = [f"view {first} {many}" for first, many in looks]
-    lines = lines + ["open writeback"] + views + whole("demote 0") + whole("demote 5") + views
+    lines = lines + [f"open writeback{asks}"] + views + whole("demote 0") + whole("demote 5") + views
     done = subprocess.run([program, "replay"], input="\n".join(lines) + "\n", capture_output=True, text=True, timeout=60)
     told, count = done.stdout.splitlines(), len(printed)
     wanted = [sector for first, many in looks for sector in range(first, first + many)]
@@ -187,7 +203,7 @@ def main():
     for name, fault in wrong.items():
         print(f"failed: {name}: {fault}")
     faults = sum(count for name, count in counts.items() if "fault " in name)
-    print(f"every opening: {sum(counts.values()) - faults} stops and {faults} faults within suspends and openings, and behind them")
+    print(f"every opening: {sum(counts.values()) - faults} stops and {faults} faults within suspends, openings and conversions, and behind them")
     print(f"{len(counts) - len(wrong)} passed, {len(wrong)} failed")
     sys.exit(bool(wrong))
 

@@ -2,7 +2,8 @@
 
     lives.py WBCACHE [COUNT [SEED [PROCESSES]]]
 
-Each replay has a number, from SEED on, and goes by it alone: an odd one is over metadata of version 2. Several actors read, write, flush, promote, demote, clean, replace and suspend, whole
+Each replay has a number, from SEED on, and goes by it alone: an odd one is over metadata of version 2, and of the even ones each second one has room for
+them, which openings ask for now and then, so that metadata of version 1 are converted in some life. Several actors read, write, flush, promote, demote, clean, replace and suspend, whole
 or a few steps at a time; devices fail; power is lost anywhere, within openings and suspends too; and openings follow, after a stop or of a failed
 or suspended target as it is. `wbcache replay` is asked one line at a time, so what comes next may hang on what it answered.
 
@@ -36,7 +37,8 @@ class Replay:
         self.is_whole = self.dice.randrange(6) == 0
         self.blocks = self.dice.sample(range(sizes[1]), self.dice.choice((2, 3, 5)))
         # Version 2 has a node for the dirty bits besides, which here are those of one leaf.
-        self.metadata, version = (sizes[2] + 1, " metadata2") if number % 2 else (sizes[2], "")
+        self.has_room = number % 4 != 2
+        self.metadata, version = sizes[2] + self.has_room, " metadata2" if number % 2 else ""
         self.machine = Machine(program, f"setup {mode} 64 {sizes[0]} {sizes[1]} {self.metadata}{version}")
         self.model = Model(self.machine, self.counts, mode, sizes[1] * 64)
         self.actors = self.dice.sample(range(1, 64), 5)
@@ -211,12 +213,15 @@ class Replay:
         attempts, opener = 0, None
         while not self.model.stands or attempts == 0:
             attempts += 1
-            mode = self.dice.choice(("writeback", "writeback", *MODES))
+            mode = self.dice.choice(("writeback", "writeback", *MODES)) if attempts < 6 else "writeback"
+            if self.has_room and self.dice.randrange(3) == 0:
+                mode += " metadata2"
+                self.counts["opening that asks for version 2"] += 1
             kind = self.dice.randrange(10) if attempts < 6 else 0
             # An actor that has a task or an opening under way starts none; 'open' is by actor 0, which has no other task.
             free = [it for it in self.idle() if it != opener]
             if kind < 5 or not free:
-                self.model.open(mode if attempts < 6 else "writeback")
+                self.model.open(mode)
                 continue
             actor = opener = self.dice.choice(free)
             self.model.start_opening(actor, mode)

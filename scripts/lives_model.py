@@ -287,7 +287,7 @@ class Model:
 
     def begin(self, mode):
         """An opening begins: only the first behind a suspend surely finds what that left."""
-        self.opening, self.finds_clean, self.was_left_clean = mode, self.was_left_clean, False
+        self.opening, self.finds_clean, self.was_left_clean = mode.split()[0], self.was_left_clean, False
 
     def open(self, mode):
         if self.stands:
