@@ -16,7 +16,7 @@ use Rattle.wb_meta.specs.declared.read_steps.ReadSteps.TheVariants.{Begun, First
 use Rattle.wb_tasks.specs.declared.step.Got.TheVariants.{More}
 use Rattle.wb_meta.specs.declared.read_steps.ReadSteps.{ReadSteps}
 use Rattle.wb_devices.specs.declared.running.RunningCommit.{RunningCommit}
-use Rattle.wb_devices.specs.Opened.{HasGeneration, IsServed, ReadsOf, got_of_refusal}
+use Rattle.wb_devices.specs.Opened.{HasGeneration, ReadsServed, ReadsOf, got_of_refusal}
 use Rattle.wb_devices.specs.Clean.{DidTell, HasComeIn}
 use Rattle.wb_types.specs.declared.version.Version.{Version}
 use Rattle.wb_types.specs.declared.version.Version.TheVariants.{One, Two}
@@ -46,7 +46,7 @@ of_root geometry now root known fits other also =
     let same : root ≡ other = cc in
     subst (λ (r : Root). AreSameSizes r.geometry geometry) same fits
 
-pub of_served : {A : Type 0} (geometry : Geometry) (now : ReadSteps A) (root : Root) → known_root now ≡ Some root → IsServedBy root.geometry geometry → IsServed geometry now
+pub of_served : {A : Type 0} (geometry : Geometry) (now : ReadSteps A) (root : Root) → known_root now ≡ Some root → IsServedBy root.geometry geometry → ReadsServed geometry now
 of_served geometry now root known fits other also =
     let same : root ≡ other = cc in
     subst (λ (r : Root). IsServedBy r.geometry geometry) same fits

@@ -38,8 +38,8 @@ abbrev pub ReadsOf : {A : Type 0} → Geometry → ReadSteps A → Type 0
 ReadsOf geometry now = (root : Root) → known_root now ≡ Some root → AreSameSizes root.geometry geometry
 
 -- and of a version that serves
-abbrev pub IsServed : {A : Type 0} → Geometry → ReadSteps A → Type 0
-IsServed geometry now = (root : Root) → known_root now ≡ Some root → IsServedBy root.geometry geometry
+abbrev pub ReadsServed : {A : Type 0} → Geometry → ReadSteps A → Type 0
+ReadsServed geometry now = (root : Root) → known_root now ≡ Some root → IsServedBy root.geometry geometry
 
 -- Why a reading that has come so far is refused here: its root is of other sizes, or of the last generation; or for want of memory, where
 -- what was read is to be written anew.
@@ -56,7 +56,7 @@ IsShort {A} geometry left now = (left ≡ 0) ⊎ ((left < node_count geometry.ca
 -- read, and the root is to be written, or before it the nodes of what is written anew.
 abbrev pub HasCome : {A : Type 0} → Geometry → ℕ → ReadSteps A → Option RunningCommit → Got → Option (ReadSteps A) → Option RunningCommit → Type 0
 HasCome geometry left now commit More after commit' = (1 ≤ left) × (after ≡ Some now) × ReadsOf geometry now × (commit' ≡ commit)
-HasCome geometry left now commit Done after commit' = (after ≡ Some now) × IsServed geometry now × HasNextRoot now commit'
+HasCome geometry left now commit Done after commit' = (after ≡ Some now) × ReadsServed geometry now × HasNextRoot now commit'
 HasCome geometry left now commit (Began nodes) after commit' = ReadsOf geometry now × (nodes ≤ left) × Converts geometry now nodes after commit'
 HasCome geometry left now commit (Refused refusal) after commit' = (after ≡ None) × (commit' ≡ commit) × IsUnfit geometry now refusal
 HasCome geometry left now commit Fault after commit' = (after ≡ None) × (commit' ≡ commit) × IsShort geometry left now

@@ -8,14 +8,15 @@ use std::alloc::Global;
 use wb_meta::ReadSteps;
 use wb_types::Geometry;
 
-/// An opening where metadata of this geometry are asked for: a reading by `ReadSteps`, and then the commit of the next root.
+/// An opening where metadata of this geometry are asked for: a reading by `ReadSteps`, and then the commit of the next root, or of the image
+/// by which metadata of the first version become those of the second.
 #[derive(Drop)]
 pub struct Opening {
     pub geometry: Geometry,
     pub alloc: Global,
     /// How far the reading is; none once it was refused or has failed.
     pub reading: Option<ReadSteps<Global>>,
-    /// The root that is written, once all was read.
+    /// The root that is written, and a converted image before it, once all was read.
     pub commit: Option<RunningCommit>,
 }
 

@@ -66,8 +66,9 @@ impl<D: Disk> Stage for OpeningStage<D> {
 
 impl<D: Disk> OpeningStage<D> {
     /// Performs an opening that has not begun, up to its answer: a run of its table, whose steps lead this stage from what it
-    /// was to what it is. Answered done, the metadata that are durable were read, and the root that comes next is durable; cache
-    /// and origin are durable too. Refused but for a device that failed, all three are durable and nothing more was written.
+    /// was to what it is. Answered done, the metadata that are durable were read, and the root that comes next is durable, behind all nodes
+    /// of the mapping where they were written anew; cache and origin are durable too. Refused but for a device that failed, all three are
+    /// durable and nothing more was written.
     pub fn run<T: Task>(&mut self, task: &mut T) -> Answer
         requires begun { (left : ℕ) × (T.plan task.old ≡ table (OpeningJob left)) }
         requires goes_on { MayGoOn (D.size self.old.devices.metadata) self.old.opening }

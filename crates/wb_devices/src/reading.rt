@@ -1,4 +1,4 @@
-//! The steps of an opening that read metadata.
+//! The steps of an opening that read metadata, and what it is to write of them.
 
 ghost use Rattle.std.specs.Prelude.{◌≡◌, ℕ, Some, None, IfSome};
 ghost use Rattle.std.specs.declared.alloc.Global.{Global as GlobalValue};

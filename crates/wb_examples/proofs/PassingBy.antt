@@ -1,6 +1,6 @@
 -- A run in which the block that a suspend stored clean is passed by: an opening in passthrough takes it where it is, a write takes it out of the cache
 -- and goes to the origin, and behind a flush and a crash an opening in write-back shows that.
-use Rattle.std.proofs.Common.{◌≡◌, ◌∙◌, ◌≤◌, ◌+◌, ◌<◌, ◌^◌, ℕ, suc, true, false, List, [], ◌∷◌, Option, Some, None, refl, sym, ap, subst, arith, length, map, replicate}
+use Rattle.std.proofs.Common.{◌≡◌, ◌∙◌, ◌≤◌, ◌+◌, ◌<◌, ◌^◌, ℕ, suc, true, false, List, [], ◌∷◌, Some, None, refl, sym, ap, subst, arith, length, map, replicate}
 use Rattle.std.specs.Prelude.{drop}
 use Rattle.std.proofs.lemmas.List.{length-map}
 use Rattle.std.specs.Int.Bits.{bit_or, or_zero_l}
@@ -22,7 +22,6 @@ use Rattle.wb_desk.specs.Desks.{DeskState}
 use Rattle.wb_desk.specs.Entries.{unmapped}
 use Rattle.wb_stage.specs.Asking.{ended}
 use Rattle.wb_desk.specs.Opening.{opened}
-use Rattle.wb_tasks.specs.Plan.{Plan}
 use Rattle.wb_tasks.specs.Tables.{TaskJob}
 use Rattle.wb_tasks.specs.declared.step.Answer.TheVariants.{Done as Finished}
 use Rattle.wb_tasks.specs.declared.step.DeviceStep.TheVariants.{Write as WriteExtent}
@@ -45,7 +44,7 @@ use Rattle.wb_examples.proofs.Beginning.{bare_begun, bare_commit, bare_root}
 use Rattle.wb_examples.proofs.Playing.{Move, Gets, Moves, Does, Stops, goes, goes_on, played, resting_idle, ◌⨟◌}
 use Rattle.wb_examples.proofs.Runs.{along, stretched}
 use Rattle.wb_examples.proofs.Desks.{Setting, shape, leaves_from}
-use Rattle.wb_examples.proofs.Scenes.{Scene, Own, nothing_known, Formatted, Tiny, formatted_of, tiny_can, at, over, Leads, goes_to, FromNoted, noted_stretch, devices, devices_size, cache_size, shape_at, opened_at, known_at, from_opened, uncut, nothing_lands}
+use Rattle.wb_examples.proofs.Scenes.{Scene, Own, nothing_known, Formatted, Tiny, formatted_of, tiny_can, at, over, Leads, goes_to, FromNoted, noted_stretch, devices, devices_size, cache_size, shape_at, opened_at, known_at, from_opened, uncut, nothing_lands, plain}
 use Rattle.wb_examples.proofs.Blocks.{first_written, promotes, promoting, promoting_leads}
 use Rattle.wb_examples.proofs.Surviving.{Others, notes, doing_at, noted_then, others_then}
 use Rattle.wb_examples.proofs.Reopening.{may_stop, again, again_shown, again_nowhere}
@@ -83,9 +82,6 @@ module _ (P A : Type 0) (t : Tiny P A) (metadata cache sectors : List History) (
   abbrev words : (cell seal number : ℕ) → Words
   words cell seal number = record { cells = cell ∷ []; seals = seal ∷ []; numbers = number ∷ []; read_hits = 0; read_misses = 0; write_hits = number; write_misses = 0; fail = 0 }
 
-  abbrev here : (metadata cache origin : List History) → Words → DeskState P → Option (Job × Plan) → Scene P
-  here metadata cache origin words desk task = record { devices = record { metadata = metadata; cache = cache; origin = origin }; words = words; desk = desk; task = task; orders = []; awaiting = []; buffer = [] }
-
   abbrev origin : List History
   origin = only old ∷ sectors
 
@@ -97,15 +93,15 @@ module _ (P A : Type 0) (t : Tiny P A) (metadata cache sectors : List History) (
 
   -- the block stands where it stood before
   abbrev pub passing : Scene P
-  passing = here metadata cache origin (words 0 2 0) desk_opened None
+  passing = plain metadata cache origin (words 0 2 0) desk_opened None
 
   -- the write comes to the origin next
   abbrev left : Scene P
-  left = here metadata cache origin (words 1 0 0) desk_left (Some (job, record { job = task; steps = Device (WriteExtent Origin first_sector) ∷ Cell (Finish first_block) ∷ Cell (Count WriteHit) ∷ Cell (Release Owned first_block) ∷ []; answer = Finished }))
+  left = plain metadata cache origin (words 1 0 0) desk_left (Some (job, record { job = task; steps = Device (WriteExtent Origin first_sector) ∷ Cell (Finish first_block) ∷ Cell (Count WriteHit) ∷ Cell (Release Owned first_block) ∷ []; answer = Finished }))
 
   -- and has come there
   abbrev wrote : Scene P
-  wrote = here metadata cache (written origin 0 content) (words 0 0 1) desk_left (over job task)
+  wrote = plain metadata cache (written origin 0 content) (words 0 0 1) desk_left (over job task)
 
   -- ---- what happens
 
@@ -156,7 +152,7 @@ module _ (P A : Type 0) (t : Tiny P A) (metadata cache sectors : List History) (
   desk_then = ended (bare_begun t.global desk_left)
 
   abbrev durable : Scene P
-  durable = here (synced (rooted (bare_commit t.global shape0.geometry desk_then.generation) (synced metadata))) (synced cache) (only content ∷ synced sectors) (words 0 0 1) desk_then (over Flush (task_job shape0 Passthrough [] Flush [] []))
+  durable = plain (synced (rooted (bare_commit t.global shape0.geometry desk_then.generation) (synced metadata))) (synced cache) (only content ∷ synced sectors) (words 0 0 1) desk_then (over Flush (task_job shape0 Passthrough [] Flush [] []))
 
   flush_leads : (own : Own) → IsKnown P A shape0 (state wrote own) → Leads P A 0 Writeback s_then (state wrote own) flush durable
   flush_leads own known = goes_to P A 0 Writeback s_then _ _ _ (flushing_may P A (idle_there own) (record { images = known.images; known = known.known; geometry = refl; entries = refl }) (record { idle = refl; next = omega (arith, (s P A t).later) }) refl s_then.idle) refl

@@ -39,7 +39,7 @@ use Rattle.wb_meta.proofs.Versions.{first_keeps}
 use Rattle.wb_devices.specs.declared.running.RunningCommit.{RunningCommit}
 use Rattle.wb_devices.specs.Clean.{AreAllClean, IsLeftClean}
 use Rattle.wb_tasks.specs.declared.step.Got.TheVariants.{Done, More}
-use Rattle.wb_promise.specs.Happenings.{Reaches, DoesRead, IsAsked}
+use Rattle.wb_promise.specs.Happenings.{Reaches, DoesRead, IsGeometryAsked}
 use Rattle.wb_runs.proofs.Readings.{same_newest}
 use Rattle.wb_examples.proofs.Beginning.{no_node}
 use Rattle.wb_examples.proofs.Marking.{leaf, leaf_place, stored_tree, stored_mapping, one_node, one_level, geometry, root, roomy, top_is}
@@ -117,7 +117,7 @@ module _ (P A : Type 0) (t : Tiny P A) (dirty : Bool) (device : List History) (o
     mapping = λ others there. loads others;
   }
 
-  asks_own : IsAsked (geometry P A t) false (geometry P A t)
+  asks_own : IsGeometryAsked (geometry P A t) false (geometry P A t)
   asks_own = record { sizes_are = own_sizes (geometry P A t); version = λ room. refl }
 
   pub root_read : (mode : Mode) (left : ℕ) (alloc : A) (global : Global) (first : Option Root) → IsInSlot (map newest device) 0 first → 1 ≤ left →

@@ -77,6 +77,10 @@ pub record Scene (P : Type 0) : Type 0 where
   pub awaiting : List Order
   pub buffer : List Bytes
 
+-- where nobody has orders, and nothing is in a buffer
+abbrev pub plain : {P : Type 0} → (metadata cache origin : List History) → Words → DeskState P → Option (Job × Plan) → Scene P
+plain metadata cache origin words desk task = record { devices = record { metadata = metadata; cache = cache; origin = origin }; words = words; desk = desk; task = task; orders = []; awaiting = []; buffer = [] }
+
 -- nothing is left of a job but to answer it done
 abbrev pub over : Job → TaskJob → Option (Job × Plan)
 over job task = Some (job, record { job = task; steps = []; answer = Finished })

@@ -28,7 +28,7 @@ use Rattle.wb_examples.proofs.Shown.{origin_shown}
 use Rattle.wb_examples.proofs.Playing.{Move, Gets, Moves, Reads, Fails, Stops, goes, played, ends, MayGo, goes_on, ◌⨟◌}
 use Rattle.wb_examples.proofs.Opening.{write_back_starts, Down, down, opening, opening_may, opened_is, target, bare, Idle, flushing, flushing_may}
 use Rattle.wb_examples.proofs.Desks.{Setting, shape, desk}
-use Rattle.wb_examples.proofs.Scenes.{Scene, Own, nothing_known, Formatted, at, over, Leads, goes_to, FromNoted, noted_stretch, opened_scene, down_at, setting, devices, devices_size, shape_at, opened_at, known_at, opening_run, Whole, from_opened, small_can, uncut, nothing_lands, may_fail}
+use Rattle.wb_examples.proofs.Scenes.{Scene, Own, nothing_known, Formatted, at, over, Leads, goes_to, FromNoted, noted_stretch, opened_scene, down_at, setting, devices, devices_size, shape_at, opened_at, known_at, opening_run, Whole, from_opened, small_can, uncut, nothing_lands, may_fail, plain}
 
 -- ---- what is noted
 
@@ -64,9 +64,6 @@ module _ (P A : Type 0) (policy : P) (alloc : A) (s : Setting P 0 Writeback) (me
   abbrev words : (number misses written : ℕ) → Words
   words number misses written = record { cells = 0 ∷ []; seals = 0 ∷ []; numbers = number ∷ []; read_hits = 0; read_misses = misses; write_hits = 0; write_misses = written; fail = 0 }
 
-  abbrev here : (metadata cache origin : List History) → Words → DeskState P → Option (Job × Plan) → Scene P
-  here metadata cache origin words desk task = record { devices = record { metadata = metadata; cache = cache; origin = origin }; words = words; desk = desk; task = task; orders = []; awaiting = []; buffer = [] }
-
   -- at the last step of a job on the first sector
   abbrev ending : Job → Option (Job × Plan)
   ending job = over job (task_job shape0 Writeback [] job (first_sector ∷ []) [])
@@ -78,16 +75,16 @@ module _ (P A : Type 0) (policy : P) (alloc : A) (s : Setting P 0 Writeback) (me
   opened0 = opened_scene P A 0 Writeback s (record { metadata = metadata; cache = cache; origin = only first ∷ sectors })
 
   abbrev wrote : Scene P
-  wrote = here metadata cache (history ∷ sectors) (words 1 0 1) (desk P 0 Writeback s) (ending (Write first_sector content))
+  wrote = plain metadata cache (history ∷ sectors) (words 1 0 1) (desk P 0 Writeback s) (ending (Write first_sector content))
 
   abbrev was_read : Scene P
-  was_read = here metadata cache (history ∷ sectors) (words 1 1 1) (desk P 0 Writeback s) (ending (Read first_sector))
+  was_read = plain metadata cache (history ∷ sectors) (words 1 1 1) (desk P 0 Writeback s) (ending (Read first_sector))
 
   abbrev desk_then : DeskState P
   desk_then = ended (bare_begun global (desk P 0 Writeback s))
 
   abbrev durable : Scene P
-  durable = here (synced (rooted (bare_commit global shape0.geometry (s.generation + 1)) (synced metadata))) (synced cache) (only content ∷ synced sectors) (words 1 1 1) desk_then (over Flush (task_job shape0 Writeback [] Flush [] []))
+  durable = plain (synced (rooted (bare_commit global shape0.geometry (s.generation + 1)) (synced metadata))) (synced cache) (only content ∷ synced sectors) (words 1 1 1) desk_then (over Flush (task_job shape0 Writeback [] Flush [] []))
 
   abbrev n0 : Notes
   n0 = notes others (only first) 0 None

@@ -2,7 +2,7 @@
 
 ghost use Rattle.std.specs.Prelude.{◌≡◌, ◌<◌, ◌*◌, ◌^◌, ℕ, IfOk, IfErr};
 ghost use Rattle.wb_types.specs.Limits.{HasRoom, IsWithinLimits};
-ghost use Rattle.wb_table.specs.Table.{version_asked};
+ghost use Rattle.wb_types.specs.Versions.{version_asked};
 
 use crate::patience::Patience;
 use crate::sizes::{find_size_fault, number_asked};

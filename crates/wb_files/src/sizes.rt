@@ -1,8 +1,7 @@
 //! Which size of a target is outside its limits.
 
 ghost use Rattle.std.specs.Prelude.{◌≡◌, ◌<◌};
-ghost use Rattle.wb_table.specs.Table.{version_asked};
-ghost use Rattle.wb_types.specs.Versions.{version_number};
+ghost use Rattle.wb_types.specs.Versions.{version_asked, version_number};
 
 use std::fmt;
 use std::fmt::{Display, Formatter};

@@ -51,7 +51,7 @@ use Rattle.wb_machine.specs.declared.opener.Opener.{Opener}
 use Rattle.wb_machine.specs.Making.{HasMade, MadeBy, ends_reading, reading_of}
 use Rattle.wb_devices.specs.declared.running.RunningCommit.{RunningCommit}
 use Rattle.wb_promise.specs.Effects.{led}
-use Rattle.wb_promise.specs.Happenings.{AreWhole, IsAsked, Reaches, DoesRead, HasGeneration, LandedOr, MayFailAt, sector_put}
+use Rattle.wb_promise.specs.Happenings.{AreWhole, IsGeometryAsked, Reaches, DoesRead, HasGeneration, LandedOr, MayFailAt, sector_put}
 use Rattle.wb_machine.specs.Life.{FailsOn, MayBePut, commit_synced, device_step_of, made_synced, reading_synced}
 use Rattle.wb_machine.specs.Serving.{IsPut}
 use Rattle.wb_tasks.specs.Points.{OpenPoint, AtFirst, AtCache, AtOrigin, AtRead, AtNodes, AtRoot, AtRootSync, AtEnd, AtRefusal}
@@ -129,7 +129,7 @@ goes_on : (g : Geometry) (n : ℕ) (o new : Opener) (got : Got) (at : StandsAt g
 goes_on g n o new got at same p q goes = record {
   point = goes.next;
   plan_is = p ∙ ap (λ x. after x got) at.plan_is ∙ goes.plan;
-  asks = subst (λ (a : Asked). IsAsked g a.second new.opening.geometry) (sym same) (subst (λ (f : Geometry). IsAsked g o.asked.second f) (sym q) at.asks);
+  asks = subst (λ (a : Asked). IsGeometryAsked g a.second new.opening.geometry) (sym same) (subst (λ (f : Geometry). IsGeometryAsked g o.asked.second f) (sym q) at.asks);
   come = goes.come;
   made = subst (λ a. HasMadeThere n goes.next a new.made) (sym same) goes.made_is;
 }
@@ -345,7 +345,7 @@ not_refused : (got : Got) (refusal : Refusal) → ends_reading got ≡ true → 
 not_refused got refusal e r = let same : ends_reading got ≡ ends_reading (Refused refusal) = ap ends_reading r in cc
 
 module _ (mode : Mode) (g : Geometry) (second : Bool) (asked : Geometry) (left : ℕ) (was : ReadSteps Global) (device : List History) (got : Got) (after' : Option (ReadSteps Global)) (commit' : Option RunningCommit)
-    (asks : IsAsked g second asked) (room : 2 + 2 * node_count g.cache_blocks ≤ g.meta_sectors) (whole : length device ≡ g.meta_sectors)
+    (asks : IsGeometryAsked g second asked) (room : 2 + 2 * node_count g.cache_blocks ≤ g.meta_sectors) (whole : length device ≡ g.meta_sectors)
     (not_done : IsDone was → ⊥) (left_is : left + sectors_read was ≡ g.meta_sectors) (found : FindsSizes g was device) (did : DidTell mode asked g.meta_sectors left was device None got after' commit') where
   told : ToldMore mode g asked left was device got after' commit' ⊎ ToldNoMore was device got after' commit'
   told = elim did [

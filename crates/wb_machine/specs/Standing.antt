@@ -17,7 +17,7 @@ use Rattle.wb_tasks.specs.Points.{OpenPoint, AtFirst, AtCache, AtOrigin, AtRead,
 use Rattle.wb_devices.specs.declared.devices.Devices.{Devices}
 use Rattle.wb_devices.specs.declared.running.RunningCommit.{RunningCommit}
 use Rattle.wb_words.specs.SharedWords.{flag}
-use Rattle.wb_promise.specs.Happenings.{IsAsked, most_for}
+use Rattle.wb_promise.specs.Happenings.{IsGeometryAsked, most_for}
 use Rattle.wb_promise.specs.declared.job.Job.{Job}
 use Rattle.wb_machine.specs.Members.{Member}
 use Rattle.wb_machine.specs.declared.asked.Asked.{Asked}
@@ -79,7 +79,7 @@ HasMadeThere actors point asked made = made ≡ None
 pub record StandsAt (g : Geometry) (actors : ℕ) (o : Opener) : Type 0 where
   pub point : OpenPoint
   pub plan_is : o.task ≡ plan_from g.meta_sectors point
-  pub asks : IsAsked g o.asked.second o.opening.geometry
+  pub asks : IsGeometryAsked g o.asked.second o.opening.geometry
   pub come : HasComeTo g point (reading_of o) o.opening.commit
   pub made : HasMadeThere actors point o.asked o.made
 

@@ -1,7 +1,7 @@
 //! What the sizes of a machine allow, whichever version its metadata are of.
 
 ghost use Rattle.std.specs.Prelude.{◌≡◌, IfSome, is_some};
-ghost use Rattle.wb_promise.specs.Happenings.{IsAsked, has_room_for, most_for};
+ghost use Rattle.wb_promise.specs.Happenings.{IsGeometryAsked, has_room_for, most_for};
 
 use wb_types::{Geometry, Version};
 
@@ -19,7 +19,7 @@ pub(crate) fn most_for(geometry: &Geometry, clean: bool) -> u32
 
 /// The geometry that an opening asks for over metadata of these sizes, in the second version or not; none where they have no room for it.
 pub(crate) fn geometry_asked(geometry: &Geometry, second: bool) -> Option<Geometry>
-    ensures asked { IfSome result (λ asked. IsAsked geometry.now second asked) }
+    ensures asked { IfSome result (λ asked. IsGeometryAsked geometry.now second asked) }
     ensures room { is_some result ≡ has_room_for second geometry.now }
 {
     let version = if second { Version::Two } else { Version::One };

@@ -16,7 +16,7 @@ ghost use Rattle.wb_devices.specs.Moving.{device_in};
 ghost use Rattle.wb_devices.specs.Clean.{DidTell};
 ghost use Rattle.wb_runs.specs.Laws.{FindsSizes};
 ghost use Rattle.wb_promise.specs.Effects.{led};
-ghost use Rattle.wb_promise.specs.Happenings.{AreWhole, IsAsked};
+ghost use Rattle.wb_promise.specs.Happenings.{AreWhole, IsGeometryAsked};
 ghost use Rattle.wb_promise.specs.States.{with_device};
 ghost use Rattle.wb_promise.specs.declared.event.Event.TheVariants.{Step};
 ghost use Rattle.wb_promise.specs.declared.event.What.TheVariants.{Stepped};
@@ -152,7 +152,7 @@ impl Opener {
         requires there { self.old.asked.actor < ACTORS }
         requires next { want self.old.task ≡ Device (ReadMetadata left) }
         requires none { self.old.made ≡ None }
-        requires asks { IsAsked geometry.now self.old.asked.second self.old.opening.geometry }
+        requires asks { IsGeometryAsked geometry.now self.old.asked.second self.old.opening.geometry }
         requires size { length metadata.old.contents ≡ geometry.now.meta_sectors }
         requires reads { IsReading geometry.now left self.old.opening.reading self.old.opening.commit }
         requires finds { (was : Steps GlobalValue) → self.old.opening.reading ≡ Some was → FindsSizes geometry.now was metadata.old.contents }
@@ -175,7 +175,7 @@ impl Opener {
     fn tell(&mut self, geometry: &Geometry, metadata: &mut MemDisk, left: u32) -> Got
         requires there { self.old.asked.actor < ACTORS }
         requires none { self.old.made ≡ None }
-        requires asks { IsAsked geometry.now self.old.asked.second self.old.opening.geometry }
+        requires asks { IsGeometryAsked geometry.now self.old.asked.second self.old.opening.geometry }
         requires size { length metadata.old.contents ≡ geometry.now.meta_sectors }
         requires reads { IsReading geometry.now left self.old.opening.reading self.old.opening.commit }
         requires finds { (was : Steps GlobalValue) → self.old.opening.reading ≡ Some was → FindsSizes geometry.now was metadata.old.contents }

@@ -1,6 +1,7 @@
 -- What an event may do in a state.
 use Rattle.std.specs.Prelude.{◌≡◌, ◌≢◌, ◌≤◌, ◌<◌, ◌+◌, ◌-◌, ◌*◌, ◌/◌, ◌^◌, ◌&&◌, ◌==◌, ◌⊎◌, ℕ, Bool, true, false, List, [], Option, Some, None, All, Contains, IfSome, length, map, slice_get, slice_index, if◌then◌else◌, nat_le, nat_lt}
 use Rattle.wb_types.specs.Limits.{dirty_nodes, most_nodes, node_count}
+use Rattle.wb_types.specs.Versions.{version_asked}
 use Rattle.wb_types.specs.declared.extent.Extent.{Extent}
 use Rattle.wb_types.specs.declared.geometry.Geometry.{Geometry}
 use Rattle.wb_types.specs.Extents.{IsCutInto}
@@ -8,8 +9,7 @@ use Rattle.wb_types.specs.declared.mode.Mode.{Mode}
 use Rattle.wb_types.specs.declared.mode.Mode.TheVariants.{Writeback, Passthrough}
 use Rattle.wb_types.specs.declared.mode.Dev.TheVariants.{Metadata, Cache, Origin}
 use Rattle.wb_types.specs.declared.refusal.Refusal.{Refusal}
-use Rattle.wb_types.specs.declared.version.Version.{Version}
-use Rattle.wb_types.specs.declared.version.Version.TheVariants.{One, Two}
+use Rattle.wb_types.specs.declared.version.Version.TheVariants.{Two}
 use Rattle.wb_types.specs.declared.refusal.Refusal.TheVariants.{Range, Crosses, Busy, Memory, Geometry as TooSmall}
 use Rattle.wb_types.specs.declared.number.OBlock.{OBlock}
 use Rattle.wb_types.specs.declared.number.CBlock.{CBlock}
@@ -142,11 +142,6 @@ write_job mode part = Writing part
 abbrev pub most_for : Geometry → Bool → ℕ
 most_for geometry clean = most_nodes Two clean geometry.cache_blocks
 
--- the version that an opening asks for
-abbrev pub version_asked : Bool → Version
-version_asked false = One
-version_asked true = Two
-
 -- the metadata of these sizes have room for it
 abbrev pub has_room_for : Bool → Geometry → Bool
 has_room_for second sizes = nat_le (2 + 2 * node_count sizes.cache_blocks + dirty_nodes (version_asked second) sizes.cache_blocks) sizes.meta_sectors
@@ -157,7 +152,7 @@ asks_second (Open mode second) = second
 asks_second job = false
 
 -- The geometry that an opening asks for: of these sizes, and where there is room for the version that it asks for, of that one.
-pub record IsAsked (sizes : Geometry) (second : Bool) (asked : Geometry) : Type 0 where
+pub record IsGeometryAsked (sizes : Geometry) (second : Bool) (asked : Geometry) : Type 0 where
   pub sizes_are : AreSameSizes asked sizes
   pub version : has_room_for second sizes ≡ true → asked.version ≡ version_asked second
 
@@ -308,7 +303,7 @@ AreWhole image = All (λ (node : Place × Node). IsWholeNode node.1) image.nodes
 -- the metadata were not left clean.
 abbrev pub DoesRead : {P A : Type 0} → Mode → Geometry → Bool → ℕ → ReadSteps A → List History → Option RunningCommit → Got → Chosen P A → Type 0
 DoesRead {P} {A} mode geometry second left was device commit got (Reaches after commit') = (got ≢ Fault)
-    × (((now : ReadSteps A) × ReadingGoesOn was device now × AreStepsOn (length device) now × ((asked : Geometry) × IsAsked geometry second asked × HasComeIn mode asked left now commit got after commit')
+    × (((now : ReadSteps A) × ReadingGoesOn was device now × AreStepsOn (length device) now × ((asked : Geometry) × IsGeometryAsked geometry second asked × HasComeIn mode asked left now commit got after commit')
     × (sectors_read now ≡ sectors_read was + 1) × HasGeneration commit' × IfSome commit' (λ running. AreWhole running.image))
     ⊎ ((refusal : Refusal) × IsOfReading refusal × StopsBy was device refusal × (got ≡ got_of_refusal refusal) × (after ≡ None) × (commit' ≡ commit)))
 DoesRead mode geometry second left was device commit got chosen = ⊥

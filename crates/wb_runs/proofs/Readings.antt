@@ -21,7 +21,8 @@ use Rattle.wb_meta.specs.declared.read_steps.ReadSteps.TheVariants.{Begun, First
 use Rattle.wb_tasks.specs.declared.step.Got.{Got}
 use Rattle.wb_tasks.specs.declared.step.Got.TheVariants.{Refused as GotRefused, More}
 use Rattle.wb_meta.proofs.Sizes.{own_sizes}
-use Rattle.wb_promise.specs.Happenings.{Chosen, Reaches, DoesRead, IsAsked, has_room_for, version_asked}
+use Rattle.wb_promise.specs.Happenings.{Chosen, Reaches, DoesRead, IsGeometryAsked, has_room_for}
+use Rattle.wb_types.specs.Versions.{version_asked}
 use Rattle.wb_runs.proofs.Spelling.{root_or_none}
 use Rattle.wb_runs.proofs.Images.{Images}
 use Rattle.wb_runs.proofs.Metadata.{HasReached}
@@ -107,10 +108,10 @@ slot_agrees s t (Some r) same f = record { sector = f.sector; there = same ∙ f
 -- ---- the next step
 
 -- a geometry that an opening may ask for
-pub geometry_asked : (sizes : Geometry) (second : Bool) → (asked : Geometry) × IsAsked sizes second asked
+pub geometry_asked : (sizes : Geometry) (second : Bool) → (asked : Geometry) × IsGeometryAsked sizes second asked
 geometry_asked sizes second = by_room (has_room_for second sizes) refl
   where
-    by_room : (room : Bool) → has_room_for second sizes ≡ room → (asked : Geometry) × IsAsked sizes second asked
+    by_room : (room : Bool) → has_room_for second sizes ≡ room → (asked : Geometry) × IsGeometryAsked sizes second asked
     by_room true e = (
       record sizes { version = version_asked second; room = leb-true _ _ e },
       record { sizes_are = record { block = refl; cache_blocks = refl; origin_blocks = refl; meta_sectors = refl }; version = λ has. refl },

@@ -4,8 +4,6 @@ use Rattle.wb_types.specs.declared.message.Key.{Key}
 use Rattle.wb_types.specs.declared.message.Key.TheVariants.{MigrationThreshold, PromoteMin}
 use Rattle.wb_types.specs.declared.mode.Mode.{Mode}
 use Rattle.wb_types.specs.declared.mode.Mode.TheVariants.{Writeback}
-use Rattle.wb_types.specs.declared.version.Version.{Version}
-use Rattle.wb_types.specs.declared.version.Version.TheVariants.{One, Two}
 use Rattle.wb_table.specs.Numbers.{SpellsNumber}
 use Rattle.wb_table.specs.Status.{mode_name}
 use Rattle.wb_table.specs.declared.table.Table.{Table}
@@ -37,11 +35,6 @@ Chooses [] mode metadata2 = (mode ≡ Writeback) × (metadata2 ≡ false)
 Chooses (feature ∷ []) mode metadata2 = IsChosenByOne feature mode metadata2
 Chooses (first ∷ second ∷ []) mode metadata2 = IsChosenByTwo first second mode metadata2
 Chooses features mode metadata2 = ⊥
-
--- the version of the metadata, by whether a table asks for `metadata2`
-abbrev pub version_asked : Bool → Version
-version_asked false = One
-version_asked true = Two
 
 -- Words are the number of features and then these, which choose a mode and whether metadata of version 2.
 abbrev pub SpellsFeatures : List (List ℕ) → Mode → Bool → Type 0

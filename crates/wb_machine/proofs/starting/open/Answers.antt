@@ -2,7 +2,7 @@ use Rattle.std.specs.Prelude.{IfSome}
 use Rattle.std.proofs.Common.{◌≡◌, ◌∙◌, Option, None, ap, arith, is_some, refl, subst, sym}
 use Rattle.wb_types.specs.declared.geometry.Geometry.{Geometry}
 use Rattle.wb_promise.specs.declared.event.Event.TheVariants.{Start}
-use Rattle.wb_promise.specs.Happenings.{DoesNotApply, IsAsked}
+use Rattle.wb_promise.specs.Happenings.{DoesNotApply, IsGeometryAsked}
 use Rattle.wb_machine.specs.declared.machine.TheConstants.{ACTORS}
 use Rattle.wb_machine.specs.Life.{shape_of, state_of}
 use Rattle.wb_tasks.specs.Points.{AtFirst}
@@ -45,5 +45,5 @@ returns-clause-there c =
 
 pub returns-clause-sound : goal.returns-clause-sound
 returns-clause-sound c =
-    let asks = subst (λ (o : Option Geometry). IfSome o (λ wanted. IsAsked c.args.geometry.now c.in-Some.asked.second wanted)) c.in-Some-geometry_asked.is c.geometry_asked.ensures.asked in
+    let asks = subst (λ (o : Option Geometry). IfSome o (λ wanted. IsGeometryAsked c.args.geometry.now c.in-Some.asked.second wanted)) c.in-Some-geometry_asked.is c.geometry_asked.ensures.asked in
     rw c.put.ensures (record { whole = c.requires.sound.whole; stands = record { point = AtFirst; plan_is = c.reading.ensures; asks = asks; come = refl; made = refl } })
