@@ -12,7 +12,8 @@ use Rattle.wb_tasks.specs.declared.step.Want.{Want}
 use Rattle.wb_tasks.specs.declared.step.Got.{Got}
 use Rattle.wb_tasks.proofs.Causing.{refuses_for_cause}
 
-no_range : (job : TaskJob) (steps : List (Want × Got)) → GaveCause job Range steps → ⊥
+-- no step gives cause for it
+pub no_range : (job : TaskJob) (steps : List (Want × Got)) → GaveCause job Range steps → ⊥
 no_range job [] h = h
 no_range job (step ∷ steps) h = elim h [ inl now ↦ now | inr later ↦ no_range job steps later ]
 

@@ -3,7 +3,7 @@
 ghost use Rattle.std.specs.Prelude.{◌≡◌, IfOk, IfErr};
 ghost use Rattle.wb_words.specs.declared.card.Hold.TheVariants.{Nothing};
 ghost use Rattle.wb_words.specs.SharedWords.{IsWord};
-ghost use Rattle.wb_words.specs.Cards.{looked};
+ghost use Rattle.wb_words.specs.Cards.{blank_card, looked};
 ghost use Rattle.wb_words.specs.Ready.{IsReady};
 ghost use Rattle.wb_cells.specs.Passes.{StepsBy};
 ghost use Rattle.wb_port.specs.Kinds.{LeavesHolds};
@@ -40,6 +40,7 @@ impl Seat {
     /// The one seat of a cache of these sizes, of which no block is cached. `Memory` where there is no room for the words.
     pub fn new(alloc: Global, geometry: Geometry) -> Result<Seat, Refusal>
         ensures geometry { IfOk result (λ seat. seat.geometry ≡ geometry) }
+        ensures card { IfOk result (λ seat. seat.pass.card ≡ blank_card) }
     {
         let (cells, pass) = Cells::new(alloc, geometry.origin_blocks)?;
         Ok(Seat {
@@ -83,10 +84,11 @@ impl Seat {
         self.cells.step(&mut self.pass, step)
     }
 
-    /// Two seats of one; `Memory` where the words have as many owners as can be counted, and then the seat is lost.
+    /// Two seats of one, the first of which keeps what it has done; `Memory` where the words have as many owners as can be counted, and then the seat is lost.
     pub fn split(self) -> Result<(Seat, Seat), Refusal>
         ensures words { IfOk result (λ two. (two.0.cells.value.table ≡ self.cells.value.table) × (two.1.cells.value.table ≡ self.cells.value.table)) }
         ensures geometry { IfOk result (λ two. (two.0.geometry ≡ self.geometry) × (two.1.geometry ≡ self.geometry)) }
+        ensures cards { IfOk result (λ two. (two.0.pass.card ≡ self.pass.card) × (two.1.pass.card ≡ blank_card)) }
         ensures refused { IfErr result (λ refusal. refusal ≡ Refusal.Memory) }
     {
         let Seat {

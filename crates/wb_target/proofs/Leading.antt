@@ -1,5 +1,5 @@
 -- A step of an opening that makes its target is one of the opening.
-use Rattle.std.proofs.Common.{◌≡◌, ◌⊎◌, ◌∙◌, ◌&&◌, ℕ, Bool, true, false, List, inl, refl, sym}
+use Rattle.std.proofs.Common.{◌≡◌, ◌⊎◌, ◌∙◌, ℕ, Bool, true, false, List, inl, refl, sym}
 use Rattle.std.specs.Bool.{OnTrue}
 use Rattle.std.specs.Result.{is_ok}
 use Rattle.std.proofs.lemmas.Bool.{OnTrue_from}
@@ -11,7 +11,7 @@ use Rattle.wb_tasks.specs.declared.step.Got.TheVariants.{Fault}
 use Rattle.wb_devices.specs.OpeningLed.{LedOpening}
 use Rattle.wb_devices.specs.Openings.{MayGoOn}
 use Rattle.wb_devices.specs.declared.opening_stage.OpeningStage.{OpeningStage}
-use Rattle.std.specs.Prelude.{Result, Ok, Err, IfOk, IfErr, OnOk}
+use Rattle.std.specs.Prelude.{Result, Ok, Err, IfOk, IfErr}
 use Rattle.wb_target.specs.Making.{IsTakenFor}
 
 pub led_on : {D : Type 0} (due : Bool) (Made Once Kept : Type 0) (tells : Type 0) (size : D → ℕ) (contents : D → List History) (faults : D → ℕ) (old before new : OpeningStage D) (want : Want) (got : Got)
@@ -26,25 +26,15 @@ led_on due Made Once Kept tells size contents faults old before new (Cell step) 
 led_on due Made Once Kept tells size contents faults old before new (Desk step) got taken m kept led made once = absurd led
 led_on due Made Once Kept tells size contents faults old before new (End answer) got taken m kept led made once = absurd led
 
--- what is due is not there, and is a step's that writes
-pub due_writes : (w none : Bool) → (w && none) ≡ true → w ≡ true
-due_writes true none due = refl
-due_writes false none due = due
-
--- where nothing is due a step that writes finds it there
-pub there_already : (w none : Bool) → (w && none) ≡ false → w ≡ true → none ≡ false
-there_already true none undue writing = undue
-there_already false none undue writing = absurd cc
-
 -- what holds of every refusal holds of the one that there is
 pub err_anyway : {T E : Type 0} (r : Result T E) (Q : E → Type 0) → ((e : E) → Q e) → IfErr r Q
 err_anyway (Ok x) Q f = tt
 err_anyway (Err e) Q f = f e
 
--- where a call answered, what it promises then
-pub answered_if : {T E : Type 0} (r : Result T E) (b : Bool) (P Q : Type 0) → b ≡ is_ok r → (P → Q) → OnOk r P → OnTrue b Q
-answered_if (Ok x) b P Q is f p = OnTrue_from b Q (λ yes. f p)
-answered_if (Err e) b P Q is f p = OnTrue_from b Q (λ yes. absurd (let no : false ≡ true = sym is ∙ yes in cc))
+-- where a call answered, what follows from its answer and what it promises of it
+pub answered_with : {T E : Type 0} (r : Result T E) (b : Bool) (P : T → Type 0) (Q : Type 0) → b ≡ is_ok r → ((t : T) → r ≡ Ok t → P t → Q) → IfOk r P → OnTrue b Q
+answered_with (Ok t) b P Q is f p = OnTrue_from b Q (λ yes. f t refl p)
+answered_with (Err e) b P Q is f p = OnTrue_from b Q (λ yes. absurd (let no : false ≡ true = sym is ∙ yes in cc))
 
 -- what a call made is of the mode that it was handed
 pub ok_as : {T E C : Type 0} (r : Result T E) (part : T → C) (x y : C) → x ≡ y → IfOk r (λ t. part t ≡ x) → IfOk r (λ t. part t ≡ y)

@@ -1,4 +1,4 @@
--- What a target's opening has opened. Its steps are those of an opening of the devices alone, which keeps what it has read; and a desk was made of just that.
+-- What a target's opening has opened. Its steps are those of an opening of the devices alone, which keeps what it has read; and the target was made of just that.
 use Rattle.std.proofs.Common.{◌≡◌, ◌∙◌, ◌&&◌, ℕ, zero, suc, Bool, true, false, ◌+◌, ◌-◌, List, [], ◌∷◌, ◌++◌, Option, Some, None, is_none, refl, sym, subst, ap, inl, inr}
 use Rattle.std.specs.declared.alloc.Global.{Global}
 use Rattle.wb_types.specs.declared.message.Key.{Key}
@@ -32,7 +32,8 @@ use Rattle.wb_devices.specs.declared.devices.Devices.{Devices}
 use Rattle.wb_devices.specs.declared.opening_stage.OpeningStage.{OpeningStage}
 use Rattle.wb_devices.specs.declared.running.RunningCommit.{RunningCommit}
 use Rattle.wb_devices.proofs.Ending.{has_ended}
-use Rattle.wb_target.specs.Making.{IsMade, IsMadeOnce, MakingGoesOn, WasOpened, is_due, writes}
+use Rattle.wb_target.specs.Making.{IsMadeOf, MakingGoesOn, WasOpened, is_due, writes_metadata}
+use Rattle.wb_target.specs.declared.office.Office.{Office}
 use Rattle.wb_target.specs.declared.making.MakingStage.{MakingStage}
 
 -- an opening with these steps to come
@@ -81,14 +82,6 @@ and_false : (w none : Bool) → none ≡ false → (w && none) ≡ false
 and_false true none there = there
 and_false false none there = refl
 
--- a target that is there stays
-is_there : {M : Type 0} (old new : Option M) (w : Want) → IsMadeOnce old w new → is_none old ≡ false → is_none new ≡ false
-is_there old new w once there = by_cases (writes w) refl
-  where
-    by_cases : (b : Bool) → b ≡ writes w → is_none new ≡ false
-    by_cases true is = once.there (sym is)
-    by_cases false is = ap is_none (once.kept (sym is)) ∙ there
-
 -- the image stays as a commit goes on
 image_stays : (size : ℕ) (next : RunningCommit) (step : _) (got : Got) (commit commit' : Option RunningCommit) → commit ≡ Some next → Goes size commit step got commit' → (later : RunningCommit) × (commit' ≡ Some later) × (later.image ≡ next.image)
 image_stays size next step got commit commit' is goes = let so : Goes size (Some next) step got commit' = subst (λ (c : Option RunningCommit). Goes size c step got commit') is goes in (so.0, so.1, so.2)
@@ -107,13 +100,14 @@ module _ {D P : Type 0} (tells : Type 0) (size : D → ℕ) (contents : D → Li
     keys_are : m.keys.now ≡ keys
     made_none : is_none m.made ≡ true
 
-  -- a desk was made of what was read here, by the root that is written
+  -- the target was made of what was read here, by the root that is written
   record IsMadeHere (stage : OpeningStage D) : Type 0 where
     state : State Global
     next : RunningCommit
     reading_is : stage.opening.reading ≡ Some (AllRead state)
     commit_is : stage.opening.commit ≡ Some next
-    made : IsMade with_setting state.root.geometry next.image.root.generation state.tree state.used.items mode keys
+    office : Office P
+    made : IsMadeOf with_setting state next.image mode keys office
 
   -- an opening of the devices alone, done from here on, whose devices end so
   record Alone (s : Plan) (old : OpeningStage D) (last : MakingStage D P) : Type 0 where
@@ -152,12 +146,12 @@ module _ {D P : Type 0} (tells : Type 0) (size : D → ℕ) (contents : D → Li
   -- a step that is the opening's own, as it stands
   record Stays (m mid : MakingStage D P) (w : Want) (got : Got) : Type 0 where
     led : Led m.stage w got mid.stage
-    once : IsMadeOnce m.made w mid.made
+    same : mid.made ≡ m.made
 
   -- as one is where nothing is due
   exact : (m mid : MakingStage D P) (w : Want) (got : Got) → is_due m.made w ≡ false → (got ≡ Fault → ⊥) → Makes m w got mid → Stays m mid w got
   exact m mid w got undue well makes = elim makes.3 [
-    | inl so ↦ record { led = subst (λ (s : OpeningStage D). Led s w got mid.stage) (so.1.others undue) so.2; once = so.4 }
+    | inl so ↦ record { led = subst (λ (s : OpeningStage D). Led s w got mid.stage) (so.1.others undue) so.2; same = so.4 undue }
     | inr failed ↦ absurd (well failed.0)
   ]
 
@@ -166,12 +160,12 @@ module _ {D P : Type 0} (tells : Type 0) (size : D → ℕ) (contents : D → Li
     led : Led m.stage w got mid.stage
     stands : Stands mid
 
-  passes : (m mid : MakingStage D P) (w : Want) (got : Got) → writes w ≡ false → (got ≡ Fault → ⊥) → Stands m → Makes m w got mid → Passes m mid w got
+  passes : (m mid : MakingStage D P) (w : Want) (got : Got) → writes_metadata w ≡ false → (got ≡ Fault → ⊥) → Stands m → Makes m w got mid → Passes m mid w got
   passes m mid w got other well h makes =
       let so = exact m mid w got (ap (λ b. b && is_none m.made) other) well makes in
       record {
         led = so.led;
-        stands = record { may = makes.0; mode_is = makes.1 ∙ h.mode_is; keys_are = ap (λ k. k.now) makes.2 ∙ h.keys_are; made_none = ap is_none (so.once.kept other) ∙ h.made_none };
+        stands = record { may = makes.0; mode_is = makes.1 ∙ h.mode_is; keys_are = ap (λ k. k.now) makes.2 ∙ h.keys_are; made_none = ap is_none so.same ∙ h.made_none };
       }
 
   -- ---- behind the first step that writes
@@ -204,16 +198,17 @@ module _ {D P : Type 0} (tells : Type 0) (size : D → ℕ) (contents : D → Li
   led_with step m mid state is reads geometry same on put = absurd is
 
   -- the target that was made stays that of the commit which goes on
-  made_on : (step : DeviceStep) (devices : Devices D) (commit : Option RunningCommit) (mid : MakingStage D P) (state : State Global) (next : RunningCommit) → commit ≡ Some next → IsMade with_setting state.root.geometry next.image.root.generation state.tree state.used.items mode keys
+  made_on : (step : DeviceStep) (devices : Devices D) (commit : Option RunningCommit) (mid : MakingStage D P) (state : State Global) (next : RunningCommit) → commit ≡ Some next → (office : Office P) → IsMadeOf with_setting state next.image mode keys office
       → PutOn step devices commit mid → IsMadeHere (with_read mid.stage state)
-  made_on step devices commit mid state next commit_is made put =
+  made_on step devices commit mid state next commit_is office made put =
       let later = image_stays (size devices.metadata) next step Done commit mid.stage.opening.commit commit_is put.2 in
       record {
         state = state;
         next = later.0;
         reading_is = refl;
         commit_is = later.1;
-        made = subst (λ (image : Image). IsMade with_setting state.root.geometry image.root.generation state.tree state.used.items mode keys) (sym later.2) made;
+        office = office;
+        made = subst (λ (image : Image). IsMadeOf with_setting state image mode keys office) (sym later.2) made;
       }
 
   -- a step on the metadata behind which the target is there
@@ -225,7 +220,7 @@ module _ {D P : Type 0} (tells : Type 0) (size : D → ℕ) (contents : D → Li
   -- one that comes when it is there
   wrote_on : (step : DeviceStep) (m mid : MakingStage D P) (state : State Global) → IsPut (Device step) → Holds m state → Makes m (Device step) Done mid → Wrote (with_read m.stage state) step mid
   wrote_on step m mid state is h makes =
-      let so = exact m mid (Device step) Done (and_false (writes (Device step)) (is_none m.made) h.there) no_fault makes in
+      let so = exact m mid (Device step) Done (and_false (writes_metadata (Device step)) (is_none m.made) h.there) no_fault makes in
       let put = put_of step m.stage mid is so.led in
       let on : ReadOn (size mid.stage.devices.metadata) state = subst (λ (n : ℕ). AreStepsOn n (AllRead state)) (sym put.1) h.on in
       let same_state : h.made.state ≡ state = let both : Some (AllRead h.made.state) ≡ Some (AllRead state) = sym h.made.reading_is in cc in
@@ -233,17 +228,18 @@ module _ {D P : Type 0} (tells : Type 0) (size : D → ℕ) (contents : D → Li
         state = state;
         led = led_with step (with_read m.stage state) mid state is refl so.led.2 makes.1 on put;
         holds = record {
-          there = is_there m.made mid.made (Device step) so.once h.there;
+          there = ap is_none so.same ∙ h.there;
           on = on;
-          made = made_on step m.stage.devices m.stage.opening.commit mid state h.made.next h.made.commit_is (subst (λ (x : State Global). IsMade with_setting x.root.geometry h.made.next.image.root.generation x.tree x.used.items mode keys) same_state h.made.made) put;
+          made = made_on step m.stage.devices m.stage.opening.commit mid state h.made.next h.made.commit_is h.made.office (subst (λ (x : State Global). IsMadeOf with_setting x h.made.next.image mode keys h.made.office) same_state h.made.made) put;
         };
       }
 
   -- the first that writes
-  wrote : (step : DeviceStep) (m mid : MakingStage D P) → IsPut (Device step) → writes (Device step) ≡ true → Stands m → Makes m (Device step) Done mid → Wrote m.stage step mid
+  wrote : (step : DeviceStep) (m mid : MakingStage D P) → IsPut (Device step) → writes_metadata (Device step) ≡ true → Stands m → Makes m (Device step) Done mid → Wrote m.stage step mid
   wrote step m mid is first h makes = elim makes.3 [
     | inl so ↦
-        let read = so.3 (ap (λ b. b && is_none m.made) first ∙ h.made_none) in
+        let due = so.3 (ap (λ b. b && is_none m.made) first ∙ h.made_none) in
+        let read = due.2 in
         let taken = so.1 in
         let put = subst (λ (commit : Option RunningCommit). PutOn step m.stage.devices commit mid) taken.commit (subst (λ (devices : Devices D). PutOn step devices so.0.opening.commit mid) taken.devices (put_of step so.0 mid is so.2)) in
         let was : ReadOn (size m.stage.devices.metadata) read.state = subst (λ (r : Option (ReadSteps Global)). IfSome r (AreStepsOn (size m.stage.devices.metadata))) read.reading_is h.may in
@@ -252,11 +248,11 @@ module _ {D P : Type 0} (tells : Type 0) (size : D → ℕ) (contents : D → Li
           state = read.state;
           led = led_with step m.stage mid read.state is read.reading_is (so.2.2 ∙ taken.geometry) makes.1 on put;
           holds = record {
-            there = so.4.there first;
+            there = ap is_none due.1;
             on = on;
-            made = made_on step m.stage.devices m.stage.opening.commit mid read.state read.next read.commit_is
-                (subst (λ (k : List (Key × ℕ)). IsMade with_setting read.state.root.geometry read.next.image.root.generation read.state.tree read.state.used.items mode k) h.keys_are
-                (subst (λ (x : Mode). IsMade with_setting read.state.root.geometry read.next.image.root.generation read.state.tree read.state.used.items x m.keys.now) h.mode_is read.made)) put;
+            made = made_on step m.stage.devices m.stage.opening.commit mid read.state read.next read.commit_is due.0
+                (subst (λ (k : List (Key × ℕ)). IsMadeOf with_setting read.state read.next.image mode k due.0) h.keys_are
+                (subst (λ (x : Mode). IsMadeOf with_setting read.state read.next.image x m.keys.now due.0) h.mode_is read.made)) put;
           };
         }
     | inr failed ↦ absurd (no_fault failed.0)
@@ -294,7 +290,7 @@ module _ {D P : Type 0} (tells : Type 0) (size : D → ℕ) (contents : D → Li
   putting left (w ∷ ws) all m state h steps last r l = absurd all.0
 
   -- the first of them writes
-  put_first : (left : ℕ) (step : DeviceStep) (ws : List Want) → IsPut (Device step) → writes (Device step) ≡ true → AllPut ws → (m : MakingStage D P) → Stands m → (steps : List (Want × Got)) (last : MakingStage D P) → IsRunOf (to_come left (Device step ∷ ws)) steps Finished → Leads Makes m steps last
+  put_first : (left : ℕ) (step : DeviceStep) (ws : List Want) → IsPut (Device step) → writes_metadata (Device step) ≡ true → AllPut ws → (m : MakingStage D P) → Stands m → (steps : List (Want × Got)) (last : MakingStage D P) → IsRunOf (to_come left (Device step ∷ ws)) steps Finished → Leads Makes m steps last
       → Alone (to_come left (Device step ∷ ws)) m.stage last
   put_first left step ws is first all m h steps last r l =
       let next = taken (to_come left (Device step ∷ ws)) m steps last tt r l in
@@ -390,6 +386,7 @@ module _ {D P : Type 0} (tells : Type 0) (size : D → ℕ) (contents : D → Li
         over = ended.1;
         durable = ended.2;
         clean = λ passes. ended.3 (mode_is ∙ passes);
-        made = subst (λ (state : State Global). IsMade with_setting state.root.geometry opened.next.image.root.generation state.tree state.used.items mode keys) same_state
-            (subst (λ (next : RunningCommit). IsMade with_setting made.state.root.geometry next.image.root.generation made.state.tree made.state.used.items mode keys) same_next made.made);
+        office = made.office;
+        made = subst (λ (state : State Global). IsMadeOf with_setting state opened.next.image mode keys made.office) same_state
+            (subst (λ (next : RunningCommit). IsMadeOf with_setting made.state next.image mode keys made.office) same_next made.made);
       })

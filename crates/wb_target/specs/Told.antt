@@ -15,7 +15,7 @@ use Rattle.wb_desk.specs.Desks.{DeskState, mapped_now}
 use Rattle.wb_desk.specs.Messages.{MessageIsTold, IsRefused}
 use Rattle.wb_desk.specs.Settling.{AreSettled, IsTicked}
 use Rattle.wb_stage.specs.Asking.{DidRelease}
-use Rattle.wb_table.specs.Table.{version_asked}
+use Rattle.wb_types.specs.Versions.{version_asked}
 use Rattle.wb_table.specs.declared.status.Fields.{Fields}
 
 -- its policy was told of these accesses, one after the other, and what it ordered was given

@@ -102,6 +102,7 @@ fn work<R: Wait, D: Disk + Drop, P: Policy, G: Gate, T: Task>(
 pub(crate) fn take_buffer<D>(alloc: Global, port: &mut Port<D>) -> Result<(), Refusal>
     ensures kept { 0 < length port.old.buffer.items → port.new.buffer.items ≡ port.old.buffer.items }
     ensures lacked { OnErr result (length port.old.buffer.items ≡ 0) }
+    ensures there { OnOk result (0 < length port.new.buffer.items) }
     ensures refused { IfErr result (λ refusal. refusal ≡ Refusal.Memory) }
     ensures hand { port.new.hand ≡ port.old.hand }
     ensures commit { port.new.commit ≡ port.old.commit }

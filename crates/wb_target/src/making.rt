@@ -1,13 +1,14 @@
 //! Where a target is opened: an opening of its devices that makes the target of what was read before it writes the root.
 
-ghost use Rattle.std.specs.Prelude.{◌≡◌, ℕ, false, None, List, is_none, OnOk, IfOk};
+ghost use Rattle.std.specs.Prelude.{◌≡◌, ℕ, None, Some, Ok, List, OnOk, IfOk};
 ghost use Rattle.wb_tasks.specs.Tables.{Opening as OpeningJob};
 ghost use Rattle.wb_tasks.specs.Plan.{table};
 ghost use Rattle.wb_tasks.specs.Run.{IsRunOf, Leads};
 ghost use Rattle.wb_tasks.specs.declared.step.Want.{Want as WantTerm};
 ghost use Rattle.wb_tasks.specs.declared.step.Got.{Got as GotTerm};
 ghost use Rattle.wb_devices.specs.Openings.{MayGoOn, HasNotBegun};
-ghost use Rattle.wb_target.specs.Making.{IsReadyToMake, IsMadeOfRead, MakingGoesOn, is_due, writes};
+ghost use Rattle.wb_target.specs.Making.{IsReadyToMake, IsMadeOfRead, MakingGoesOn, is_due, writes_metadata};
+ghost use Rattle.wb_target.specs.declared.office.Office.{Office as OfficeTerm};
 ghost use Rattle.std.specs.Bool.{OnTrue};
 
 use crate::office::Office;
@@ -100,7 +101,7 @@ impl<'k, D: Disk + Drop, P: Policy> MakingStage<'k, D, P> {
     fn is_due(&self, want: &Want) -> bool
         ensures { result ≡ is_due self.now.made want.now }
     {
-        writes(want) && self.made.is_none()
+        writes_metadata(want) && self.made.is_none()
     }
 
     /// Makes the target of what was read, or was converted, by the root that comes next, and says whether it is there.
@@ -110,8 +111,7 @@ impl<'k, D: Disk + Drop, P: Policy> MakingStage<'k, D, P> {
         ensures commit { self.new.stage.opening.commit ≡ self.old.stage.opening.commit }
         ensures geometry { self.new.stage.opening.geometry ≡ self.old.stage.opening.geometry }
         ensures goes_on { MayGoOn (D.size self.new.stage.devices.metadata) self.new.stage.opening }
-        ensures made { OnTrue result (IsMadeOfRead P.with_setting self.old) }
-        ensures there { OnTrue result (is_none self.new.made ≡ false) }
+        ensures made { OnTrue result ((office : OfficeTerm P) × (self.new.made ≡ Some (Ok office)) × IsMadeOfRead P.with_setting self.old office) }
         ensures mode { self.new.stage.mode ≡ self.old.stage.mode }
         ensures keys { self.new.keys ≡ self.old.keys }
     {
@@ -161,8 +161,8 @@ impl<'k, D: Disk + Drop, P: Policy> Stage for MakingStage<'k, D, P> {
 }
 
 /// Whether a step writes a node or the root.
-fn writes(want: &Want) -> bool
-    ensures { result ≡ writes want.now }
+fn writes_metadata(want: &Want) -> bool
+    ensures { result ≡ writes_metadata want.now }
 {
     matches!(
         want,

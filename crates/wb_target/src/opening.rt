@@ -1,14 +1,16 @@
 //! Opening a target over what three devices hold.
 
-ghost use Rattle.std.specs.Prelude.{◌≡◌, ◌<◌, ◌⊎◌, IfOk, IfErr, OnOk, length};
+ghost use Rattle.std.specs.Prelude.{◌≡◌, ◌<◌, ◌⊎◌, All, IfOk, IfErr, OnOk, length};
 ghost use Rattle.wb_tasks.specs.declared.step.Answer.{Answer as AnswerTerm};
 ghost use Rattle.wb_target.specs.Making.{IsMade, WasOpened, WasRun};
 ghost use Rattle.wb_words.specs.declared.card.Hold.TheVariants.{Nothing};
 ghost use Rattle.wb_tree.specs.Mapping.{IsMapping};
 ghost use Rattle.wb_meta.specs.Reads.{FitsDevice};
 ghost use Rattle.wb_devices.specs.Clean.{entries_of};
-ghost use Rattle.wb_target.specs.Opening.{opened_mapping, opened_entry};
-ghost use Rattle.wb_table.specs.Table.{version_asked};
+ghost use Rattle.wb_target.specs.Opening.{opened_mapping, opened_entry, seals_stored};
+ghost use Rattle.wb_types.specs.Versions.{version_asked};
+ghost use Rattle.wb_port.specs.declared.seat.Seat.{Seat as SeatTerm};
+ghost use Rattle.wb_target.specs.declared.target.TheConstants.{CLIENTS as MostClients};
 
 use crate::making::MakingStage;
 use crate::office::Office;
@@ -92,7 +94,7 @@ pub(crate) fn office_over<P: Policy>(
     keys: &[(Key, u64)],
 ) -> Result<Office<P>, Refusal>
     requires { FitsDevice state.root.geometry.meta_sectors state.root state.tree state.used.items }
-    ensures made { OnOk result (IsMade P.with_setting state.root.geometry state.root.generation state.tree state.used.items mode keys.now) }
+    ensures made { IfOk result (IsMade P.with_setting state.root.geometry state.root.generation state.tree state.used.items (opened_mapping clean (entries_of state)) mode keys.now) }
 {
     let geometry = state.root.geometry;
     let entries = opened_entries(alloc, &state, clean)?;
@@ -149,6 +151,7 @@ fn seal_all(
     requires mapping { IsMapping geometry.now.cache_blocks geometry.now.origin_blocks entries.now }
     ensures at { pass.new.table ≡ pass.old.table }
     ensures idle { pass.new.card.hold ≡ Nothing }
+    ensures sealed { OnOk result (pass.new.card.stored ≡ seals_stored 0 entries.now pass.old.card.stored) }
 {
     for c in 0..geometry.cache_blocks {
         if let Some(entry) = entries[c as usize] {
@@ -160,15 +163,19 @@ fn seal_all(
     Ok(())
 }
 
-/// As many seats as there may be clients, and one more, of one.
-fn seats_of(alloc: Global, seat: Seat) -> Result<(Vec<Seat>, Seat), Refusal> {
+/// As many seats as there may be clients, which have done nothing yet, and what is left of one, which keeps what it has done.
+fn seats_of(alloc: Global, seat: Seat) -> Result<(Vec<Seat>, Seat), Refusal>
+    ensures many { IfOk result (λ seats. length seats.0.items ≡ MostClients) }
+    ensures words { IfOk result (λ seats. All (λ (one : SeatTerm). one.cells.value.table ≡ seat.cells.value.table) seats.0.items × (seats.1.cells.value.table ≡ seat.cells.value.table)) }
+    ensures card { IfOk result (λ seats. seats.1.pass.card ≡ seat.pass.card) }
+{
     let mut seats = Vec::with_capacity(alloc, CLIENTS)?;
-    let mut last = seat;
+    let mut left = seat;
     for _ in 0..CLIENTS {
         seats.reserve(1)?;
-        let (one, other) = last.split()?;
+        let (rest, one) = left.split()?;
         seats.push_reserved(one);
-        last = other;
+        left = rest;
     }
-    Ok((seats, last))
+    Ok((seats, left))
 }

@@ -1,6 +1,6 @@
 //! A target: what its clients share.
 
-ghost use Rattle.std.specs.Prelude.{◌≡◌, ◌+◌, ◌++◌, ◌⊎◌, [], OnOk, OnErr, IfOk, IfErr, string_bytes};
+ghost use Rattle.std.specs.Prelude.{◌≡◌, ◌<◌, ◌+◌, ◌++◌, ◌⊎◌, [], OnOk, OnErr, IfOk, IfErr, length, string_bytes};
 ghost use Rattle.std.specs.Bool.{OnTrue};
 ghost use Rattle.wb_table.specs.Status.{status_line};
 ghost use Rattle.wb_table.specs.declared.status.Fields.{Fields as Told};
@@ -93,7 +93,8 @@ impl<P: Policy> Target<P> {
 
     /// Takes a client back, its accesses settled: its devices.
     pub fn retire<R: Wait, D: Disk + Drop>(&self, rt: &R, client: Client<'_, D, P>) -> Devices<D>
-        ensures { result ≡ client.entry.port.hand.devices }
+        ensures devices { result ≡ client.entry.port.hand.devices }
+        ensures told { 0 < length client.entry.port.accesses.items → WereSettled P.ordered P.settled client.entry.port.accesses.items }
     {
         let mut client = client;
         client.settle(rt);

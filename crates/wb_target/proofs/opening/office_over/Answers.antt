@@ -1,10 +1,14 @@
-use Rattle.std.proofs.Common.{◌∙◌, sym, ap, subst, arith, length}
+use Rattle.std.proofs.Common.{◌≡◌, ◌∙◌, List, Option, sym, ap, subst, arith, length}
+use Rattle.std.proofs.lemmas.List.Elements.{All-weaker}
+use Rattle.wb_types.specs.declared.entry.Entry.{Entry}
+use Rattle.wb_words.specs.declared.card.Card.{Card}
+use Rattle.wb_port.specs.declared.seat.Seat.{Seat}
 use Rattle.std.proofs.lemmas.List.{length-map}
 use Rattle.wb_tree.specs.Mapping.{IsMapping}
 use Rattle.wb_policy.specs.Law.{origins}
 use Rattle.wb_devices.specs.Clean.{entries_of}
 use Rattle.wb_devices.proofs.BitEntries.{length-with_bits, mapping-with_bits}
-use Rattle.wb_target.specs.Opening.{opened_entry}
+use Rattle.wb_target.specs.Opening.{opened_entry, opened_mapping, seals_stored}
 use Rattle.wb_target.proofs.Hinting.{opened_is_mapping, origins-with_bits, same_origins}
 use Rattle.wb_target.proofs.Knowing.{known_mapping}
 use Rattle.wb_target.proofs.opening.office_over.Goals as goal
@@ -32,3 +36,21 @@ seal_all-requires-clause-mapping g c =
     let geometry = state.root.geometry in
     subst (IsMapping geometry.cache_blocks geometry.origin_blocks) (sym (c.as_slice-2.ensures.value ∙ c.in_ok-entries.ensures)) (opened_is_mapping c.args.clean geometry.cache_blocks geometry.origin_blocks (entries_of state)
     (mapping-with_bits state.dirty geometry.cache_blocks geometry.origin_blocks state.tree.entries c.requires.mapping))
+
+pub returns : goal.returns
+returns g c =
+    let opened = opened_mapping c.args.clean (entries_of c.args.state) in
+    let words = c.in_ok-seats.ensures.words in
+    record {
+      made = record {
+        desk_is = c.in_ok-desk.ensures.opened;
+        first = c.in_ok-policy.policy;
+        policy = c.in_ok-desk.ensures.policy;
+        many = c.in_ok-seats.ensures.many;
+        words = All-weaker (λ (seat : Seat). seat.cells.value.table ≡ c.in_ok-seat.seat.cells.value.table) (λ (seat : Seat). seat.cells.value.table ≡ c.in_ok-seats.watch.cells.value.table)
+            (λ seat same. same ∙ sym words.1) c.in_ok-seats.seats.items words.0;
+        sealed = ap (λ (card : Card). card.stored) c.in_ok-seats.ensures.card ∙ c.in_ok-seal_all.ensures.sealed
+            ∙ ap (λ (entries : List (Option Entry)). seals_stored 0 entries c.in_ok-seat.seat.pass.card.stored) (c.as_slice-2.ensures.value ∙ c.in_ok-entries.ensures)
+            ∙ ap (λ (card : Card). seals_stored 0 opened card.stored) c.in_ok-seat.ensures.card;
+      };
+    }

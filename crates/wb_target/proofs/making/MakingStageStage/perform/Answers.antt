@@ -1,7 +1,7 @@
-use Rattle.std.proofs.Common.{◌≡◌, ◌∙◌, true, false, is_none, ap, sym}
+use Rattle.std.proofs.Common.{◌≡◌, ◌∙◌, true, false, ap, sym}
 use Rattle.std.proofs.lemmas.Bool.{OnTrue_at}
-use Rattle.wb_target.specs.Making.{IsMadeOnce, MadeFirst, is_due, writes}
-use Rattle.wb_target.proofs.Leading.{due_writes, led_on, there_already}
+use Rattle.wb_target.specs.Making.{IsMadeOnce, MadeFirst, is_due}
+use Rattle.wb_target.proofs.Leading.{led_on}
 use Rattle.wb_target.proofs.making.MakingStageStage.perform.Goals.{then-is_due+else-not-make, else-is_due}
 use Rattle.wb_target.proofs.making.MakingStageStage.perform.Goals as goal
 
@@ -11,7 +11,7 @@ returns-clause-led g c =
     let want = c.args.want.now in
     let before = c.if-is_due.self in
     let due = is_due old.made want in
-    let made = MadeFirst g.P.Policy.with_setting old want in
+    let made = MadeFirst g.P.Policy.with_setting old want before.made in
     let once = IsMadeOnce old.made want before.made in
     elim c.if-is_due.branch [
       | then-is_due+else-not-make w ↦
@@ -24,11 +24,8 @@ returns-clause-led g c =
             geometry = ap (λ m. m.stage.opening.geometry) w.self-is ∙ w.make.ensures.geometry;
           })
           (ap (λ m. m.stage.mode) w.self-is ∙ w.make.ensures.mode) (ap (λ m. m.keys) w.self-is ∙ w.make.ensures.keys) c.perform.ensures.led
-          (λ so. OnTrue_at w.if-not-make.false w.make.ensures.made)
-          (record {
-            kept = λ no. absurd (let both : true ≡ false = sym (due_writes (writes want) (is_none old.made) yes) ∙ no in cc);
-            there = λ so. ap (λ m. is_none m.made) w.self-is ∙ OnTrue_at w.if-not-make.false w.make.ensures.there;
-          })
+          (λ so. let is = OnTrue_at w.if-not-make.false w.make.ensures.made in (is.0, ap (λ m. m.made) w.self-is ∙ is.1, is.2))
+          (λ no. absurd (let both : true ≡ false = sym yes ∙ no in cc))
       | else-is_due w ↦
           let no : due ≡ false = sym c.is_due.ensures ∙ w.if-is_due.false in
           led_on due made once (before.keys ≡ old.keys) g.D.Disk.tells g.D.Disk.size g.D.Disk.contents g.D.Disk.faults old.stage before.stage c.perform.new.self want c.perform.result
@@ -40,8 +37,5 @@ returns-clause-led g c =
           })
           (ap (λ m. m.stage.mode) w.self-is) (ap (λ m. m.keys) w.self-is) c.perform.ensures.led
           (λ yes. absurd (let both : true ≡ false = sym yes ∙ no in cc))
-          (record {
-            kept = λ so. ap (λ m. m.made) w.self-is;
-            there = λ so. ap (λ m. is_none m.made) w.self-is ∙ there_already (writes want) (is_none old.made) no so;
-          })
+          (λ so. ap (λ m. m.made) w.self-is)
     ]
