@@ -1,18 +1,16 @@
 -- Neither a flush, nor a durable write of sectors inside the origin, is refused for a range.
-use Rattle.std.proofs.Common.{◌≡◌, ◌*◌, ℕ, List, [], ◌∷◌, length, inl, inr, refl, subst}
+use Rattle.std.proofs.Common.{◌≡◌, ◌*◌, ℕ, List, length, inl, inr, refl, subst}
 use Rattle.wb_types.specs.declared.geometry.Geometry.{Geometry}
 use Rattle.wb_types.specs.declared.refusal.Refusal.{Refusal}
 use Rattle.wb_types.specs.declared.refusal.Refusal.TheVariants.{Range}
 use Rattle.wb_disk.specs.Device.{History}
 use Rattle.wb_policy.specs.declared.order.Order.{Order}
-use Rattle.wb_tasks.specs.Tables.{TaskJob}
 use Rattle.wb_tasks.specs.Causes.{GaveCause}
-use Rattle.wb_tasks.specs.declared.step.Want.{Want}
-use Rattle.wb_tasks.specs.declared.step.Got.{Got}
 use Rattle.wb_tasks.proofs.Causing.{refuses_for_cause}
 use Rattle.wb_types.specs.declared.extent.Extent.{Extent}
 use Rattle.wb_disk.specs.Device.{Content}
 use Rattle.wb_port.specs.declared.hand.Hand.{Hand}
+use Rattle.wb_port.proofs.Ranging.{no_range}
 use Rattle.wb_target.specs.Carried.{Runs, flush_of}
 use Rattle.wb_target.specs.Durable.{StoppedDurably}
 use Rattle.wb_target.specs.declared.blocking.Stopped.{Stopped}
@@ -21,11 +19,6 @@ use Rattle.wb_opened.proofs.Inside.{not_outside}
 use Rattle.wb_target.specs.Workers.{FlushRefused}
 use Rattle.wb_target.specs.Works.{ShareTold, WorkState}
 use Rattle.std.specs.Prelude.{Option, None}
-
--- no step gives cause for it
-no_range : (job : TaskJob) (steps : List (Want × Got)) → GaveCause job Range steps → ⊥
-no_range job [] h = h
-no_range job (step ∷ steps) h = elim h [ inl now ↦ now | inr later ↦ no_range job steps later ]
 
 pub flush_never_range : {D : Type 0} (tells : Type 0) (size : D → ℕ) (contents : D → List History) (faults : D → ℕ) (asked : List Order → ShareTold) (blocks : ℕ) (geometry : Geometry) (refusal : Refusal) (old new : WorkState D)
     → FlushRefused (Runs tells size contents faults asked blocks) geometry refusal old new → refusal ≡ Range → ⊥

@@ -12,7 +12,7 @@ use Rattle.wb_desk.specs.Messages.{AreRanges}
 use Rattle.wb_target.specs.declared.client.Client.{Client}
 use Rattle.wb_target.specs.declared.gate.Point.{Point}
 use Rattle.wb_target.specs.Works.{ShareTold, WorkState}
-use Rattle.wb_target.specs.Workers.{EndedBy}
+use Rattle.wb_target.specs.Workers.{EndedBy, FailedAfter}
 use Rattle.wb_target.specs.Blocking.{ReadCame, WriteCame, InParts}
 use Rattle.wb_target.specs.Durable.{WroteDurably as WrittenDurably}
 use Rattle.wb_tasks.specs.Tables.{TaskJob}
@@ -85,7 +85,10 @@ MayRefuseMessage geometry (Set key value) refusal = (refusal ≡ BadMessage) ⊎
 MayRefuseMessage geometry (InvalidateCblocks ranges) refusal =
     ((refusal ≡ BadMessage) × ¬ AreRanges geometry.cache_blocks ranges) ⊎ (AreRanges geometry.cache_blocks ranges × ((refusal ≡ WrongMode) ⊎ (refusal ≡ Failed)))
 
--- It has carried out orders, one after the other, the one that waits longest first, until the gate said no.
-abbrev pub ClientWorked : {D P G : Type 0} → Type 0 → (D → ℕ) → (D → List History) → (D → ℕ) → (List Order → ShareTold) → (Option Order → Type 0) → (G → Point → Bool → Type 0) → G → Client D P → Client D P → Type 0
-ClientWorked tells size contents faults asked next answers gate old new =
+-- It has carried out orders, one after the other, the one that waits longest first, until the gate said no; or until it was refused, since the target had
+-- failed, or failed at an order.
+abbrev pub ClientWorked : {D P G : Type 0} → Type 0 → (D → ℕ) → (D → List History) → (D → ℕ) → (List Order → ShareTold) → (Option Order → Type 0) → (G → Point → Bool → Type 0) → G → Option Refusal → Client D P → Client D P → Type 0
+ClientWorked tells size contents faults asked next answers gate None old new =
     EndedBy (Runs tells size contents faults asked old.port.geometry.origin_blocks) next old.port.geometry answers gate (client_state old.port) (client_state new.port)
+ClientWorked tells size contents faults asked next answers gate (Some refusal) old new =
+    FailedAfter (Runs tells size contents faults asked old.port.geometry.origin_blocks) next old.port.geometry answers gate refusal (client_state old.port) (client_state new.port)

@@ -1,3 +1,4 @@
 pub mod Deeds
 pub mod Inside
+pub mod Refused
 pub mod Tables

@@ -2,7 +2,8 @@
 
 ghost use Rattle.std.specs.Prelude.{[]};
 ghost use Rattle.wb_opened.specs.Deeds.{ClientDid, ClientWorked};
-ghost use Rattle.wb_target.specs.Messages.{MessageDid};
+ghost use Rattle.wb_opened.specs.Refused.{ClientMet};
+ghost use Rattle.wb_target.specs.Messages.{MessageDid, MessageRefused};
 ghost use Rattle.wb_target.specs.Works.{AskedSharing, WasAsked};
 ghost use Rattle.wb_target.specs.Told.{WereSettled, HadTick, WasNext};
 
@@ -17,6 +18,8 @@ impl<'t, D: Disk + Drop, P: Policy> Served for Client<'t, D, P> {
     ghost sizes = { λ client. client.port.geometry };
 
     ghost did = { ClientDid D.tells D.size D.contents D.faults (AskedSharing P.with_entry P.without_entry) (WereSettled P.ordered P.settled) (HadTick P.cleaned P.ticked) (WasNext P) (MessageDid P.with_setting (WasAsked P.with_entry P.without_entry [])) };
+
+    ghost met = { ClientMet D.tells D.size D.contents D.faults (AskedSharing P.with_entry P.without_entry) (WasNext P) (MessageRefused P.with_setting (WasAsked P.with_entry P.without_entry [])) };
 
     ghost worked = { λ {G} answers gate. ClientWorked D.tells D.size D.contents D.faults (AskedSharing P.with_entry P.without_entry) (WasNext P) answers gate };
 

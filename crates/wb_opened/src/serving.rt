@@ -1,6 +1,6 @@
 //! Serving the target of a table.
 
-ghost use Rattle.std.specs.Prelude.{◌≡◌, ◌≢◌};
+ghost use Rattle.std.specs.Prelude.{◌≡◌, ◌≢◌, IfOk, map, vec_len};
 ghost use Rattle.wb_opened.specs.Tables.{policy_name};
 
 use crate::lanes::{Again, Hall};
@@ -55,7 +55,7 @@ pub fn serve_lanes<
 
 /// Opens the cache so, and has several do their services beside one another, each by a client of its own with files of its own and on a
 /// thread of its own; where no thread can be made, one is done after the other, the last of them first. What each told, in order, or why
-/// it had no client; then the target is suspended, which leaves the cache clean, or that is refused. Files that another program holds are
+/// it had no client, as many as there are services; then the target is suspended, which leaves the cache clean, or that is refused. Files that another program holds are
 /// waited for as long as there is patience.
 pub fn serve_all<
     'a,
@@ -72,7 +72,9 @@ pub fn serve_all<
     patience: &mut P,
     watch: &N,
     services: Vec<S>,
-) -> Result<(Vec<Result<S::Told, Refusal>>, Result<(), Refusal>), Unserved<'a>> {
+) -> Result<(Vec<Result<S::Told, Refusal>>, Result<(), Refusal>), Unserved<'a>>
+    ensures many { IfOk result (λ both. vec_len both.0 ≡ vec_len services) }
+{
     let (table, devices) = open_devices(rt, table, patience, watch)?;
     let errands = errands_of(rt, alloc, &table, watch, services)?;
     by_policy!(table.policy, serve_several[T, _, S](waits, alloc, devices, &table, errands))
@@ -93,7 +95,9 @@ pub fn serve_each<
     table: &Table<'a>,
     first: F,
     services: Vec<S>,
-) -> Result<(F::Told, Vec<Result<S::Told, Refusal>>), Unserved<'a>> {
+) -> Result<(F::Told, Vec<Result<S::Told, Refusal>>), Unserved<'a>>
+    ensures many { IfOk result (λ both. vec_len both.1 ≡ vec_len services) }
+{
     let watch = Unwatched::new();
     let devices = open_named(rt, table, &watch)?;
     let errands = errands_of(rt, alloc, table, &watch, services)?;
@@ -163,6 +167,7 @@ fn serve_several<
     errands: Vec<Sent<D, Doing<S>>>,
 ) -> Result<(Vec<Result<S::Told, Refusal>>, Result<(), Refusal>), Unserved<'a>>
     requires policy { P.name ≡ policy_name table.now.policy }
+    ensures many { IfOk result (λ both. vec_len both.0 ≡ vec_len errands) }
 {
     let (devices, target) = open_target::<P, D>(alloc, devices, table)?;
     let told = beside_one_another(waits, alloc, &target, errands);
@@ -191,6 +196,7 @@ fn serve_one_and_several<
     errands: Vec<Sent<D, Doing<S>>>,
 ) -> Result<(F::Told, Vec<Result<S::Told, Refusal>>), Unserved<'a>>
     requires policy { P.name ≡ policy_name table.now.policy }
+    ensures many { IfOk result (λ both. vec_len both.1 ≡ vec_len errands) }
 {
     let (devices, target) = open_target::<P, D>(alloc, devices, table)?;
     let told = serve_by(waits, &target, devices, first).map_err(|refusal| Unserved::Refused(
@@ -213,7 +219,9 @@ fn beside_one_another<
     alloc: Global,
     target: &Target<P>,
     errands: Vec<Sent<D, Doing<S>>>,
-) -> Result<Vec<Result<S::Told, Refusal>>, AllocError> {
+) -> Result<Vec<Result<S::Told, Refusal>>, AllocError>
+    ensures many { IfOk result (λ told. vec_len told ≡ vec_len errands) }
+{
     all_told(alloc, target.together(waits, errands)?)
 }
 
@@ -252,7 +260,9 @@ fn errands_of<'a, 'w, R: Files<File = File>, N: Watch, S: Service + Drop>(
     table: &Table<'a>,
     watch: &'w N,
     services: Vec<S>,
-) -> Result<Vec<Sent<WatchedDisk<'w, N>, Doing<S>>>, Unserved<'a>> {
+) -> Result<Vec<Sent<WatchedDisk<'w, N>, Doing<S>>>, Unserved<'a>>
+    ensures many { IfOk result (λ errands. vec_len errands ≡ vec_len services) }
+{
     let mut errands = Vec::new(alloc);
     for service in services {
         let devices = open_unlocked(rt, table, watch)?;
@@ -267,7 +277,9 @@ fn errands_of<'a, 'w, R: Files<File = File>, N: Watch, S: Service + Drop>(
 fn all_told<D: Drop, X: Drop>(
     alloc: Global,
     returned: Vec<Returned<D, X>>,
-) -> Result<Vec<Result<X, Refusal>>, AllocError> {
+) -> Result<Vec<Result<X, Refusal>>, AllocError>
+    ensures told { IfOk result (λ all. all.items ≡ map (λ one. one.told) returned.items) }
+{
     let mut all = Vec::new(alloc);
     for one in returned {
         let Returned { told, .. } = one;

@@ -10,16 +10,16 @@ use Rattle.wbnbd.specs.declared.control.Line.{Line}
 use Rattle.wbnbd.specs.declared.control.Line.TheVariants.{Nothing, Status, Flush, Tick, Message}
 
 -- The words of a line: none, one that names what is done, or `message` and those of a text.
-abbrev pub WordsSay : List (List ℕ) → Line → Type 0
-WordsSay words Nothing = words ≡ []
-WordsSay words Status = words ≡ codes "status" ∷ []
-WordsSay words Flush = words ≡ codes "flush" ∷ []
-WordsSay words Tick = words ≡ codes "tick" ∷ []
-WordsSay words (Message text) = words ≡ codes "message" ∷ words_of text.now
+abbrev pub ControlSays : List (List ℕ) → Line → Type 0
+ControlSays words Nothing = words ≡ []
+ControlSays words Status = words ≡ codes "status" ∷ []
+ControlSays words Flush = words ≡ codes "flush" ∷ []
+ControlSays words Tick = words ≡ codes "tick" ∷ []
+ControlSays words (Message text) = words ≡ codes "message" ∷ words_of text.now
 
 -- A line is a comment, or a text whose words say this.
-abbrev pub IsLine : List ℕ → Line → Type 0
-IsLine bytes line = (IsComment bytes × (line ≡ Nothing)) ⊎ ((¬ IsComment bytes) × IsUtf8 bytes × WordsSay (words_of bytes) line)
+abbrev pub IsControlLine : List ℕ → Line → Type 0
+IsControlLine bytes line = (IsComment bytes × (line ≡ Nothing)) ⊎ ((¬ IsComment bytes) × IsUtf8 bytes × ControlSays (words_of bytes) line)
 
 -- What a client has done for a line that was answered done: it was flushed, had its policy's tick, or was told the message that the text is.
 abbrev pub DidSay : {C : Type 0} → (C → Deed → C → Type 0) → C → Line → C → Type 0

@@ -1,2 +1,3 @@
+pub mod Endings
 pub mod Lending
 pub mod Controls

@@ -1,6 +1,8 @@
 //! What is done beside one another: a connection is served by several, and orders are carried out.
 
-ghost use Rattle.std.specs.Prelude.{◌≡◌, ◌<◌, ◌*◌};
+ghost use Rattle.std.specs.Prelude.{◌≡◌, ◌<◌, ◌*◌, OnOk, IfErr};
+ghost use Rattle.wb_opened.specs.Deeds.{Flushed as HasFlushed};
+ghost use Rattle.wb_opened.specs.Refused.{Flushes};
 
 use crate::control::{Control, answer_lines};
 use crate::lent::Lent;
@@ -100,7 +102,10 @@ fn finish<R: Wait, S: Served, T: Eprint>(
     client: &mut S,
     alloc: Global,
     teller: &Teller<'_, T>,
-) -> Result<(), Refusal> {
+) -> Result<(), Refusal>
+    ensures flushed { OnOk result (S.did client.old HasFlushed client.new) }
+    ensures refused { IfErr result (λ refusal. S.met client.old Flushes refusal client.new) }
+{
     let flushed = client.flush(rt);
     if let Err(refusal) = flushed {
         note(teller, refusal);

@@ -2,7 +2,7 @@
 
 ghost use Rattle.std.specs.Prelude.{◌≡◌, IfSome, IfNone, OnOk};
 ghost use Rattle.wb_table.specs.Words.{words_of};
-ghost use Rattle.wbnbd.specs.Controls.{DidSay, IsLine, WordsSay};
+ghost use Rattle.wbnbd.specs.Controls.{DidSay, IsControlLine, ControlSays};
 ghost use Rattle.wbnbd.specs.declared.control.Line.{Line as Said};
 
 use crate::pace::Pace;
@@ -163,8 +163,8 @@ impl Coming {
 
 /// Reads a line, without its line break. None is a line that says nothing that can be asked here.
 fn read_line(line: &[u8]) -> Option<Line<'_>>
-    ensures found { IfSome result (IsLine line.now) }
-    ensures none { IfNone result ((said : Said) → ¬ IsLine line.now said) }
+    ensures found { IfSome result (IsControlLine line.now) }
+    ensures none { IfNone result ((said : Said) → ¬ IsControlLine line.now said) }
 {
     if is_comment(line) {
         return Some(Line::Nothing);
@@ -173,8 +173,8 @@ fn read_line(line: &[u8]) -> Option<Line<'_>>
 }
 
 fn read_words(mut words: SplitSpaces<'_>) -> Option<Line<'_>>
-    ensures found { IfSome result (WordsSay (words_of words.entry.0.now)) }
-    ensures none { IfNone result ((said : Said) → ¬ WordsSay (words_of words.entry.0.now) said) }
+    ensures found { IfSome result (ControlSays (words_of words.entry.0.now)) }
+    ensures none { IfNone result ((said : Said) → ¬ ControlSays (words_of words.entry.0.now) said) }
 {
     let line = match words.next() {
         None => return Some(Line::Nothing),

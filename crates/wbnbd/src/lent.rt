@@ -1,7 +1,6 @@
 //! The origin of a target, as an export.
 
-ghost use Rattle.std.specs.Prelude.{◌≡◌, ◌⊎◌};
-ghost use Rattle.wbnbd.specs.Lending.{DoneBy};
+ghost use Rattle.wbnbd.specs.Lending.{DoneBy, IsToldAs};
 
 use crate::pace::Pace;
 use crate::teller::Teller;
@@ -25,7 +24,7 @@ pub struct Lent<'r, 'c, 'p, R, C, T> {
 impl<'r, 'c, 'p, R: Wait, C: Served, T: Eprint> Export for Lent<'r, 'c, 'p, R, C, T> {
     ghost size = { λ lent. lent.size };
 
-    ghost acts = { λ old act new. DoneBy C.did old.client.now act new.client.now };
+    ghost acts = { λ old act new. DoneBy C.did C.met old.client.now act new.client.now };
 
     fn sectors(&self) -> u64 {
         self.size
@@ -57,9 +56,7 @@ impl<'r, 'c, 'p, R: Wait, C: Served, T: Eprint> Export for Lent<'r, 'c, 'p, R, C
 
 /// What a client is told of a refusal; a device that failed is told of on standard error, too.
 fn errno_of<T: Eprint>(alarm: &Alarm<'_, T>, refusal: Refusal) -> Errno
-    ensures device { (device : _) → refusal ≡ Refusal.Io device → (result ≡ Errno.Io) ⊎ (result ≡ Errno.Space) }
-    ensures failed { refusal ≡ Refusal.Failed → result ≡ Errno.Shutdown }
-    ensures memory { refusal ≡ Refusal.Memory → result ≡ Errno.Memory }
+    ensures { IsToldAs refusal result }
 {
     match refusal {
         Refusal::Range => Errno::Invalid,

@@ -1,5 +1,8 @@
 //! Opening a target, and serving it.
 
+ghost use Rattle.std.specs.Prelude.{◌≡◌, All, IfErr, IfNone};
+ghost use Rattle.wbnbd.specs.Endings.{DidServe, EndedWell};
+
 use crate::arguments::Asked;
 use crate::beside::{Beside, Peer, Told};
 use crate::control::{Control, Lines};
@@ -101,24 +104,28 @@ fn services_of<'a, T, I, O>(
 
 /// How a run ended, by what each told and what the suspend behind them was answered: a connection that broke for one broke, and one that was served by
 /// one was served. A client that went between two requests has not broken it.
-fn ended_of<'a>(told: &[Result<Told, Refusal>], suspended: Result<(), Refusal>) -> Ended<'a> {
+fn ended_of<'a>(told: &[Result<Told, Refusal>], suspended: Result<(), Refusal>) -> Ended<'a>
+    ensures well { result.code ≡ 0 → All EndedWell told.now × DidServe told.now × IfErr suspended (λ refusal. ⊥) }
+{
     let mut refused = None;
     let mut unserved = Some(Refusal::Memory);
     for one in told {
         match one {
-            Ok(
+            Ok(how) => match how {
                 Told::Served {
-                    connection: Err(broken),
-                    ..
-                },
-            ) if *broken != Broken::Gone => return Ended::broken(*broken),
-            Ok(Told::Served { flushed, .. }) => {
-                unserved = None;
-                if let Err(refusal) = flushed {
-                    refused = Some(*refusal);
+                    connection,
+                    flushed,
+                } => {
+                    if let Some(broken) = break_of(connection) {
+                        return Ended::broken(broken);
+                    }
+                    unserved = None;
+                    if let Err(refusal) = flushed {
+                        refused = Some(*refusal);
+                    }
                 }
-            }
-            Ok(Told::Worked) => {}
+                Told::Worked => {}
+            },
             Err(refusal) => {
                 if unserved.is_some() {
                     unserved = Some(*refusal);
@@ -129,5 +136,21 @@ fn ended_of<'a>(told: &[Result<Told, Refusal>], suspended: Result<(), Refusal>) 
     match refused.or(unserved).or(suspended.err()) {
         Some(refusal) => Ended::refused(refusal),
         None => Ended::well(),
+    }
+}
+
+/// Why a connection broke, if it did; where its client went between two requests it has not.
+fn break_of(connection: &Result<(), Broken>) -> Option<Broken>
+    ensures { IfNone result (IfErr connection.now (λ broken. broken ≡ Broken.Gone)) }
+{
+    match connection {
+        Ok(()) => None,
+        Err(broken) => {
+            if *broken == Broken::Gone {
+                None
+            } else {
+                Some(*broken)
+            }
+        }
     }
 }
