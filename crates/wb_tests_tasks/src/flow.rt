@@ -78,7 +78,7 @@ fn is_noted(alloc: Global, noted: &mut Noted, row: &Row) -> Result<bool, AllocEr
 }
 
 /// Plays each row, and compares.
-fn compare(alloc: Global, rows: &[Row]) -> Result<(), Fail> {
+fn compare(alloc: Global, rows: &[&Row]) -> Result<(), Fail> {
     for row in rows {
         if !is_so(alloc, row)? {
             return Err(Fail::from(row.name));
@@ -88,12 +88,12 @@ fn compare(alloc: Global, rows: &[Row]) -> Result<(), Fail> {
 }
 
 /// Plays each row once for each of its steps on a device, which fails.
-fn compare_faults(alloc: Global, rows: &[Row]) -> Result<(), Fail> {
+fn compare_faults(alloc: Global, rows: &[&Row]) -> Result<(), Fail> {
     for row in rows {
         for fails in 0..row.device_steps {
             let row = Row {
                 fails: Some(fails),
-                ..*row
+                ..**row
             };
             if !is_so(alloc, &row)? {
                 return Err(Fail::from(row.name));

@@ -103,7 +103,7 @@ fn is_done(bench: &mut Bench, row: &Row, ends: Option<(u32, Dev)>) -> bool {
 }
 
 /// Drives each row's task, and compares.
-fn compare(alloc: Global, rows: &[Row]) -> Result<(), Fail> {
+fn compare(alloc: Global, rows: &[&Row]) -> Result<(), Fail> {
     for row in rows {
         if !is_so(alloc, row, None)? {
             return Err(Fail::from(row.name));
@@ -169,7 +169,7 @@ fn each_fault_of_a_copy_ends_it(rt: HostRuntime) -> Result<(), Fail> {
             let row = Row {
                 longest: 32,
                 fails: Some(fails),
-                ..*row
+                ..**row
             };
             let device = if fails % 2 == 0 { *from } else { *to };
             assert!(rt; is_so(rt.alloc(), &row, Some((fails, device)))?, "{fails}");

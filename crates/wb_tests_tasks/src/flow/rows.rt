@@ -131,8 +131,8 @@ const COMMIT_OF_ONE: [Want; 7] = [
     END,
 ];
 
-pub const ROWS: [Row; 10] = [
-    Row {
+pub const ROWS: [&Row; 10] = [
+    &Row {
         name: "a flush of one node writes its root at the seventh step and syncs it at the eighth",
         nodes: 1,
         wants: &[LOOK, ARRIVE],
@@ -140,14 +140,14 @@ pub const ROWS: [Row; 10] = [
         device_steps: 6,
         ..FLUSH
     },
-    Row {
+    &Row {
         name: "a flush without nodes syncs all the same",
         from: 2,
         commit: &COMMIT,
         device_steps: 5,
         ..FLUSH
     },
-    Row {
+    &Row {
         name: "the nodes of a flush are written rising",
         nodes: 3,
         from: 4,
@@ -163,21 +163,21 @@ pub const ROWS: [Row; 10] = [
         device_steps: 8,
         ..FLUSH
     },
-    Row {
+    &Row {
         name: "a failed target is not flushed",
         answer: Answer::Refused(Refusal::Failed),
         wants: &[LOOK],
         fail: 1,
         ..FLUSH
     },
-    Row {
+    &Row {
         name: "a flush where commits are broken keeps the orders that it serves",
         refuses: Some(Refusal::Failed),
         answer: Answer::Refused(Refusal::Failed),
         wants: &[LOOK, ARRIVE],
         ..FLUSH
     },
-    Row {
+    &Row {
         name: "a flush without memory gives each order up",
         refuses: Some(Refusal::Memory),
         answer: Answer::Refused(Refusal::Memory),
@@ -185,7 +185,7 @@ pub const ROWS: [Row; 10] = [
         wants: &GIVE_UP,
         ..FLUSH
     },
-    Row {
+    &Row {
         name: "a flush after the last generation gives each order up",
         refuses: Some(Refusal::GenerationEnd),
         answer: Answer::Refused(Refusal::GenerationEnd),
@@ -193,7 +193,7 @@ pub const ROWS: [Row; 10] = [
         wants: &GIVE_UP,
         ..FLUSH
     },
-    Row {
+    &Row {
         name: "an opening syncs, reads both slots and a node, and writes its root",
         nodes: 1,
         wants: &[
@@ -209,7 +209,7 @@ pub const ROWS: [Row; 10] = [
         device_steps: 8,
         ..OPEN
     },
-    Row {
+    &Row {
         name: "an opening of another version writes two nodes anew, and syncs them before its root",
         nodes: 1,
         converts: Some(2),
@@ -225,7 +225,7 @@ pub const ROWS: [Row; 10] = [
         device_steps: 11,
         ..OPEN
     },
-    Row {
+    &Row {
         name: "an opening without a root writes none",
         refuses: Some(Refusal::NotFormatted),
         answer: Answer::Refused(Refusal::NotFormatted),
@@ -256,15 +256,15 @@ pub const UNWRITTEN: Row = Row {
 };
 
 /// Flushes that come while a commit runs. They do nothing but ask until they lead one, or are served.
-pub const TICKETS: [Row; 5] = [
-    Row {
+pub const TICKETS: [&Row; 5] = [
+    &Row {
         name: "a flush that gets a ticket asks with it, and is answered where it is served",
         nodes: 1,
         meets: Meets::TwoCommits,
         wants: &[LOOK, ARRIVE, ASK],
         ..FLUSH
     },
-    Row {
+    &Row {
         name: "or leads the next commit, whole",
         nodes: 1,
         meets: Meets::Commit,
@@ -273,7 +273,7 @@ pub const TICKETS: [Row; 5] = [
         device_steps: 6,
         ..FLUSH
     },
-    Row {
+    &Row {
         name: "where the commit that runs is broken then, it keeps the orders that it serves",
         refuses: Some(Refusal::Failed),
         meets: Meets::Commit,
@@ -281,7 +281,7 @@ pub const TICKETS: [Row; 5] = [
         wants: &[LOOK, ARRIVE, ASK],
         ..FLUSH
     },
-    Row {
+    &Row {
         name: "without memory to lead one then it gives each order up",
         refuses: Some(Refusal::Memory),
         meets: Meets::Commit,
@@ -291,7 +291,7 @@ pub const TICKETS: [Row; 5] = [
         last: &GIVE_UP,
         ..FLUSH
     },
-    Row {
+    &Row {
         name: "and so it does after the last generation",
         refuses: Some(Refusal::GenerationEnd),
         meets: Meets::Commit,
@@ -303,8 +303,8 @@ pub const TICKETS: [Row; 5] = [
     },
 ];
 
-pub const SUSPENDS: [Row; 5] = [
-    Row {
+pub const SUSPENDS: [&Row; 5] = [
+    &Row {
         name: "a suspend looks at each seal, commits a clean root, and sets its bit last",
         nodes: 1,
         wants: &[
@@ -318,7 +318,7 @@ pub const SUSPENDS: [Row; 5] = [
         device_steps: 6,
         ..SUSPEND
     },
-    Row {
+    &Row {
         name: "a suspend of an empty cache looks at no seal",
         serves: &[],
         wants: &[LOOK, BEGIN_CLEAN],
@@ -327,14 +327,14 @@ pub const SUSPENDS: [Row; 5] = [
         device_steps: 5,
         ..SUSPEND
     },
-    Row {
+    &Row {
         name: "a failed or suspended target is not suspended",
         answer: Answer::Refused(Refusal::Failed),
         wants: &[LOOK],
         fail: 2,
         ..SUSPEND
     },
-    Row {
+    &Row {
         name: "a suspend that meets a commit is busy",
         refuses: Some(Refusal::Busy),
         answer: Answer::Refused(Refusal::Busy),
@@ -342,7 +342,7 @@ pub const SUSPENDS: [Row; 5] = [
         wants: &[BEGIN_CLEAN],
         ..SUSPEND
     },
-    Row {
+    &Row {
         name: "a suspend without memory sets no bit",
         refuses: Some(Refusal::Memory),
         answer: Answer::Refused(Refusal::Memory),

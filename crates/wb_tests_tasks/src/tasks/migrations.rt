@@ -138,8 +138,8 @@ const READ_CACHED: Want = Want::Device(DeviceStep::Read(Dev::Cache, CACHED));
 
 const WRITE_CACHED: Want = Want::Device(DeviceStep::Write(Dev::Cache, CACHED));
 
-pub const PROMOTIONS: [Row; 5] = [
-    Row {
+pub const PROMOTIONS: [&Row; 5] = [
+    &Row {
         name: "a promotion takes its block, copies it, maps it and seals it",
         from: 0,
         wants: &[
@@ -156,7 +156,7 @@ pub const PROMOTIONS: [Row; 5] = [
         ],
         ..PROMOTE
     },
-    Row {
+    &Row {
         name: "a promotion writes each extent before it reads the next",
         longest: 32,
         wants: &[
@@ -169,7 +169,7 @@ pub const PROMOTIONS: [Row; 5] = [
         more: 2,
         ..PROMOTE
     },
-    Row {
+    &Row {
         name: "a promotion that finds no memory gives its order up",
         is_full: true,
         answer: Answer::Refused(Refusal::Memory),
@@ -178,13 +178,13 @@ pub const PROMOTIONS: [Row; 5] = [
         is_mapped: false,
         ..PROMOTE
     },
-    Row {
+    &Row {
         name: "a promotion wants no number",
         shows: Some((Word::Number(BLOCK), u64::MAX)),
         wants: &[READ_HOME, WRITE_CACHED, MAP, SEAL_CACHED, DISOWN],
         ..PROMOTE
     },
-    Row {
+    &Row {
         name: "a promotion in single sectors takes 136 steps",
         longest: 1,
         wants: &[
@@ -196,8 +196,8 @@ pub const PROMOTIONS: [Row; 5] = [
     },
 ];
 
-pub const RETURNS: [Row; 6] = [
-    Row {
+pub const RETURNS: [&Row; 6] = [
+    &Row {
         name: "the seventh step of a demotion writes the first sector home",
         longest: 1,
         wants: &[
@@ -207,31 +207,31 @@ pub const RETURNS: [Row; 6] = [
         more: 129,
         ..DEMOTE
     },
-    Row {
+    &Row {
         name: "a dirty block is copied home before it leaves the mapping",
         wants: &[READ_CACHED, WRITE_HOME, UNMAP, SEAL_HOME, DISOWN],
         ..DEMOTE
     },
-    Row {
+    &Row {
         name: "a clean block leaves without a copy",
         mapped: Some(false),
         wants: &[UNMAP, SEAL_HOME, DISOWN],
         holds: Some((1, 2)),
         ..DEMOTE
     },
-    Row {
+    &Row {
         name: "a dirty block is copied home and sealed clean where it stands",
         wants: &[READ_CACHED, WRITE_HOME, SEAL_CACHED, DISOWN, GIVE_UP],
         ..CLEAN
     },
-    Row {
+    &Row {
         name: "a clean block is sealed clean again",
         mapped: Some(false),
         wants: &[SEAL_CACHED, DISOWN, GIVE_UP],
         holds: Some((1, 2)),
         ..CLEAN
     },
-    Row {
+    &Row {
         name: "an unmapped block is sealed to the origin again",
         mapped: None,
         wants: &[SEAL_HOME, DISOWN, GIVE_UP],
@@ -242,8 +242,8 @@ pub const RETURNS: [Row; 6] = [
     },
 ];
 
-pub const REFUSED: [Row; 4] = [
-    Row {
+pub const REFUSED: [&Row; 4] = [
+    &Row {
         name: "a shared block is busy by the look",
         shows: Some((Word::Cell(BLOCK), 2)),
         answer: Answer::Refused(Refusal::Busy),
@@ -255,7 +255,7 @@ pub const REFUSED: [Row; 4] = [
         has_order: true,
         ..PROMOTE
     },
-    Row {
+    &Row {
         name: "an owned block is busy by the look",
         shows: Some((Word::Cell(BLOCK), 1)),
         answer: Answer::Refused(Refusal::Busy),
@@ -267,7 +267,7 @@ pub const REFUSED: [Row; 4] = [
         has_order: true,
         ..DEMOTE
     },
-    Row {
+    &Row {
         name: "a lost exchange is busy, and keeps the order",
         is_raced: true,
         answer: Answer::Refused(Refusal::Busy),
@@ -278,7 +278,7 @@ pub const REFUSED: [Row; 4] = [
         has_order: true,
         ..CLEAN
     },
-    Row {
+    &Row {
         name: "a failed target refuses, and the order is kept",
         shows: Some((Word::Fail, 1)),
         answer: Answer::Refused(Refusal::Failed),
@@ -293,8 +293,8 @@ pub const REFUSED: [Row; 4] = [
 ];
 
 /// What copies, and the devices that it copies from and to.
-pub const COPIES: [(Row, Dev, Dev); 3] = [
-    (PROMOTE, Dev::Origin, Dev::Cache),
-    (DEMOTE, Dev::Cache, Dev::Origin),
-    (CLEAN, Dev::Cache, Dev::Origin),
+pub const COPIES: [(&Row, Dev, Dev); 3] = [
+    (&PROMOTE, Dev::Origin, Dev::Cache),
+    (&DEMOTE, Dev::Cache, Dev::Origin),
+    (&CLEAN, Dev::Cache, Dev::Origin),
 ];

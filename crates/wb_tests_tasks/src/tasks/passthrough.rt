@@ -51,8 +51,8 @@ const INVALIDATED: [(Word, u64); 3] = [
     (Word::Number(BLOCK), 0),
 ];
 
-pub const DEFERRED: [Row; 3] = [
-    Row {
+pub const DEFERRED: [&Row; 3] = [
+    &Row {
         name: "a write to a mapped block gives it back, and is deferred",
         answer: Answer::Refused(Refusal::Defer),
         from: 0,
@@ -64,32 +64,32 @@ pub const DEFERRED: [Row; 3] = [
         ],
         ..KEPT
     },
-    Row {
+    &Row {
         name: "a write to a mapped block is worn before it is deferred",
         shows: Some((Word::Number(BLOCK), u64::MAX)),
         answer: Answer::Refused(Refusal::Worn),
         wants: &[DISOWN],
         ..KEPT
     },
-    Row {
+    &Row {
         name: "a write to an unmapped block is done on the origin",
         ..WRITE
     },
 ];
 
-pub const DISPLACING: [Row; 4] = [
-    Row {
+pub const DISPLACING: [&Row; 4] = [
+    &Row {
         name: "a mapped block is unmapped, sealed to the origin, and written there, a hit",
         mapped: Some(false),
         wants: &[UNMAP, SEAL_HOME, WRITE_BOTH, FINISH, WRITE_HIT, DISOWN],
         words: &DISPLACED,
         ..DISPLACE
     },
-    Row {
+    &Row {
         name: "an unmapped block is written on the origin, a miss",
         ..DISPLACE
     },
-    Row {
+    &Row {
         name: "a worn block stays mapped",
         job: Work::Displace,
         shows: Some((Word::Number(BLOCK), u64::MAX)),
@@ -98,7 +98,7 @@ pub const DISPLACING: [Row; 4] = [
         words: &[(Word::Cell(BLOCK), 0), (Word::Seal(BLOCK), 4)],
         ..KEPT
     },
-    Row {
+    &Row {
         name: "a fault on the origin sets the failed bit, and the block is kept",
         mapped: Some(false),
         fails: Some(0),
@@ -114,20 +114,20 @@ pub const DISPLACING: [Row; 4] = [
     },
 ];
 
-pub const INVALIDATIONS: [Row; 3] = [
-    Row {
+pub const INVALIDATIONS: [&Row; 3] = [
+    &Row {
         name: "a mapped block is unmapped and sealed to the origin",
         mapped: Some(false),
         wants: &[UNMAP, SEAL_HOME, DISOWN],
         words: &INVALIDATED,
         ..INVALIDATE
     },
-    Row {
+    &Row {
         name: "an unmapped block is given back",
         wants: &[DISOWN],
         ..INVALIDATE
     },
-    Row {
+    &Row {
         name: "a block that another shares is busy",
         shows: Some((Word::Cell(BLOCK), 2)),
         mapped: Some(false),

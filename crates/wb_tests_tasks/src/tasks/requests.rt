@@ -145,8 +145,8 @@ const THROUGH: Row = Row {
     ..REWRITE
 };
 
-pub const READS: [Row; 5] = [
-    Row {
+pub const READS: [&Row; 5] = [
+    &Row {
         name: "an unmapped block is read from the origin",
         from: 0,
         wants: &[
@@ -162,14 +162,14 @@ pub const READS: [Row; 5] = [
         ],
         ..FREE
     },
-    Row {
+    &Row {
         name: "a mapped block is read from the cache",
         mapped: Some(false),
         wants: &[READ_CACHED_SECOND, READ_CACHED_THIRD, READ_HIT, LEAVE],
         is_mapped: true,
         ..FREE
     },
-    Row {
+    &Row {
         name: "an owned block is busy by the look",
         shows: Some((Word::Cell(BLOCK), 1)),
         answer: Answer::Refused(Refusal::Busy),
@@ -178,7 +178,7 @@ pub const READS: [Row; 5] = [
         words: &[(Word::Fail, 0)],
         ..FREE
     },
-    Row {
+    &Row {
         name: "a failed target refuses",
         shows: Some((Word::Fail, 1)),
         answer: Answer::Refused(Refusal::Failed),
@@ -187,7 +187,7 @@ pub const READS: [Row; 5] = [
         words: &[(Word::Cell(BLOCK), 0)],
         ..FREE
     },
-    Row {
+    &Row {
         name: "a fault on a read gives the block back",
         fails: Some(0),
         answer: Answer::Refused(Refusal::Io(Dev::Origin)),
@@ -196,8 +196,8 @@ pub const READS: [Row; 5] = [
     },
 ];
 
-pub const WRITES: [Row; 6] = [
-    Row {
+pub const WRITES: [&Row; 6] = [
+    &Row {
         name: "an unmapped block is written on the origin",
         from: 2,
         wants: &[
@@ -214,7 +214,7 @@ pub const WRITES: [Row; 6] = [
         holds: Some((3, 2)),
         ..WRITE
     },
-    Row {
+    &Row {
         name: "a clean copy is sealed dirty before its first write",
         mapped: Some(false),
         wants: &[
@@ -228,7 +228,7 @@ pub const WRITES: [Row; 6] = [
         words: &[(Word::Seal(BLOCK), 5), (Word::Number(BLOCK), 1)],
         ..REWRITE
     },
-    Row {
+    &Row {
         name: "a dirty copy is not sealed again",
         wants: &[
             WRITE_CACHED_SECOND,
@@ -239,7 +239,7 @@ pub const WRITES: [Row; 6] = [
         ],
         ..REWRITE
     },
-    Row {
+    &Row {
         name: "a lost exchange is busy",
         is_raced: true,
         answer: Answer::Refused(Refusal::Busy),
@@ -248,7 +248,7 @@ pub const WRITES: [Row; 6] = [
         words: &[(Word::Cell(BLOCK), 2)],
         ..WRITE
     },
-    Row {
+    &Row {
         name: "a block without a number left is worn",
         shows: Some((Word::Number(BLOCK), u64::MAX)),
         answer: Answer::Refused(Refusal::Worn),
@@ -256,7 +256,7 @@ pub const WRITES: [Row; 6] = [
         wants: &[LOOK_NUMBER, DISOWN],
         ..WRITE
     },
-    Row {
+    &Row {
         name: "a fault on a write keeps the block",
         fails: Some(1),
         answer: Answer::Refused(Refusal::Io(Dev::Origin)),
@@ -268,20 +268,20 @@ pub const WRITES: [Row; 6] = [
     },
 ];
 
-pub const IN_ONE_STEP: [Row; 3] = [
-    Row {
+pub const IN_ONE_STEP: [&Row; 3] = [
+    &Row {
         name: "both sectors are read by one step",
         longest: 2,
         wants: &[READ_BOTH, READ_MISS, LEAVE],
         ..FREE
     },
-    Row {
+    &Row {
         name: "both sectors are written by one step",
         longest: 256,
         wants: &[WRITE_CACHED_BOTH, FINISH, WRITE_HIT, DISOWN],
         ..REWRITE
     },
-    Row {
+    &Row {
         name: "a fault on one step for both keeps the block",
         longest: 2,
         fails: Some(0),
@@ -292,8 +292,8 @@ pub const IN_ONE_STEP: [Row; 3] = [
     },
 ];
 
-pub const IN_OTHER_MODES: [Row; 6] = [
-    Row {
+pub const IN_OTHER_MODES: [&Row; 6] = [
+    &Row {
         name: "write-through writes each extent on the origin, and then in the cache",
         longest: 1,
         wants: &[
@@ -308,14 +308,14 @@ pub const IN_OTHER_MODES: [Row; 6] = [
         words: &[(Word::Seal(BLOCK), 4), (Word::Number(BLOCK), 1)],
         ..THROUGH
     },
-    Row {
+    &Row {
         name: "a dirty copy stays dirty in write-through",
         mapped: Some(true),
         wants: &[WRITE_BOTH, WRITE_CACHED_BOTH, FINISH, WRITE_HIT, DISOWN],
         words: &[(Word::Seal(BLOCK), 5)],
         ..THROUGH
     },
-    Row {
+    &Row {
         name: "write-through writes an unmapped block on the origin alone",
         mapped: None,
         wants: &PAST,
@@ -323,7 +323,7 @@ pub const IN_OTHER_MODES: [Row; 6] = [
         is_mapped: false,
         ..THROUGH
     },
-    Row {
+    &Row {
         name: "a fault on the second write of an extent keeps the block",
         fails: Some(1),
         answer: Answer::Refused(Refusal::Io(Dev::Cache)),
@@ -332,7 +332,7 @@ pub const IN_OTHER_MODES: [Row; 6] = [
         holds: Some((3, 2)),
         ..THROUGH
     },
-    Row {
+    &Row {
         name: "a mapped block is read from the cache in write-through",
         mode: Mode::Writethrough,
         longest: 2,
@@ -341,7 +341,7 @@ pub const IN_OTHER_MODES: [Row; 6] = [
         is_mapped: true,
         ..FREE
     },
-    Row {
+    &Row {
         name: "a mapped block is read from the origin in passthrough, a miss",
         mode: Mode::Passthrough,
         longest: 2,
