@@ -12,9 +12,9 @@ mod orders;
 mod sharing;
 mod ticks;
 
-use sharing::Flush;
+use sharing::Told;
 use std::alloc::Global;
-use wb_desk::Desk;
+use wb_desk::{Desk, Ticket};
 use wb_format::Root;
 use wb_meta::State;
 use wb_policy::{Order, Policy, Quiet};
@@ -156,8 +156,12 @@ enum Call {
     Holds(u32, Holding),
     /// Where a block of the origin is cached.
     Stands(u32, Option<u32>),
-    /// Flushes that come and ask, one after the other.
-    Flushes(&'static [Flush]),
+    /// A flush that comes.
+    Arrives(Told),
+    /// One that got a ticket asks, counted from 0 by their arrival.
+    Asks(usize, Told),
+    /// Who leads breaks the commit.
+    Breaks,
     /// How many nodes a clean image writes that marks the last cache block dirty, and none of the others.
     Marked(usize),
 }
@@ -179,8 +183,9 @@ fn are_done<P: Policy>(
     calls: &[(Call, bool)],
     tries: Tries,
 ) -> Result<bool, Refusal> {
+    let mut tickets = Vec::new(alloc);
     for (call, done) in calls {
-        if is_done_within(desk, alloc, *call, tries)? != *done {
+        if is_done_within(desk, alloc, &mut tickets, *call, tries)? != *done {
             return Ok(false);
         }
     }
@@ -190,16 +195,22 @@ fn are_done<P: Policy>(
 fn is_done_within<P: Policy>(
     desk: &mut Desk<P>,
     alloc: Global,
+    tickets: &mut Vec<Ticket>,
     call: Call,
     tries: Tries,
 ) -> Result<bool, Refusal> {
-    match (is_done(desk, alloc, call), tries) {
-        (Err(Refusal::Memory), Tries::Two) => is_done(desk, alloc, call),
+    match (is_done(desk, alloc, tickets, call), tries) {
+        (Err(Refusal::Memory), Tries::Two) => is_done(desk, alloc, tickets, call),
         (answer, _) => answer,
     }
 }
 
-fn is_done<P: Policy>(desk: &mut Desk<P>, alloc: Global, call: Call) -> Result<bool, Refusal> {
+fn is_done<P: Policy>(
+    desk: &mut Desk<P>,
+    alloc: Global,
+    tickets: &mut Vec<Ticket>,
+    call: Call,
+) -> Result<bool, Refusal> {
     match call {
         Call::Reserve(order) => Ok(desk.reserve(order).is_ok()),
         Call::Release(order) => Ok(releases(desk, order)),
@@ -218,7 +229,7 @@ fn is_done<P: Policy>(desk: &mut Desk<P>, alloc: Global, call: Call) -> Result<b
         Call::Begin => begins(desk, alloc),
         Call::Image(dirty, image) => commits::has_image(desk, alloc, dirty, image),
         Call::Refused(dirty, refusal) => Ok(commits::is_refused(desk, alloc, dirty, refusal)),
-        Call::End => ends(desk, alloc),
+        Call::End => Ok(ends(desk)),
         Call::Commits(generation, used) => {
             let counts = desk.counts();
             Ok(counts.generation == generation && counts.used == used)
@@ -228,7 +239,9 @@ fn is_done<P: Policy>(desk: &mut Desk<P>, alloc: Global, call: Call) -> Result<b
         Call::Entry(c, entry) => Ok(has_entry(desk, c, entry)),
         Call::Holds(c, holding) => Ok(is_held_for(desk, c, holding)),
         Call::Stands(b, place) => Ok(desk.place(OBlock(b)) == place.map(CBlock)),
-        Call::Flushes(flushes) => sharing::are_told(desk, alloc, flushes),
+        Call::Arrives(told) => Ok(sharing::arrives(desk, alloc, tickets)? == told),
+        Call::Asks(at, told) => Ok(sharing::asks_at(desk, alloc, tickets, at) == Some(told)),
+        Call::Breaks => Ok(sharing::breaks(desk)),
         Call::Marked(nodes) => clean::writes_of_one_mark(desk, alloc, nodes),
     }
 }
@@ -296,16 +309,13 @@ fn begins<P: Policy>(desk: &mut Desk<P>, alloc: Global) -> Result<bool, Refusal>
     }
 }
 
-/// Ends the running commit; false where none ran, and then one has begun.
-fn ends<P: Policy>(desk: &mut Desk<P>, alloc: Global) -> Result<bool, Refusal> {
-    match desk.begin_commit(alloc, None) {
-        Ok(_) => Ok(false),
-        Err(Refusal::Busy) => {
-            desk.end_commit();
-            Ok(true)
-        }
-        Err(refusal) => Err(refusal),
+/// Ends the running commit; false where none runs.
+fn ends<P: Policy>(desk: &mut Desk<P>) -> bool {
+    let runs = desk.is_committing();
+    if runs {
+        desk.end_commit();
     }
+    runs
 }
 
 fn have_come<P: Policy>(desk: &Desk<P>, mapped: u32, came: u64, went: u64) -> bool {

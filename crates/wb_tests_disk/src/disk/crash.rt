@@ -82,23 +82,23 @@ fn leaves_on(
 /// The base of a choice, the sectors that it names, whether it applies, and what sector 1 then holds.
 type Row = (Base, &'static [(Dev, u64, u64)], bool, u8);
 
-const BY_NAMES: [Row; 6] = [
-    (Base::Durable, &[], true, 2),
-    (Base::Newest, &[], true, 4),
-    (Base::Durable, &[(Dev::Cache, 1, 1)], true, 3),
-    (
+const BY_NAMES: [&Row; 6] = [
+    &(Base::Durable, &[], true, 2),
+    &(Base::Newest, &[], true, 4),
+    &(Base::Durable, &[(Dev::Cache, 1, 1)], true, 3),
+    &(
         Base::Newest,
         &[(Dev::Cache, 0, 0), (Dev::Cache, 1, 0)],
         true,
         2,
     ),
-    (
+    &(
         Base::Durable,
         &[(Dev::Cache, 1, 1), (Dev::Cache, 1, 2)],
         true,
         4,
     ),
-    (
+    &(
         Base::Durable,
         &[(Dev::Cache, 1, 3), (Dev::Cache, 1, 1)],
         true,
@@ -107,28 +107,28 @@ const BY_NAMES: [Row; 6] = [
 ];
 
 /// Names of other devices are of no account to this one.
-const BY_OTHER_NAMES: [Row; 6] = [
-    (
+const BY_OTHER_NAMES: [&Row; 6] = [
+    &(
         Base::Newest,
         &[(Dev::Cache, 1, 1), (Dev::Cache, 1, 3)],
         false,
         4,
     ),
-    (Base::Newest, &[(Dev::Cache, 0, 1)], false, 4),
-    (
+    &(Base::Newest, &[(Dev::Cache, 0, 1)], false, 4),
+    &(
         Base::Newest,
         &[(Dev::Cache, 2, 0), (Dev::Cache, 1, 1)],
         false,
         4,
     ),
-    (Base::Durable, &[(Dev::Origin, 1, 1)], true, 2),
-    (
+    &(Base::Durable, &[(Dev::Origin, 1, 1)], true, 2),
+    &(
         Base::Newest,
         &[(Dev::Cache, 1, 1), (Dev::Metadata, 1, 0)],
         true,
         3,
     ),
-    (
+    &(
         Base::Newest,
         &[(Dev::Origin, 2, 0), (Dev::Metadata, 0, 9)],
         true,
@@ -142,7 +142,7 @@ fn leaves(alloc: Global, (base, named, applies, kept): &Row) -> Result<bool, Ref
     leaves_by(alloc, &choice, *applies, *kept)
 }
 
-fn leave(alloc: Global, rows: &[Row]) -> Result<bool, Refusal> {
+fn leave(alloc: Global, rows: &[&Row]) -> Result<bool, Refusal> {
     for row in rows {
         if !leaves(alloc, row)? {
             return Ok(false);

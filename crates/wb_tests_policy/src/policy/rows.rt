@@ -215,31 +215,31 @@ fn other_policies_have_no_setting(rt: HostRuntime) -> Result<(), Fail> {
 /// back. Block c stands in cache block c.
 type Line = (&'static str, &'static str, u64, u32, Option<u32>);
 
-const TINY_TICKS: [Line; 8] = [
-    ("0123", "", 64, 0, Some(3)),
-    ("0123", "", 64, 1, None),
-    ("0123", "", 63, 0, None),
-    ("0123", "13", 64, 0, Some(0)),
-    ("21", "", 64, 0, Some(1)),
-    ("2", "", 64, 0, Some(2)),
-    ("2", "2", 64, 0, None),
-    ("", "", 64, 0, None),
+const TINY_TICKS: [&Line; 8] = [
+    &("0123", "", 64, 0, Some(3)),
+    &("0123", "", 64, 1, None),
+    &("0123", "", 63, 0, None),
+    &("0123", "13", 64, 0, Some(0)),
+    &("21", "", 64, 0, Some(1)),
+    &("2", "", 64, 0, Some(2)),
+    &("2", "2", 64, 0, None),
+    &("", "", 64, 0, None),
 ];
 
-const CLEANER_TICKS: [Line; 10] = [
-    ("", "", 64, 0, None),
-    ("023", "", 64, 0, Some(0)),
-    ("023", "0", 64, 1, Some(2)),
-    ("023", "02", 63, 2, None),
-    ("023", "02", 64, 2, Some(3)),
-    ("023", "023", 64, 3, None),
-    ("01", "", 64, 0, Some(0)),
-    ("0", "", 64, 0, Some(0)),
-    ("10", "1", 64, 0, Some(0)),
-    ("321", "", 64, 0, Some(1)),
+const CLEANER_TICKS: [&Line; 10] = [
+    &("", "", 64, 0, None),
+    &("023", "", 64, 0, Some(0)),
+    &("023", "0", 64, 1, Some(2)),
+    &("023", "02", 63, 2, None),
+    &("023", "02", 64, 2, Some(3)),
+    &("023", "023", 64, 3, None),
+    &("01", "", 64, 0, Some(0)),
+    &("0", "", 64, 0, Some(0)),
+    &("10", "1", 64, 0, Some(0)),
+    &("321", "", 64, 0, Some(1)),
 ];
 
-const NO_TICKS: [Line; 1] = [("0123", "", 64, 0, None)];
+const NO_TICKS: [&Line; 1] = [&("0123", "", 64, 0, None)];
 
 /// The blocks that a text names by their digits, each in the cache block of its number.
 fn blocks(alloc: Global, text: &str) -> Result<Vec<(CBlock, OBlock)>, AllocError> {
@@ -277,7 +277,7 @@ fn gives<P: Policy>(
 }
 
 /// Whether a policy gives what these lines say.
-fn gives_each<P: Policy>(alloc: Global, mode: Mode, lines: &[Line]) -> Result<bool, Refusal> {
+fn gives_each<P: Policy>(alloc: Global, mode: Mode, lines: &[&Line]) -> Result<bool, Refusal> {
     let mut policy = policy::<P>(alloc, PLACED)?;
     for line in lines {
         if !gives(&mut policy, alloc, mode, line)? {
