@@ -27,13 +27,13 @@ FailedIf Can faults faults' = (Can → OneMore faults faults') × (¬ Can → fa
 -- A read of an extent to the front of a buffer: from the size, contents and faults of its device to what the buffer, the
 -- contents and the faults are then. After a fault the buffer may hold anything.
 abbrev pub DidRead : Extent → Got → ℕ → List History → ℕ → List Bytes → List History → ℕ → Type 0
-DidRead e Done size old faults buffer new faults' = (e.count ≤ length buffer) × GivesEach old e.first (take e.count buffer) × (new ≡ old) × (faults' ≡ faults)
+DidRead e Done size old faults buffer new faults' = CanMove size (length buffer) e × GivesEach old e.first (take e.count buffer) × (new ≡ old) × (faults' ≡ faults)
 DidRead e Fault size old faults buffer new faults' = (new ≡ old) × FailedIf (CanMove size (length buffer) e) faults faults'
 DidRead e got size old faults buffer new faults' = ⊥
 
 -- A write of an extent from the front of a buffer. A write that fails may have written any of its sectors.
 abbrev pub DidWrite : Extent → Got → ℕ → List Bytes → List History → ℕ → List History → ℕ → Type 0
-DidWrite e Done size buffer old faults new faults' = (e.count ≤ length buffer) × (new ≡ written_each old e.first (take e.count buffer)) × (faults' ≡ faults)
+DidWrite e Done size buffer old faults new faults' = CanMove size (length buffer) e × (new ≡ written_each old e.first (take e.count buffer)) × (faults' ≡ faults)
 DidWrite e Fault size buffer old faults new faults' = PartlyWritten old e.first (take e.count buffer) new × FailedIf (CanMove size (length buffer) e) faults faults'
 DidWrite e got size buffer old faults new faults' = ⊥
 

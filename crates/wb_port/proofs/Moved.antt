@@ -15,7 +15,7 @@ use Rattle.wb_tasks.specs.declared.step.Got.TheVariants.{Done}
 use Rattle.wb_devices.specs.Moving.{OthersStay, device_in}
 use Rattle.wb_devices.specs.declared.devices.Devices.{Devices}
 use Rattle.wb_port.specs.Hands.{ReadLed, WriteLed, DidReadInto, DidWriteFrom, begins_at}
-use Rattle.wb_port.specs.Requests.{first_at, WrittenAt, WrittenAtEach}
+use Rattle.wb_port.specs.Requests.{first_at, IsWithin, WrittenAt, WrittenAtEach}
 use Rattle.wb_port.specs.declared.moving.ReadStage.{ReadStage}
 use Rattle.wb_port.specs.declared.moving.WriteStage.{WriteStage}
 use Rattle.wb_port.proofs.Routes.{first_at-more, gives_more, written_more}
@@ -29,6 +29,16 @@ pub others-again : {D : Type 0} (device : Dev) (a b c : Devices D) → OthersSta
 others-again Metadata a b c h k = (k.0 ∙ h.0, k.1 ∙ h.1)
 others-again Cache a b c h k = (k.0 ∙ h.0, k.1 ∙ h.1)
 others-again Origin a b c h k = (k.0 ∙ h.0, k.1 ∙ h.1)
+
+-- so many more are within a device of this size, where the step behind the first of them was
+further_in : (size size' base m j at : ℕ) → size ≡ size' → at ≡ base + m → at + j ≤ size → base + (m + j) ≤ size'
+further_in size size' base m j at same here inside = omega (arith, same, here, inside)
+
+none_in : (at size : ℕ) → 1 ≤ 0 → at + 0 ≤ size
+none_in at size some = omega (arith, some)
+
+pub none_within : {D : Type 0} (size : D → ℕ) (block_sectors first : ℕ) (place : Option CBlock) (devices : Devices D) → IsWithin size block_sectors first 0 place devices
+none_within size block_sectors first place devices = λ some. none_in (first_at block_sectors place first) (size (device_in (device_at place) devices)) some
 
 module _ {D : Type 0} (tells : Type 0) (size : D → ℕ) (contents : D → List History) (faults : D → ℕ) (part : BlockRange) (place : Option CBlock) (first : ℕ) where
   abbrev pub device : Devices D → D
@@ -46,6 +56,7 @@ module _ {D : Type 0} (tells : Type 0) (size : D → ℕ) (contents : D → List
     pub many : length s.out.now ≡ room
     pub others : OthersStay (device_at place) old s.hand.now.devices
     pub sized : size (device s.hand.now.devices) ≡ size (device old)
+    pub inside : tells → IsWithin size part.block_sectors first m place old
     pub given : tells → GivesEach (contents (device old)) base (take m s.out.now)
     pub same : tells → contents (device s.hand.now.devices) ≡ contents (device old)
     pub no_fault : tells → faults (device s.hand.now.devices) ≡ faults (device old)
@@ -74,6 +85,7 @@ module _ {D : Type 0} (tells : Type 0) (size : D → ℕ) (contents : D → List
         many = now;
         others = others-again (device_at place) old s.hand.now.devices t.hand.now.devices known.others did.others;
         sized = did.sized ∙ known.sized;
+        inside = λ told. λ any. further_in (size (device s.hand.now.devices)) (size (device old)) base m j by.0 known.sized here (did.did told).0.0;
         given = λ told.
             let d = did.did told in
             let old_is : contents (device s.hand.now.devices) ≡ contents (device old) = known.same told in
@@ -97,22 +109,24 @@ module _ {D : Type 0} (tells : Type 0) (size : D → ℕ) (contents : D → List
   -- So many sectors of the slice were written at a place.
   pub record WrittenThere (from : List Content) (place : Option CBlock) (m : ℕ) (old new : Devices D) : Type 0 where
     pub sized : size (at place new) ≡ size (at place old)
+    pub inside : tells → IsWithin size part.block_sectors first m place old
     pub written : tells → contents (at place new) ≡ written_each (contents (at place old)) (first_at part.block_sectors place first) (take m from)
     pub no_fault : tells → faults (at place new) ≡ faults (at place old)
 
   -- none yet
   pub none_there : (from : List Content) (place : Option CBlock) (old new : Devices D) → new ≡ old → WrittenThere from place 0 old new
-  none_there from place old new same = record { sized = ap (λ (ds : Devices D). size (at place ds)) same; written = λ told. ap (λ (ds : Devices D). contents (at place ds)) same; no_fault = λ told. ap (λ (ds : Devices D). faults (at place ds)) same }
+  none_there from place old new same = record { sized = ap (λ (ds : Devices D). size (at place ds)) same; inside = λ told. none_within size part.block_sectors first place old; written = λ told. ap (λ (ds : Devices D). contents (at place ds)) same; no_fault = λ told. ap (λ (ds : Devices D). faults (at place ds)) same }
 
   -- where a device stays, so does what was written to it
   stays_there : (from : List Content) (place : Option CBlock) (m : ℕ) (old new new' : Devices D) → at place new' ≡ at place new → WrittenThere from place m old new → WrittenThere from place m old new'
-  stays_there from place m old new new' same known = record { sized = ap size same ∙ known.sized; written = λ told. ap contents same ∙ known.written told; no_fault = λ told. ap faults same ∙ known.no_fault told }
+  stays_there from place m old new new' same known = record { sized = ap size same ∙ known.sized; inside = known.inside; written = λ told. ap contents same ∙ known.written told; no_fault = λ told. ap faults same ∙ known.no_fault told }
 
   -- all of them
   pub all_there : (from : List Content) (place : Option CBlock) (count : ℕ) (old new : Devices D) → length from ≡ count → OthersStay (device_at place) old new → WrittenThere from place count old new → WrittenAt tells size contents faults part.block_sectors first from place old new
   all_there from place count old new fits others known = record {
     others = others;
     sized = known.sized;
+    inside = λ told. subst (λ (n : ℕ). IsWithin size part.block_sectors first n place old) (sym fits) (known.inside told);
     written = λ told. known.written told ∙ ap (λ (cs : List Content). written_each (contents (at place old)) (first_at part.block_sectors place first) cs) (take_all count from (omega (arith, fits)));
     no_fault = known.no_fault;
   }
@@ -145,6 +159,7 @@ module _ {D : Type 0} (tells : Type 0) (size : D → ℕ) (contents : D → List
           others = did.others;
           there = λ old known. record {
             sized = did.sized ∙ known.sized;
+            inside = λ told. λ any. further_in (size (at place s.hand.now.devices)) (size (at place old)) base m j by.0 known.sized here (did.did told).0.0;
             written = λ told.
                 let d = did.did told in
                 let raw : contents (at place t.hand.now.devices) ≡ written_each (contents (at place s.hand.now.devices)) by.0 (take j (drop begin s.from.now)) = d.1 in
@@ -236,6 +251,6 @@ module _ {D : Type 0} (tells : Type 0) (size : D → ℕ) (contents : D → List
         let new : Devices D = s.hand.now.devices in
         let mid : Devices D = record old { origin = new.origin } in (
           mid,
-          all_there from None count old mid all (refl, refl) (record { sized = known.home.sized; written = known.home.written; no_fault = known.home.no_fault }),
-          (new, all_there from (Some c) count mid new all (known.metadata, refl) (record { sized = known.cached.sized; written = known.cached.written; no_fault = known.cached.no_fault }), refl),
+          all_there from None count old mid all (refl, refl) (record { sized = known.home.sized; inside = known.home.inside; written = known.home.written; no_fault = known.home.no_fault }),
+          (new, all_there from (Some c) count mid new all (known.metadata, refl) (record { sized = known.cached.sized; inside = known.cached.inside; written = known.cached.written; no_fault = known.cached.no_fault }), refl),
         )

@@ -36,7 +36,7 @@ use Rattle.wb_port.proofs.Letting.{not_done}
 use Rattle.wb_port.proofs.Readying.{kept_by}
 use Rattle.wb_port.proofs.Paths.{going, going_to, done, at_end, OnlyDone, only_release, only_seal, only_finish, only_count, only_read, only_write, acquired, acquired_keeps, each_moved, all_moved, by_one, mapped, one_moved}
 use Rattle.wb_port.proofs.Passing.{with_card, by_taking, by_step}
-use Rattle.wb_port.proofs.Moved.{ReadSoFar, read_more, WrittenThere, none_there, all_there, WrittenSoFar, write_more, ThroughSoFar, through_more, through_each, others-stay}
+use Rattle.wb_port.proofs.Moved.{ReadSoFar, read_more, none_within, WrittenThere, none_there, all_there, WrittenSoFar, write_more, ThroughSoFar, through_more, through_each, others-stay}
 
 count_read : (place : Option CBlock) → read_count place ≡ Cell (Count (read_kind place))
 count_read None = refl
@@ -109,6 +109,7 @@ module _ {D : Type 0} (tells : Type 0) (size : D → ℕ) (contents : D → List
         many = many;
         others = subst (OthersStay (device_at place) old.hand.now.devices) (sym devices) (others-stay (device_at place) old.hand.now.devices);
         sized = ap (λ (ds : Devices D). size (device_in (device_at place) ds)) devices;
+        inside = λ told. none_within size block_sectors sectors.first place old.hand.now.devices;
         given = λ told. tt;
         same = λ told. ap (λ (ds : Devices D). contents (device_in (device_at place) ds)) devices;
         no_fault = λ told. ap (λ (ds : Devices D). faults (device_in (device_at place) ds)) devices;
@@ -138,6 +139,7 @@ module _ {D : Type 0} (tells : Type 0) (size : D → ℕ) (contents : D → List
         least = took.1;
         others = subst (OthersStay (device_at place) old.hand.now.devices) (sym ds) known.others;
         sized = ap (λ (x : Devices D). size (device_in (device_at place) x)) ds ∙ known.sized;
+        inside = known.inside;
         given = λ told. subst (GivesEach (contents (device_in (device_at place) old.hand.now.devices)) (first_at block_sectors place sectors.first)) (take_all sectors.count all.mid.out.now (omega (arith, known.many)) ∙ sym os) (known.given told);
         same = λ told. ap (λ (x : Devices D). contents (device_in (device_at place) x)) ds ∙ known.same told;
         no_fault = λ told. ap (λ (x : Devices D). faults (device_in (device_at place) x)) ds ∙ known.no_fault told;

@@ -1,5 +1,5 @@
 -- What a read or write of sectors of one block did to a client's hand.
-use Rattle.std.specs.Prelude.{◌≡◌, ◌<◌, ◌+◌, ◌*◌, ◌%◌, ◌⊎◌, ℕ, Bool, true, false, List, [], ◌∷◌, Option, Some, None}
+use Rattle.std.specs.Prelude.{◌≡◌, ◌≤◌, ◌<◌, ◌+◌, ◌*◌, ◌%◌, ◌⊎◌, ℕ, Bool, true, false, List, [], ◌∷◌, Option, Some, None, length}
 use Rattle.wb_types.specs.declared.mode.Mode.{Mode}
 use Rattle.wb_types.specs.declared.mode.Mode.TheVariants.{Writeback}
 use Rattle.wb_types.specs.declared.extent.Extent.{Extent}
@@ -83,8 +83,12 @@ write_card mode block lock seal number card =
 abbrev pub read_at : {D : Type 0} → Hand D → ℕ → Option CBlock
 read_at hand seal = place_read hand.mode (place_in seal)
 
+-- sectors of a block that stands at this place are within the device of the place, where there are any
+abbrev pub IsWithin : {D : Type 0} → (D → ℕ) → ℕ → ℕ → ℕ → Option CBlock → Devices D → Type 0
+IsWithin size block_sectors first count place devices = 1 ≤ count → first_at block_sectors place first + count ≤ size (device_in (device_at place) devices)
+
 -- A read: what the slice has is what the device gave on which the block stood, by the seal that was seen, but in passthrough the
--- origin; no device changed, and none failed. The block's number is no less than any that the pass has seen of it.
+-- origin, and the device has all of these sectors; no device changed, and none failed. The block's number is no less than any that the pass has seen of it.
 pub record WasRead {D : Type 0} (tells : Type 0) (size : D → ℕ) (contents : D → List History) (faults : D → ℕ) (block_sectors : ℕ) (block : OBlock) (sectors : Extent) (out : List Bytes) (old new : Hand D) : Type 0 where
   pub lock : ℕ
   pub seal : ℕ
@@ -94,15 +98,17 @@ pub record WasRead {D : Type 0} (tells : Type 0) (size : D → ℕ) (contents : 
   pub least : SawAtMost block number old.pass.card.saw
   pub others : OthersStay (device_at (read_at old seal)) old.devices new.devices
   pub sized : size (device_in (device_at (read_at old seal)) new.devices) ≡ size (device_in (device_at (read_at old seal)) old.devices)
+  pub inside : tells → IsWithin size block_sectors sectors.first sectors.count (read_at old seal) old.devices
   pub given : tells → GivesEach (contents (device_in (device_at (read_at old seal)) old.devices)) (first_at block_sectors (read_at old seal) sectors.first) out
   pub same : tells → contents (device_in (device_at (read_at old seal)) new.devices) ≡ contents (device_in (device_at (read_at old seal)) old.devices)
   pub no_fault : tells → faults (device_in (device_at (read_at old seal)) new.devices) ≡ faults (device_in (device_at (read_at old seal)) old.devices)
 
--- Sectors of a block that stands at this place were written the slice there, from this sector of the origin on, and the device did not fail;
--- no other device changed.
+-- Sectors of a block that stands at this place were written the slice there, from this sector of the origin on: the device has all of them, and
+-- did not fail; no other device changed.
 pub record WrittenAt {D : Type 0} (tells : Type 0) (size : D → ℕ) (contents : D → List History) (faults : D → ℕ) (block_sectors first : ℕ) (from : List Bytes) (place : Option CBlock) (old new : Devices D) : Type 0 where
   pub others : OthersStay (device_at place) old new
   pub sized : size (device_in (device_at place) new) ≡ size (device_in (device_at place) old)
+  pub inside : tells → IsWithin size block_sectors first (length from) place old
   pub written : tells → contents (device_in (device_at place) new) ≡ written_each (contents (device_in (device_at place) old)) (first_at block_sectors place first) from
   pub no_fault : tells → faults (device_in (device_at place) new) ≡ faults (device_in (device_at place) old)
 

@@ -2,6 +2,7 @@
 
 ghost use Rattle.std.specs.Prelude.{◌≡◌, length};
 ghost use Rattle.wb_tasks.specs.Plan.{device_of};
+ghost use Rattle.wb_tasks.specs.declared.step.Got.TheVariants.{Fault};
 ghost use Rattle.wb_devices.specs.Moving.{IsOutcome, DidRead, DidWrite, OthersStay, device_in};
 ghost use Rattle.wb_devices.specs.Stepping.{CommitGoes, DidStep, BufferStays};
 ghost use Rattle.wb_words.specs.SharedWords.{IsWord};
@@ -88,6 +89,7 @@ impl<D: Disk> Hand<D> {
         ensures others { OthersStay device self.old.devices self.new.devices }
         ensures size { D.size (device_in device self.new.devices) ≡ D.size (device_in device self.old.devices) }
         ensures did { D.tells → DidRead extent result (D.size (device_in device self.old.devices)) (D.contents (device_in device self.old.devices)) (D.faults (device_in device self.old.devices)) into.new (D.contents (device_in device self.new.devices)) (D.faults (device_in device self.new.devices)) }
+        ensures fails { D.fails (device_in device self.old.devices) → result ≡ Fault }
     {
         self.devices.read(device, extent, into)
     }
@@ -102,6 +104,7 @@ impl<D: Disk> Hand<D> {
         ensures others { OthersStay device self.old.devices self.new.devices }
         ensures size { D.size (device_in device self.new.devices) ≡ D.size (device_in device self.old.devices) }
         ensures did { D.tells → DidWrite extent result (D.size (device_in device self.old.devices)) from.now (D.contents (device_in device self.old.devices)) (D.faults (device_in device self.old.devices)) (D.contents (device_in device self.new.devices)) (D.faults (device_in device self.new.devices)) }
+        ensures fails { D.fails (device_in device self.old.devices) → result ≡ Fault }
     {
         self.devices.write(device, extent, from)
     }
@@ -173,6 +176,7 @@ impl<D: Disk> Hand<D> {
         ensures buffer { BufferStays step buffer.old buffer.new }
         ensures did { D.tells → DidStep commit.old step result (D.size (device_in (device_of step) self.old.devices)) (D.contents (device_in (device_of step) self.old.devices)) (D.faults (device_in (device_of step) self.old.devices)) buffer.old buffer.new (D.contents (device_in (device_of step) self.new.devices)) (D.faults (device_in (device_of step) self.new.devices)) }
         ensures goes { CommitGoes (D.size self.old.devices.metadata) commit.old step result commit.new }
+        ensures fails { D.fails (device_in (device_of step) self.old.devices) → result ≡ Fault }
     {
         self.devices.perform(commit, step, buffer)
     }
