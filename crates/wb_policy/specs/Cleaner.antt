@@ -1,7 +1,9 @@
 -- The cleaner: what it orders at a tick.
-use Rattle.std.specs.Prelude.{ℕ, ◌++◌, nat_le, nat_lt, Bool, ◌&&◌, not, if◌then◌else◌, List, Option, Some, None}
+use Rattle.std.specs.Prelude.{◌≡◌, ℕ, ◌++◌, nat_le, nat_lt, Bool, ◌&&◌, not, if◌then◌else◌, List, Option, Some, None}
 use Rattle.std.specs.List.{find, filter}
 use Rattle.std.specs.Option.{option_map}
+use Rattle.wb_types.specs.declared.entry.Entry.{Entry}
+use Rattle.wb_types.specs.declared.geometry.Geometry.{Geometry}
 use Rattle.wb_types.specs.declared.number.CBlock.{CBlock}
 use Rattle.wb_types.specs.declared.number.OBlock.{OBlock}
 use Rattle.wb_policy.specs.declared.order.Order.{Order}
@@ -13,6 +15,10 @@ use Rattle.wb_policy.specs.Situations.{is_busy, is_passthrough}
 pub record Progress : Type 0 where
   pub last : Option ℕ
   pub block_sectors : ℕ
+
+-- it begins before the first cache block, whatever is mapped
+abbrev pub BeginsWith : Geometry → List (Option Entry) → Progress → Type 0
+BeginsWith geometry entries p = p ≡ record { last = None; block_sectors = geometry.block }
 
 -- in cyclic order: the cache blocks past the last one, then those up to it; before the first order as they stand
 abbrev pub in_turn : Option ℕ → List (CBlock × OBlock) → List (CBlock × OBlock)

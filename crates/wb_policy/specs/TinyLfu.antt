@@ -1,7 +1,9 @@
 -- TinyLFU: what it orders at an access and at a tick, by frequency and recency.
-use Rattle.std.specs.Prelude.{ℕ, ◌*◌, nat_eq, nat_le, nat_lt, Bool, ◌&&◌, not, if◌then◌else◌, List, [], ◌∷◌, Option, Some, None, is_some}
+use Rattle.std.specs.Prelude.{◌≡◌, ℕ, ◌*◌, nat_eq, nat_le, nat_lt, Bool, ◌&&◌, not, if◌then◌else◌, List, [], ◌∷◌, Option, Some, None, is_some}
 use Rattle.std.specs.Map.{lookup}
-use Rattle.wb_sketch.specs.Frequencies.{Frequencies, accessed, estimate_of}
+use Rattle.wb_sketch.specs.Frequencies.{Frequencies, accessed, empty, estimate_of}
+use Rattle.wb_types.specs.declared.entry.Entry.{Entry}
+use Rattle.wb_types.specs.declared.geometry.Geometry.{Geometry}
 use Rattle.wb_types.specs.declared.message.Key.{Key}
 use Rattle.wb_types.specs.declared.message.Key.TheVariants.{MigrationThreshold, PromoteMin}
 use Rattle.wb_types.specs.declared.number.CBlock.{CBlock}
@@ -10,6 +12,7 @@ use Rattle.wb_policy.specs.declared.order.Order.TheVariants.{Promote, Replace, C
 use Rattle.wb_policy.specs.declared.situation.Settled.{Settled}
 use Rattle.wb_policy.specs.declared.situation.Tick.{Tick}
 use Rattle.wb_policy.specs.Law.{Holdings}
+use Rattle.wb_policy.specs.Placing.{IsPlacedByHint}
 use Rattle.wb_policy.specs.Situations.{is_busy, is_passthrough}
 use Rattle.wb_policy.specs.Recency.{Recency, AgreesWith, used, least_recent, is_idle, is_dirty_and_idle}
 
@@ -20,6 +23,11 @@ pub record Knowledge : Type 0 where
   pub recency : Recency
   pub promote_min : ℕ
   pub block_sectors : ℕ
+
+-- it begins with no access so far, the mapped blocks placed by hint, and a `promote_min` of 2
+abbrev pub BeginsWith : Geometry → List (Option Entry) → Knowledge → Type 0
+BeginsWith geometry entries k =
+    (k.frequencies ≡ empty geometry.cache_blocks) × IsPlacedByHint entries k.recency × (k.promote_min ≡ 2) × (k.block_sectors ≡ geometry.block)
 
 -- an access counts in the sketch, and a mapped block becomes the most recent
 abbrev pub after_access : Knowledge → ℕ → Knowledge

@@ -1,8 +1,7 @@
 //! The policy that writes everything back.
 
-ghost use Rattle.std.specs.Prelude.{◌≡◌, ◌≤◌, ℕ, Option, Some, None, IfOk, IfErr, IfSome, length};
+ghost use Rattle.std.specs.Prelude.{◌≡◌, ◌≤◌, ℕ, Option, Some, None, IfSome};
 ghost use Rattle.std.specs.List.{find};
-ghost use Rattle.wb_policy.specs.Law.{origins, IsMapping};
 ghost use Rattle.wb_policy.specs.Cleaner.{is_waiting, chosen, next_in_turn};
 
 use crate::situation::is_busy;
@@ -77,9 +76,11 @@ fn first_idle(dirty: &[(CBlock, OBlock)], busy: &[bool]) -> Option<(CBlock, OBlo
 
 impl Policy for Cleaner {
     ghost use Rattle.std.specs.Prelude.{None, codes};
-    ghost use Rattle.wb_policy.specs.Cleaner.{cleaned as cleans, ticked as moves_on};
+    ghost use Rattle.wb_policy.specs.Cleaner.{BeginsWith, cleaned as cleans, ticked as moves_on};
 
     ghost knows = { λ _ _. Unit {0} };
+
+    ghost begun = { BeginsWith };
 
     ghost ordered = { λ _ _. None };
 
@@ -106,11 +107,7 @@ impl Policy for Cleaner {
         _alloc: Global,
         geometry: &Geometry,
         _mapping: &[Option<Entry>],
-    ) -> Result<Cleaner, Refusal>
-        ensures value { IfOk result (λ p. p ≡ record { last = None; block_sectors = geometry.now.block }) }
-        ensures refused { IfErr result (λ e. e ≡ Refusal.Memory) }
-        ensures knows { IfOk result (λ p. Unit {0}) }
-    {
+    ) -> Result<Cleaner, Refusal> {
         Ok(Cleaner {
             last: None,
             block_sectors: geometry.block,

@@ -2,6 +2,8 @@
 
 ghost use Rattle.std.specs.Prelude.{◌≡◌, ◌≤◌, ℕ, List, Option, Some, None, IfOk, IfErr, OnOk, OnErr, IfSome, slice_get, slice_set, length};
 ghost use Rattle.wb_types.specs.declared.message.Key.{Key as Setting};
+ghost use Rattle.wb_types.specs.declared.entry.Entry.{Entry as AnEntry};
+ghost use Rattle.wb_types.specs.declared.geometry.Geometry.{Geometry as Sizes};
 ghost use Rattle.wb_policy.specs.declared.order.Order.{Order as AnOrder};
 ghost use Rattle.wb_policy.specs.declared.situation.Settled.{Settled as Access};
 ghost use Rattle.wb_policy.specs.declared.situation.Tick.{Tick as Ticking};
@@ -13,11 +15,14 @@ use wb_types::{CBlock, Entry, Geometry, Key, OBlock, Refusal};
 
 /// Decides which blocks are cached, replaced and written back.
 ///
-/// Each policy says what it decides by the definitions `ordered` and `cleaned`; the clauses named `law` hold of every
-/// policy. Only `new` and `mapped` take memory.
+/// Each policy says what it begins with by the definition `begun`, and what it decides by `ordered` and `cleaned`; the
+/// clauses named `law` hold of every policy. Only `new` and `mapped` take memory.
 pub trait Policy: Drop {
     /// Whether what it was told of the mapping is this.
     ghost knows: { Self → Holdings → Type 0 };
+
+    /// What it is where it was made for a cache of these sizes with these entries, by cache block.
+    ghost begun: { Sizes → List (Option AnEntry) → Self → Type 0 };
 
     /// The order that it gives at an access.
     ghost ordered: { Self → Access → Option AnOrder };
@@ -51,6 +56,7 @@ pub trait Policy: Drop {
     /// A policy for a cache with these entries, by cache block; `Memory` where there is none.
     fn new(alloc: Global, geometry: &Geometry, mapping: &[Option<Entry>]) -> Result<Self, Refusal>
         requires { length mapping.now ≡ geometry.now.cache_blocks }
+        ensures begun { IfOk result (begun geometry.now mapping.now) }
         ensures knows { IfOk result (λ policy. IsMapping (origins mapping.now) → knows policy (origins mapping.now)) }
         ensures refused { IfErr result (λ e. e ≡ Refusal.Memory) };
 

@@ -15,6 +15,8 @@ impl Policy for Quiet {
 
     ghost knows = { λ _ _. Unit {0} };
 
+    ghost begun = { λ _ _ _. Unit {0} };
+
     ghost ordered = { λ _ _. None };
 
     ghost settled = { λ p _. p };

@@ -1,11 +1,11 @@
 //! The policy that caches what is accessed often.
 
 ghost use Rattle.std.specs.Prelude.{◌≡◌, ◌≤◌, ◌<◌, ◌^◌, ℕ, Option, Some, None, false, IfOk, IfErr, OnOk, OnErr, IfSome, length, codes};
-ghost use Rattle.wb_policy.specs.Law.{Holdings, origins, IsMapping, AreMapped, IsLawful};
+ghost use Rattle.wb_policy.specs.Law.{Holdings, AreMapped, IsLawful};
 ghost use Rattle.wb_policy.specs.Recency.{AgreesWith, least_recent, is_idle};
 ghost use Rattle.wb_policy.specs.Placing.{IsPlacedByHint, mapped_from};
-ghost use Rattle.wb_policy.specs.TinyLfu.{decided, may_come_in, replacing_order, cleaned, WasTold};
-ghost use Rattle.wb_sketch.specs.Frequencies.{empty, estimate_of};
+ghost use Rattle.wb_policy.specs.TinyLfu.{decided, may_come_in, replacing_order, cleaned};
+ghost use Rattle.wb_sketch.specs.Frequencies.{estimate_of};
 
 use crate::recency::Recency;
 use crate::situation::is_busy;
@@ -120,11 +120,13 @@ impl TinyLfu {
 
 impl Policy for TinyLfu {
     ghost use Rattle.std.specs.Prelude.{Some, codes};
-    ghost use Rattle.wb_policy.specs.TinyLfu.{after_access, cleaned as cleans, ordered as orders, with_setting as sets, WasTold};
+    ghost use Rattle.wb_policy.specs.TinyLfu.{BeginsWith, after_access, cleaned as cleans, ordered as orders, with_setting as sets, WasTold};
     ghost use Rattle.wb_policy.specs.Recency.{newly_mapped, no_longer_mapped};
     ghost use Rattle.wb_sketch.specs.Frequencies.{estimate_of};
 
     ghost knows = { WasTold };
+
+    ghost begun = { BeginsWith };
 
     ghost ordered = { orders };
 
@@ -151,15 +153,7 @@ impl Policy for TinyLfu {
         alloc: Global,
         geometry: &Geometry,
         mapping: &[Option<Entry>],
-    ) -> Result<TinyLfu, Refusal>
-        requires { length mapping.now ≡ geometry.now.cache_blocks }
-        ensures frequencies { IfOk result (λ k. k.frequencies ≡ empty geometry.now.cache_blocks) }
-        ensures recency { IfOk result (λ k. IsPlacedByHint mapping.now k.recency) }
-        ensures promote_min { IfOk result (λ k. k.promote_min ≡ 2) }
-        ensures block_sectors { IfOk result (λ k. k.block_sectors ≡ geometry.now.block) }
-        ensures knows { IfOk result (λ k. IsMapping (origins mapping.now) → WasTold k (origins mapping.now)) }
-        ensures refused { IfErr result (λ e. e ≡ Refusal.Memory) }
-    {
+    ) -> Result<TinyLfu, Refusal> {
         let sketch = Sketch::new(alloc, geometry.cache_blocks)?;
         let recency = placed(alloc, mapping)?;
         Ok(TinyLfu {
