@@ -199,10 +199,8 @@ module _ (P A : Type 0) (shape : Shape) (images : Images) (t : Target P) (commit
   IsCommon (End answer) = Unit {0}
   IsCommon next = ⊥
 
-  abbrev Gives_as : Job → Want → Got → List Bytes → Chosen P A → Type 0
-  Gives_as job next got read chosen = Gives shape (standing P A shape images t commit devices actors n) x job next got read chosen
-
-  as_flush : (clean : Bool) (next : Want) (got : Got) (read : List Bytes) (chosen : Chosen P A) → IsCommon next → Gives_as (flush_or_suspend clean) next got read chosen → Gives_as Flush next got read chosen
+  as_flush : (clean : Bool) (next : Want) (got : Got) (read : List Bytes) (chosen : Chosen P A) → IsCommon next
+      → Gives shape (standing P A shape images t commit devices actors n) x (flush_or_suspend clean) next got read chosen → Gives shape (standing P A shape images t commit devices actors n) x Flush next got read chosen
   as_flush false next got read chosen common g = g
   as_flush true (Cell step) got read chosen common g = g
   as_flush true (Device (Sync Metadata)) got read chosen common g = g

@@ -59,17 +59,6 @@ changed_places Old New added used committed left h known are stays stands comes 
       | inr was ↦ absurd (false≢true (sym (get_or-unused (length committed) k) ∙ was))
     ]
 
--- none has left the places of all that stands
-pub none_left_of : (Stands : Place → Type 0) (used : List Place) (count : ℕ) → ((p : Place) → Contains used p → Stands p) → HaveLeft Stands (noted used (unused count)) (unused count)
-none_left_of Stands used count are = record {
-  size = length-replicate {A = Bool} count false ∙ sym (length-noted_alone used count);
-  stands = λ p is. get_or-unused count p.0;
-  rest = λ k there none. elim (noted_or used (unused count) k there) [
-    | inl has ↦ are (place k) has
-    | inr was ↦ absurd (false≢true (sym (get_or-unused count k) ∙ was))
-  ];
-}
-
 -- ---- places at an opening
 
 length-cleared : (ps : List Place) (flags : List Bool) → length (cleared_places ps flags) ≡ length flags
