@@ -1,8 +1,8 @@
 -- A step of an opening that makes its target is one of the opening.
 use Rattle.std.proofs.Common.{◌≡◌, ◌⊎◌, ◌∙◌, ℕ, Bool, true, false, List, inl, refl, sym}
-use Rattle.std.specs.Bool.{OnTrue}
+use Rattle.std.specs.Bool.{OnTrue, OnFalse}
 use Rattle.std.specs.Result.{is_ok}
-use Rattle.std.proofs.lemmas.Bool.{OnTrue_from}
+use Rattle.std.proofs.lemmas.Bool.{OnTrue_from, OnFalse_from}
 use Rattle.wb_disk.specs.Device.{History}
 use Rattle.wb_tasks.specs.declared.step.Want.{Want}
 use Rattle.wb_tasks.specs.declared.step.Want.TheVariants.{Cell, Device, Desk, End}
@@ -14,17 +14,17 @@ use Rattle.wb_devices.specs.declared.opening_stage.OpeningStage.{OpeningStage}
 use Rattle.std.specs.Prelude.{Result, Ok, Err, IfOk, IfErr}
 use Rattle.wb_target.specs.Making.{IsTakenFor}
 
-pub led_on : {D : Type 0} (due : Bool) (Made Once Kept : Type 0) (tells : Type 0) (size : D → ℕ) (contents : D → List History) (faults : D → ℕ) (old before new : OpeningStage D) (want : Want) (got : Got)
+pub led_on : {D : Type 0} (due : Bool) (Made Once Kept Not : Type 0) (tells : Type 0) (size : D → ℕ) (contents : D → List History) (faults : D → ℕ) (old before new : OpeningStage D) (want : Want) (got : Got)
     → IsTakenFor due old before → before.mode ≡ old.mode → Kept → LedOpening tells size contents faults before want got new → Made → Once
     → MayGoOn (size new.devices.metadata) new.opening
     × (new.mode ≡ old.mode)
     × Kept
     × (((mid : OpeningStage D) × IsTakenFor due old mid × LedOpening tells size contents faults mid want got new × Made × Once)
-    ⊎ ((got ≡ Fault) × (new.devices ≡ old.devices)))
-led_on due Made Once Kept tells size contents faults old before new (Device step) got taken m kept led made once = (led.3, led.5 ∙ m, kept, inl (before, taken, led, made, once))
-led_on due Made Once Kept tells size contents faults old before new (Cell step) got taken m kept led made once = absurd led
-led_on due Made Once Kept tells size contents faults old before new (Desk step) got taken m kept led made once = absurd led
-led_on due Made Once Kept tells size contents faults old before new (End answer) got taken m kept led made once = absurd led
+    ⊎ ((got ≡ Fault) × (due ≡ true) × (new.devices ≡ old.devices) × Not))
+led_on due Made Once Kept Not tells size contents faults old before new (Device step) got taken m kept led made once = (led.3, led.5 ∙ m, kept, inl (before, taken, led, made, once))
+led_on due Made Once Kept Not tells size contents faults old before new (Cell step) got taken m kept led made once = absurd led
+led_on due Made Once Kept Not tells size contents faults old before new (Desk step) got taken m kept led made once = absurd led
+led_on due Made Once Kept Not tells size contents faults old before new (End answer) got taken m kept led made once = absurd led
 
 -- what holds of every refusal holds of the one that there is
 pub err_anyway : {T E : Type 0} (r : Result T E) (Q : E → Type 0) → ((e : E) → Q e) → IfErr r Q
@@ -40,3 +40,8 @@ answered_with (Err e) b P Q is f p = OnTrue_from b Q (λ yes. absurd (let no : f
 pub ok_as : {T E C : Type 0} (r : Result T E) (part : T → C) (x y : C) → x ≡ y → IfOk r (λ t. part t ≡ x) → IfOk r (λ t. part t ≡ y)
 ok_as (Ok t) part x y same is = is ∙ same
 ok_as (Err e) part x y same is = tt
+
+-- where a call did not answer, what follows from its refusal and what it promises of it
+pub refused_with : {T E : Type 0} (r : Result T E) (b : Bool) (P : E → Type 0) (Q : Type 0) → b ≡ is_ok r → ((e : E) → r ≡ Err e → P e → Q) → IfErr r P → OnFalse b Q
+refused_with (Ok t) b P Q is f p = OnFalse_from b Q (λ no. absurd (let yes : true ≡ false = sym is ∙ no in cc))
+refused_with (Err e) b P Q is f p = OnFalse_from b Q (λ no. f e refl p)

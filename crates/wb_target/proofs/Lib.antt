@@ -14,7 +14,11 @@ pub mod Turns
 mod Hinting
 mod Leading
 mod Opened
+mod Stopping
+mod Refusing
 pub mod Asking
 pub mod Suspends
 pub mod Displaces
 pub mod Invalidates
+mod Measured
+mod Seals

@@ -1,12 +1,14 @@
 pub mod Tries
 pub mod Works
 pub mod Told
+pub mod Shown
 pub mod Carried
 pub mod Blocking
 pub mod Durable
 pub mod Making
 pub mod Workers
 pub mod Opening
+pub mod NotOpened
 pub mod Suspends
 pub mod Displaces
 pub mod Invalidates

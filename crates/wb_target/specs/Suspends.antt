@@ -99,8 +99,9 @@ pub record WasSuspended {D P : Type 0} (tells : Type 0) (size : D → ℕ) (cont
   pub most : ℕ
   pub ran : RanSuspend tells size contents faults hint_of with_entry without_entry count (table (Suspending (mapped_blocks count desk.tree desk.geometry.cache_blocks) most)) (replicate desk.geometry.cache_blocks false) devices answer back
 
--- A client was out, or there was no memory to begin, and nothing was done; or a suspend was run that was refused so.
-abbrev pub SuspendRefused : {D P : Type 0} → Type 0 → (D → ℕ) → (D → List History) → (D → ℕ) → (P → ℕ → ℕ) → (P → ℕ → ℕ → P) → (P → ℕ → P) → Devices D → Refusal → Devices D → Type 0
-SuspendRefused tells size contents faults hint_of with_entry without_entry devices refusal back =
-    (((refusal ≡ Busy) ⊎ (refusal ≡ Memory)) × (back ≡ devices))
+-- A client was out, where that is so, or there was no memory to begin, and nothing was done; or a suspend was run that was refused so.
+abbrev pub SuspendRefused : {D P : Type 0} → Type 0 → Type 0 → (D → ℕ) → (D → List History) → (D → ℕ) → (P → ℕ → ℕ) → (P → ℕ → ℕ → P) → (P → ℕ → P) → Devices D → Refusal → Devices D → Type 0
+SuspendRefused client_out tells size contents faults hint_of with_entry without_entry devices refusal back =
+    ((refusal ≡ Busy) × client_out × (back ≡ devices))
+    ⊎ ((refusal ≡ Memory) × (back ≡ devices))
     ⊎ WasSuspended tells size contents faults hint_of with_entry without_entry devices (Refuses refusal) back

@@ -11,12 +11,10 @@ use Rattle.wb_policy.specs.declared.order.Order.{Order}
 use Rattle.wb_policy.specs.declared.situation.Settled.{Settled}
 use Rattle.wb_policy.specs.declared.situation.Tick.{Tick}
 use Rattle.wb_orders.specs.Orders.{next_of}
-use Rattle.wb_desk.specs.Desks.{DeskState, mapped_now}
+use Rattle.wb_desk.specs.Desks.{DeskState}
 use Rattle.wb_desk.specs.Messages.{MessageIsTold, IsRefused}
 use Rattle.wb_desk.specs.Settling.{AreSettled, IsTicked}
 use Rattle.wb_stage.specs.Asking.{DidRelease}
-use Rattle.wb_types.specs.Versions.{version_asked}
-use Rattle.wb_table.specs.declared.status.Fields.{Fields}
 
 -- its policy was told of these accesses, one after the other, and what it ordered was given
 abbrev pub WereSettled : {P : Type 0} → (P → Settled → Option Order) → (P → Settled → P) → List OBlock → Type 0
@@ -41,13 +39,3 @@ WasNotSet {P} with_setting key value refusal = (d : DeskState P) × IsRefused wi
 -- of these orders the one of this block was given up
 abbrev pub WasGivenUp : Type 0 → List Order → OBlock → Type 0
 WasGivenUp P held block = (old : DeskState P) × ((new : DeskState P) × DidRelease held block old new)
-
--- what of a status line the desk counts and is set to
-pub record AreShown {P : Type 0} (d : DeskState P) (told : Fields) : Type 0 where
-  pub used : told.used_metadata ≡ d.nodes + 2
-  pub mapped : told.mapped ≡ mapped_now d
-  pub demotions : told.demotions ≡ d.demotions
-  pub promotions : told.promotions ≡ d.promotions
-  pub threshold : told.threshold ≡ d.threshold
-  pub mode : told.mode ≡ d.mode
-  pub version : d.geometry.version ≡ version_asked told.metadata2

@@ -1,15 +1,16 @@
 //! Where a target is opened: an opening of its devices that makes the target of what was read before it writes the root.
 
-ghost use Rattle.std.specs.Prelude.{◌≡◌, ℕ, None, Some, Ok, List, OnOk, IfOk};
+ghost use Rattle.std.specs.Prelude.{◌≡◌, ℕ, None, Some, Ok, List, OnOk, IfOk, IfErr};
 ghost use Rattle.wb_tasks.specs.Tables.{Opening as OpeningJob};
 ghost use Rattle.wb_tasks.specs.Plan.{table};
 ghost use Rattle.wb_tasks.specs.Run.{IsRunOf, Leads};
 ghost use Rattle.wb_tasks.specs.declared.step.Want.{Want as WantTerm};
 ghost use Rattle.wb_tasks.specs.declared.step.Got.{Got as GotTerm};
 ghost use Rattle.wb_devices.specs.Openings.{MayGoOn, HasNotBegun};
-ghost use Rattle.wb_target.specs.Making.{IsReadyToMake, IsMadeOfRead, MakingGoesOn, is_due, writes_metadata};
+ghost use Rattle.wb_target.specs.Making.{IsReadyToMake, IsMadeOfRead, MakingGoesOn, WasNotMade, is_due, writes_metadata};
 ghost use Rattle.wb_target.specs.declared.office.Office.{Office as OfficeTerm};
-ghost use Rattle.std.specs.Bool.{OnTrue};
+ghost use Rattle.wb_target.specs.NotOpened.{IsToldOf};
+ghost use Rattle.std.specs.Bool.{OnTrue, OnFalse};
 
 use crate::office::Office;
 use crate::opening::office_over;
@@ -46,6 +47,7 @@ impl<'k, D: Disk + Drop, P: Policy> MakingStage<'k, D, P> {
     ) -> MakingStage<'k, D, P>
         ensures goes_on { MayGoOn (D.size result.stage.devices.metadata) result.stage.opening }
         ensures devices { result.stage.devices ≡ devices }
+        ensures geometry { result.stage.opening.geometry ≡ geometry }
         ensures begins { HasNotBegun result.stage.opening }
         ensures mode { result.stage.mode ≡ mode }
         ensures keys { result.keys ≡ keys.entry }
@@ -60,20 +62,24 @@ impl<'k, D: Disk + Drop, P: Policy> MakingStage<'k, D, P> {
         }
     }
 
-    /// Performs an opening that has not begun, up to its answer.
+    /// Performs an opening that has not begun, up to its answer. Answered done, the target was made.
     pub(crate) fn run<T: Task>(&mut self, task: &mut T) -> Answer
         requires begun { (left : ℕ) × (T.plan task.old ≡ table (OpeningJob left)) }
         requires goes_on { MayGoOn (D.size self.old.stage.devices.metadata) self.old.stage.opening }
-        ensures run { (steps : List (WantTerm × GotTerm)) × IsRunOf (T.plan task.old) steps result × Leads (MakingGoesOn D.tells D.size D.contents D.faults P.with_setting) self.old steps self.new }
+        requires none_made { self.old.made ≡ None }
+        ensures made { result ≡ Answer.Done → (office : OfficeTerm P) × (self.new.made ≡ Some (Ok office)) }
+        ensures run { (steps : List (WantTerm × GotTerm)) × IsRunOf (T.plan task.old) steps result × Leads (MakingGoesOn D.tells D.size D.contents D.faults P.begun P.with_setting) self.old steps self.new }
     {
         drive(task, self)
     }
 
     /// The devices, and the target, or why there is none: why it could not be made, else why the opening was refused.
     pub(crate) fn finish(self, answer: Answer) -> (Devices<D>, Result<Target<P>, Refusal>)
+        requires made { answer ≡ Answer.Done → (office : OfficeTerm P) × (self.made ≡ Some (Ok office)) }
         ensures devices { result.0 ≡ self.entry.stage.devices }
         ensures done { OnOk result.1 (answer ≡ Answer.Done) }
         ensures mode { IfOk result.1 (λ target. target.mode ≡ self.entry.stage.mode) }
+        ensures refused { IfErr result.1 (IsToldOf self.entry.made answer) }
     {
         let MakingStage {
             stage,
@@ -90,7 +96,7 @@ impl<'k, D: Disk + Drop, P: Policy> MakingStage<'k, D, P> {
                 Answer::Refused(refusal) => Err(refusal),
             },
             None => match answer {
-                Answer::Done => Err(Refusal::Memory),
+                Answer::Done => unreachable!(),
                 Answer::Refused(refusal) => Err(refusal),
             },
         };
@@ -104,14 +110,15 @@ impl<'k, D: Disk + Drop, P: Policy> MakingStage<'k, D, P> {
         writes_metadata(want) && self.made.is_none()
     }
 
-    /// Makes the target of what was read, or was converted, by the root that comes next, and says whether it is there.
+    /// Makes the target of what was read, or was converted, by the root that comes next, and says whether it is there; else why not is kept.
     fn make(&mut self) -> bool
         requires { MayGoOn (D.size self.old.stage.devices.metadata) self.old.stage.opening }
         ensures devices { self.new.stage.devices ≡ self.old.stage.devices }
         ensures commit { self.new.stage.opening.commit ≡ self.old.stage.opening.commit }
         ensures geometry { self.new.stage.opening.geometry ≡ self.old.stage.opening.geometry }
         ensures goes_on { MayGoOn (D.size self.new.stage.devices.metadata) self.new.stage.opening }
-        ensures made { OnTrue result ((office : OfficeTerm P) × (self.new.made ≡ Some (Ok office)) × IsMadeOfRead P.with_setting self.old office) }
+        ensures made { OnTrue result ((office : OfficeTerm P) × (self.new.made ≡ Some (Ok office)) × IsMadeOfRead P.begun P.with_setting self.old office) }
+        ensures not_made { OnFalse result (WasNotMade P.with_setting self.old.keys.now self.old.stage.opening self.old.made self.new.made) }
         ensures mode { self.new.stage.mode ≡ self.old.stage.mode }
         ensures keys { self.new.keys ≡ self.old.keys }
     {
@@ -148,7 +155,7 @@ impl<'k, D: Disk + Drop, P: Policy> MakingStage<'k, D, P> {
 impl<'k, D: Disk + Drop, P: Policy> Stage for MakingStage<'k, D, P> {
     ghost ready = { IsReadyToMake D.size };
 
-    ghost led = { MakingGoesOn D.tells D.size D.contents D.faults P.with_setting };
+    ghost led = { MakingGoesOn D.tells D.size D.contents D.faults P.begun P.with_setting };
 
     fn perform(&mut self, want: &Want) -> Got {
         if self.is_due(want) {

@@ -1,12 +1,15 @@
 //! What lies under a target's lock.
 
-ghost use Rattle.std.specs.Prelude.{◌≡◌, ◌<◌, ◌+◌, ◌++◌, ◌∷◌, [], List, IfOk, IfErr, IfSome, OnOk, OnErr, length, vec_capacity};
+ghost use Rattle.std.specs.Prelude.{◌≡◌, ◌<◌, ◌+◌, ◌++◌, ◌∷◌, [], ℕ, List, IfOk, IfErr, IfSome, OnOk, OnErr, if◌then◌else◌, is_some, length, map, vec_capacity};
 ghost use Rattle.wb_types.specs.declared.number.CBlock.{CBlock as CBlockValue};
 ghost use Rattle.wb_types.specs.declared.number.OBlock.{OBlock as OBlockValue};
 ghost use Rattle.wb_desk.specs.Desks.{holdings};
 ghost use Rattle.wb_desk.specs.Messages.{MessageIsTold, IsRefused};
 ghost use Rattle.wb_desk.specs.Settling.{IsTicked};
-ghost use Rattle.wb_target.specs.Told.{AreShown};
+ghost use Rattle.wb_target.specs.Shown.{AreShown, SawDirty, TellsFailed, WereLooked, seals_latest_first};
+ghost use Rattle.wb_target.specs.Suspends.{block_within};
+ghost use Rattle.wb_tree.specs.Mapping.{entry_at};
+ghost use Rattle.wb_words.specs.Cards.{looked};
 ghost use Rattle.wb_desk.proofs.Seen.{AreSeen};
 ghost use Rattle.wb_policy.specs.Law.{IsMappedAt};
 
@@ -45,16 +48,16 @@ impl<P: Policy> Office<P> {
         }
     }
 
-    /// What the status line tells, as the words and the desk are now.
+    /// What the status line tells, as the words and the desk are now; whether the target has failed is looked at last.
     pub(crate) fn fields(&mut self) -> Fields<'static>
-        ensures { AreShown self.old.desk result }
+        ensures shown { AreShown P.name P.promote_min self.old.desk result }
+        ensures looked { WereLooked self.old self.new.watch.pass.card result }
     {
         let counts = self.desk.counts();
         let geometry = self.desk.geometry();
         let mode = self.desk.mode();
         let (policy, promote_min) = self.desk.shown();
         Fields {
-            failed: self.watch.look(Word::Fail) % 2 != 0,
             used_metadata: counts.used,
             metadata: geometry.meta_sectors,
             block: geometry.block,
@@ -72,7 +75,15 @@ impl<P: Policy> Office<P> {
             threshold: counts.threshold,
             policy,
             promote_min,
+            failed: self.has_failed(),
         }
+    }
+
+    /// Whether the target has failed: one that is suspended has not.
+    fn has_failed(&mut self) -> bool
+        ensures { (word : ℕ) × (self.new.watch.pass.card ≡ looked Word.Fail word self.old.watch.pass.card) × TellsFailed word result }
+    {
+        self.watch.look(Word::Fail) % 2 != 0
     }
 
     /// The policy's tick, over the mapped blocks whose seals are dirty now. `Memory` where there is none for the list of them,
@@ -97,13 +108,17 @@ impl<P: Policy> Office<P> {
 
     /// How many parts of requests counted as this kind.
     fn count(&mut self, kind: Kind) -> u64
-        ensures { self.new.desk ≡ self.old.desk }
+        ensures desk { self.new.desk ≡ self.old.desk }
+        ensures words { self.new.watch.geometry ≡ self.old.watch.geometry }
+        ensures card { self.new.watch.pass.card ≡ looked (Word.Count kind) result self.old.watch.pass.card }
     {
         self.watch.look(Word::Count(kind))
     }
 
     /// How many mapped blocks have a dirty seal.
-    pub(crate) fn count_dirty(&mut self) -> u32 {
+    pub(crate) fn count_dirty(&mut self) -> u32
+        ensures { SawDirty self.old.watch.pass.card self.new.watch.pass.card (seals_latest_first self.old.watch.geometry.origin_blocks self.old.desk.tree self.old.desk.geometry.cache_blocks) result }
+    {
         let mut dirty = 0;
         for c in 0..self.desk.geometry().cache_blocks {
             if self.dirty_at(CBlock(c)).is_some() {
@@ -131,6 +146,8 @@ impl<P: Policy> Office<P> {
     fn dirty_at(&mut self, place: CBlock) -> Option<OBlock>
         requires { place.0 < self.old.desk.geometry.cache_blocks }
         ensures desk { self.new.desk ≡ self.old.desk }
+        ensures words { self.new.watch.geometry ≡ self.old.watch.geometry }
+        ensures looked { SawDirty self.old.watch.pass.card self.new.watch.pass.card (map Word.Seal (block_within self.old.watch.geometry.origin_blocks (entry_at self.old.desk.tree place.0))) (if is_some result then 1 else 0) }
         ensures mapped { IfSome result (λ block. IsMappedAt (holdings self.old.desk) block.0 place.0) }
     {
         let entry = self.desk.entry(place)?;

@@ -1,14 +1,14 @@
 //! Opening a target over what three devices hold.
 
-ghost use Rattle.std.specs.Prelude.{◌≡◌, ◌<◌, ◌⊎◌, All, IfOk, IfErr, OnOk, length};
-ghost use Rattle.wb_tasks.specs.declared.step.Answer.{Answer as AnswerTerm};
-ghost use Rattle.wb_target.specs.Making.{IsMade, WasOpened, WasRun};
+ghost use Rattle.std.specs.Prelude.{◌≡◌, ◌<◌, [], All, IfOk, IfErr, OnOk, length};
+ghost use Rattle.wb_target.specs.Making.{IsMade, IsNotMadeFor, WasOpened, WasRun};
 ghost use Rattle.wb_words.specs.declared.card.Hold.TheVariants.{Nothing};
 ghost use Rattle.wb_tree.specs.Mapping.{IsMapping};
 ghost use Rattle.wb_meta.specs.Reads.{FitsDevice};
 ghost use Rattle.wb_devices.specs.Clean.{entries_of};
 ghost use Rattle.wb_target.specs.Opening.{opened_mapping, opened_entry, seals_stored};
-ghost use Rattle.wb_types.specs.Versions.{version_asked};
+ghost use Rattle.wb_target.specs.NotOpened.{IsOfSizes, AreNoSizes, IsNotOpened};
+ghost use Rattle.wb_cells.specs.Fractions.{IsWhole};
 ghost use Rattle.wb_port.specs.declared.seat.Seat.{Seat as SeatTerm};
 ghost use Rattle.wb_target.specs.declared.target.TheConstants.{CLIENTS as MostClients};
 
@@ -16,6 +16,7 @@ use crate::making::MakingStage;
 use crate::office::Office;
 use crate::target::{CLIENTS, Target};
 use std::alloc::Global;
+use std::sync::Arc;
 use wb_cells::{Cells, Pass};
 use wb_desk::Desk;
 use wb_devices::{Devices, stored_entry};
@@ -51,9 +52,9 @@ impl<P: Policy> Target<P> {
         metadata2: bool,
     ) -> (Devices<D>, Result<Target<P>, Refusal>)
         ensures mode { IfOk result.1 (λ target. target.mode ≡ mode) }
-        ensures run { OnOk result.1 (WasRun D.tells D.size D.contents D.faults P.with_setting mode devices Answer.Done result.0) }
-        ensures opened { OnOk result.1 (WasOpened D.tells D.size D.contents P.with_setting mode keys.now devices result.0) }
-        ensures refused { IfErr result.1 (λ refusal. ((refusal ≡ Refusal.Geometry) × (result.0 ≡ devices)) ⊎ ((answer : AnswerTerm) × WasRun D.tells D.size D.contents D.faults P.with_setting mode devices answer result.0)) }
+        ensures run { OnOk result.1 (WasRun D.tells D.size D.contents D.faults P.begun P.with_setting mode devices Answer.Done result.0) }
+        ensures opened { OnOk result.1 (WasOpened D.tells D.size D.contents P.begun P.with_setting mode keys.now devices result.0) }
+        ensures refused { IfErr result.1 (IsNotOpened D.tells D.size D.contents D.faults P.begun P.with_setting mode keys.now block metadata2 devices result.0) }
     {
         let geometry = match measure(&devices, block, metadata2) {
             Ok(geometry) => geometry,
@@ -69,8 +70,9 @@ impl<P: Policy> Target<P> {
 /// The sizes of a cache over these devices, with metadata of the version that is asked for: `Geometry` where they are outside the limits, give
 /// that version too little room, or are not of whole blocks.
 fn measure<D: Disk>(devices: &Devices<D>, block: u64, metadata2: bool) -> Result<Geometry, Refusal>
-    ensures version { IfOk result (λ geometry. geometry.version ≡ version_asked metadata2) }
+    ensures sizes { IfOk result (IsOfSizes D.size devices.now block metadata2) }
     ensures refused { IfErr result (λ refusal. refusal ≡ Refusal.Geometry) }
+    ensures no_sizes { IfErr result (λ _. AreNoSizes D.size devices.now block metadata2) }
 {
     let (cache, origin) = (devices.cache.sectors(), devices.origin.sectors());
     if block == 0 || cache % block != 0 || origin % block != 0 {
@@ -94,14 +96,13 @@ pub(crate) fn office_over<P: Policy>(
     keys: &[(Key, u64)],
 ) -> Result<Office<P>, Refusal>
     requires { FitsDevice state.root.geometry.meta_sectors state.root state.tree state.used.items }
-    ensures made { IfOk result (IsMade P.with_setting state.root.geometry state.root.generation state.tree state.used.items (opened_mapping clean (entries_of state)) mode keys.now) }
+    ensures made { IfOk result (IsMade P.begun P.with_setting state.root.geometry state.root.generation state.tree state.used.items (opened_mapping clean (entries_of state)) mode keys.now) }
+    ensures refused { IfErr result (IsNotMadeFor P.with_setting keys.now) }
 {
     let geometry = state.root.geometry;
     let entries = opened_entries(alloc, &state, clean)?;
     let policy = P::new(alloc, &geometry, entries.as_slice())?;
-    let mut seat = Seat::new(alloc, geometry)?;
-    let lent = &mut seat;
-    seal_all(&lent.cells, &mut lent.pass, &geometry, entries.as_slice())?;
+    let seat = sealed_seat(alloc, geometry, entries.as_slice())?;
     let desk = Desk::new(alloc, state, mode, policy, keys)?;
     let (seats, watch) = seats_of(alloc, seat)?;
     Ok(Office { desk, seats, watch })
@@ -114,7 +115,8 @@ fn opened_entries(
     clean: bool,
 ) -> Result<Vec<Option<Entry>>, Refusal>
     requires { length state.now.tree.entries ≡ state.now.root.geometry.cache_blocks }
-    ensures { IfOk result (λ v. v.items ≡ opened_mapping clean (entries_of state.now)) }
+    ensures entries { IfOk result (λ v. v.items ≡ opened_mapping clean (entries_of state.now)) }
+    ensures refused { IfErr result (λ refusal. refusal ≡ Refusal.Memory) }
 {
     let mut entries = vec![in alloc; None; state.root.geometry.cache_blocks as usize]?;
     for c in 0..state.root.geometry.cache_blocks {
@@ -138,29 +140,48 @@ fn opened(clean: bool, entry: Option<Entry>) -> Option<Entry>
     })
 }
 
-/// Seals each mapped block at its place, dirty as its entry says.
-fn seal_all(
-    cells: &Cells,
-    pass: &mut Pass,
-    geometry: &Geometry,
+/// The one seat of a cache of these sizes, by which each mapped block was sealed at its place, dirty as its entry says.
+/// `Memory` where there is no room for the words.
+fn sealed_seat(
+    alloc: Global,
+    geometry: Geometry,
     entries: &[Option<Entry>],
-) -> Result<(), Refusal>
+) -> Result<Seat, Refusal>
+    requires { IsMapping geometry.cache_blocks geometry.origin_blocks entries.now }
+    ensures sealed { IfOk result (λ seat. seat.pass.card.stored ≡ seals_stored 0 entries.now []) }
+    ensures refused { IfErr result (λ refusal. refusal ≡ Refusal.Memory) }
+{
+    let (cells, mut pass) = Cells::new(alloc, geometry.origin_blocks)?;
+    seal_all(&cells, &mut pass, &geometry, entries);
+    let cells = Arc::new(alloc, cells).map_err(|_| Refusal::Memory)?;
+    Ok(Seat {
+        geometry,
+        cells,
+        pass,
+    })
+}
+
+/// Seals each mapped block, by a pass that has the whole of the words and has not failed: it is refused none.
+fn seal_all(cells: &Cells, pass: &mut Pass, geometry: &Geometry, entries: &[Option<Entry>])
     requires at { pass.old.table ≡ cells.now.table }
     requires idle { pass.old.card.hold ≡ Nothing }
+    requires whole { IsWhole pass.old.fraction }
+    requires unset { pass.old.card.set ≡ [] }
     requires blocks { cells.now.blocks ≡ geometry.now.origin_blocks }
     requires mapping { IsMapping geometry.now.cache_blocks geometry.now.origin_blocks entries.now }
     ensures at { pass.new.table ≡ pass.old.table }
     ensures idle { pass.new.card.hold ≡ Nothing }
-    ensures sealed { OnOk result (pass.new.card.stored ≡ seals_stored 0 entries.now pass.old.card.stored) }
+    ensures sealed { pass.new.card.stored ≡ seals_stored 0 entries.now pass.old.card.stored }
 {
     for c in 0..geometry.cache_blocks {
         if let Some(entry) = entries[c as usize] {
-            let mut own = cells.try_own(pass, entry.origin)?;
+            let Ok(mut own) = cells.try_own(pass, entry.origin) else {
+                unreachable!()
+            };
             cells.seal(pass, &mut own, Some(CBlock(c)), entry.dirty);
             cells.disown(pass, own);
         }
     }
-    Ok(())
 }
 
 /// As many seats as there may be clients, which have done nothing yet, and what is left of one, which keeps what it has done.
@@ -168,6 +189,7 @@ fn seats_of(alloc: Global, seat: Seat) -> Result<(Vec<Seat>, Seat), Refusal>
     ensures many { IfOk result (λ seats. length seats.0.items ≡ MostClients) }
     ensures words { IfOk result (λ seats. All (λ (one : SeatTerm). one.cells.value.table ≡ seat.cells.value.table) seats.0.items × (seats.1.cells.value.table ≡ seat.cells.value.table)) }
     ensures card { IfOk result (λ seats. seats.1.pass.card ≡ seat.pass.card) }
+    ensures refused { IfErr result (λ refusal. refusal ≡ Refusal.Memory) }
 {
     let mut seats = Vec::with_capacity(alloc, CLIENTS)?;
     let mut left = seat;

@@ -1,6 +1,6 @@
 //! Where a target is suspended: on the desk and the words under its lock, which is held to the end, and on devices that are lent.
 
-ghost use Rattle.std.specs.Prelude.{◌≡◌, ◌<◌, ℕ, List, false, IfOk, IfErr, IfSome, OnOk, length, replicate};
+ghost use Rattle.std.specs.Prelude.{◌≡◌, ◌<◌, ℕ, List, Err, false, IfOk, IfErr, IfSome, OnOk, length, replicate};
 ghost use Rattle.wb_types.specs.declared.number.OBlock.{OBlock as OBlockValue};
 ghost use Rattle.wb_tasks.specs.Tables.{Suspending};
 ghost use Rattle.wb_tasks.specs.Plan.{table, Fits};
@@ -16,8 +16,10 @@ ghost use Rattle.wb_port.specs.Hands.{DoneByPass};
 ghost use Rattle.wb_stage.specs.Seen.{seen_after};
 ghost use Rattle.wb_target.specs.Works.{WorksOn};
 ghost use Rattle.wb_target.specs.Suspends.{AskedWith, IsReadyToSuspend, SuspendLed, RanSuspend, WasSuspended, SuspendRefused, block_within, listed, mapped_blocks};
+ghost use Rattle.wb_target.specs.declared.target.TheConstants.{CLIENTS as MostClients};
 
 use crate::office::Office;
+use crate::target::CLIENTS;
 use std::alloc::{AllocError, Global};
 use wb_desk::Desk;
 use wb_devices::{Devices, RunningCommit};
@@ -154,15 +156,19 @@ fn note(bits: &mut [bool], step: CellStep, got: Got)
 }
 
 impl<P: Policy> Office<P> {
-    /// Suspends what lies here, over these devices.
+    /// Suspends what lies here, over these devices, once each seat is back: `Busy` where a client has one.
     pub(crate) fn suspend<D: Disk + Drop>(
         &mut self,
         alloc: Global,
         devices: Devices<D>,
     ) -> (Devices<D>, Result<(), Refusal>)
         ensures suspended { OnOk result.1 (WasSuspended D.tells D.size D.contents D.faults P.hint_of P.with_entry P.without_entry devices Answer.Done result.0) }
-        ensures refused { IfErr result.1 (λ refusal. SuspendRefused D.tells D.size D.contents D.faults P.hint_of P.with_entry P.without_entry devices refusal result.0) }
+        ensures clients { length self.old.seats.items < MostClients → (result.1 ≡ Err Refusal.Busy) × (result.0 ≡ devices) }
+        ensures refused { IfErr result.1 (λ refusal. SuspendRefused (length self.old.seats.items < MostClients) D.tells D.size D.contents D.faults P.hint_of P.with_entry P.without_entry devices refusal result.0) }
     {
+        if self.seats.len() < CLIENTS {
+            return (devices, Err(Refusal::Busy));
+        }
         let Ok(blocks) = self.mapped_blocks(alloc) else {
             return (devices, Err(Refusal::Memory));
         };

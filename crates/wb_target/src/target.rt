@@ -1,13 +1,16 @@
 //! A target: what its clients share.
 
-ghost use Rattle.std.specs.Prelude.{◌≡◌, ◌<◌, ◌+◌, ◌++◌, ◌⊎◌, [], OnOk, OnErr, IfOk, IfErr, length, string_bytes};
+ghost use Rattle.std.specs.Prelude.{◌≡◌, ◌<◌, ◌+◌, ◌++◌, ◌⊎◌, [], Err, OnOk, OnErr, IfOk, IfErr, length, string_bytes};
 ghost use Rattle.std.specs.Bool.{OnTrue};
 ghost use Rattle.wb_table.specs.Status.{status_line};
 ghost use Rattle.wb_table.specs.declared.status.Fields.{Fields as Told};
 ghost use Rattle.wb_desk.specs.Desks.{DeskState, mapped_now};
 ghost use Rattle.wb_target.specs.Carried.{AreSynced};
 ghost use Rattle.wb_target.specs.Suspends.{WasSuspended, SuspendRefused};
-ghost use Rattle.wb_target.specs.Told.{WereSettled, HadTick, WasNext, WasSet, WasNotSet, AreShown};
+ghost use Rattle.wb_target.specs.Told.{WereSettled, HadTick, WasNext, WasSet, WasNotSet};
+ghost use Rattle.wb_target.specs.Shown.{AreShown, SawDirty, WereLooked, seals_latest_first};
+ghost use Rattle.wb_target.specs.declared.office.Office.{Office as OfficeValue};
+ghost use Rattle.wb_target.specs.declared.target.TheConstants.{CLIENTS as MostClients};
 
 use crate::client::Client;
 use crate::office::Office;
@@ -115,13 +118,10 @@ impl<P: Policy> Target<P> {
     ) -> (Devices<D>, Result<(), Refusal>)
         ensures suspended { OnOk result.1 (WasSuspended D.tells D.size D.contents D.faults P.hint_of P.with_entry P.without_entry devices Answer.Done result.0) }
         ensures synced { OnOk result.1 (D.tells → AreSynced D.contents result.0) }
-        ensures refused { IfErr result.1 (λ refusal. SuspendRefused D.tells D.size D.contents D.faults P.hint_of P.with_entry P.without_entry devices refusal result.0) }
+        ensures clients { (office : OfficeValue P) × (length office.seats.items < MostClients → (result.1 ≡ Err Refusal.Busy) × (result.0 ≡ devices)) }
+        ensures refused { (office : OfficeValue P) × IfErr result.1 (λ refusal. SuspendRefused (length office.seats.items < MostClients) D.tells D.size D.contents D.faults P.hint_of P.with_entry P.without_entry devices refusal result.0) }
     {
-        let mut office = self.office.lock(rt);
-        if office.seats.len() < CLIENTS {
-            return (devices, Err(Refusal::Busy));
-        }
-        office.suspend(self.alloc, devices)
+        self.office.lock(rt).suspend(self.alloc, devices)
     }
 
     /// What the desk counts.
@@ -132,7 +132,9 @@ impl<P: Policy> Target<P> {
     }
 
     /// How many mapped blocks are dirty now: a look at each cache block, under the lock.
-    pub fn dirty<R: Wait>(&self, rt: &R) -> u32 {
+    pub fn dirty<R: Wait>(&self, rt: &R) -> u32
+        ensures counted { (office : OfficeValue P) × ((after : OfficeValue P) × SawDirty office.watch.pass.card after.watch.pass.card (seals_latest_first office.watch.geometry.origin_blocks office.desk.tree office.desk.geometry.cache_blocks) result) }
+    {
         self.office.lock(rt).count_dirty()
     }
 
@@ -140,7 +142,7 @@ impl<P: Policy> Target<P> {
     /// words count of requests, and how many mapped blocks are dirty, or `Fail` alone once the target has failed. A look at each
     /// cache block, under the lock. `Memory` where there is none, and then nothing is added.
     pub fn status<R: Wait>(&self, rt: &R, text: &mut String) -> Result<(), Refusal>
-        ensures line { OnOk result ((told : Told) × ((d : DeskState P) × AreShown d told × (string_bytes text.new ≡ string_bytes text.old ++ status_line told))) }
+        ensures line { OnOk result ((told : Told) × ((office : OfficeValue P) × ((after : OfficeValue P) × AreShown P.name P.promote_min office.desk told × WereLooked office after.watch.pass.card told × (string_bytes text.new ≡ string_bytes text.old ++ status_line told)))) }
         ensures refused { IfErr result (λ refusal. refusal ≡ Refusal.Memory) }
         ensures unchanged { OnErr result (string_bytes text.new ≡ string_bytes text.old) }
     {

@@ -5,6 +5,7 @@ pub returns : goal.returns
 returns g c = record {
   goes_on = c.new-stage.ensures.goes_on (g.D.Disk.size c.new-stage.result.devices.metadata);
   devices = c.new-stage.ensures.devices;
+  geometry = c.new-stage.ensures.geometry;
   begins = c.new-stage.ensures.begins;
   mode = c.new-stage.ensures.mode;
   keys = refl;

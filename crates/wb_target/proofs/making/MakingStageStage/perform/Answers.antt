@@ -1,6 +1,6 @@
 use Rattle.std.proofs.Common.{◌≡◌, ◌∙◌, true, false, ap, sym}
 use Rattle.std.proofs.lemmas.Bool.{OnTrue_at}
-use Rattle.wb_target.specs.Making.{IsMadeOnce, MadeFirst, is_due}
+use Rattle.wb_target.specs.Making.{IsMadeOnce, MadeFirst, is_due, WasNotMade}
 use Rattle.wb_target.proofs.Leading.{led_on}
 use Rattle.wb_target.proofs.making.MakingStageStage.perform.Goals.{then-is_due+else-not-make, else-is_due}
 use Rattle.wb_target.proofs.making.MakingStageStage.perform.Goals as goal
@@ -11,12 +11,13 @@ returns-clause-led g c =
     let want = c.args.want.now in
     let before = c.if-is_due.self in
     let due = is_due old.made want in
-    let made = MadeFirst g.P.Policy.with_setting old want before.made in
+    let made = MadeFirst g.P.Policy.begun g.P.Policy.with_setting old want before.made in
     let once = IsMadeOnce old.made want before.made in
+    let not = WasNotMade g.P.Policy.with_setting old.keys.now old.stage.opening old.made before.made in
     elim c.if-is_due.branch [
       | then-is_due+else-not-make w ↦
           let yes : due ≡ true = sym c.is_due.ensures ∙ w.if-is_due.true in
-          led_on due made once (before.keys ≡ old.keys) g.D.Disk.tells g.D.Disk.size g.D.Disk.contents g.D.Disk.faults old.stage before.stage c.perform.new.self want c.perform.result
+          led_on due made once (before.keys ≡ old.keys) not g.D.Disk.tells g.D.Disk.size g.D.Disk.contents g.D.Disk.faults old.stage before.stage c.perform.new.self want c.perform.result
           (record {
             others = λ no. absurd (let both : true ≡ false = sym yes ∙ no in cc);
             devices = ap (λ m. m.stage.devices) w.self-is ∙ w.make.ensures.devices;
@@ -28,7 +29,7 @@ returns-clause-led g c =
           (λ no. absurd (let both : true ≡ false = sym yes ∙ no in cc))
       | else-is_due w ↦
           let no : due ≡ false = sym c.is_due.ensures ∙ w.if-is_due.false in
-          led_on due made once (before.keys ≡ old.keys) g.D.Disk.tells g.D.Disk.size g.D.Disk.contents g.D.Disk.faults old.stage before.stage c.perform.new.self want c.perform.result
+          led_on due made once (before.keys ≡ old.keys) not g.D.Disk.tells g.D.Disk.size g.D.Disk.contents g.D.Disk.faults old.stage before.stage c.perform.new.self want c.perform.result
           (record {
             others = λ so. ap (λ m. m.stage) w.self-is;
             devices = ap (λ m. m.stage.devices) w.self-is;

@@ -20,5 +20,5 @@ returns-in-Done-clause-suspended g c =
 pub returns-clause-refused : goal.returns-clause-refused
 returns-clause-refused g c =
     let self = c.args.self.now in
-    inr (was g.D.Disk.tells g.D.Disk.size g.D.Disk.contents g.D.Disk.faults g.P.Policy.hint_of g.P.Policy.with_entry g.P.Policy.without_entry self.desk self.watch.geometry.origin_blocks c.most_nodes.result _ _ _ _ _ _ c.run_suspend-devices.ensures
-    (c.suspend-task.ensures ∙ ap (λ (blocks : List OBlock). table (Suspending blocks c.most_nodes.result)) c.in-Ok.ensures.blocks) (c.in-Ok-no_bits.ensures ∙ ap (λ geometry. replicate geometry.cache_blocks false) c.geometry-geometry.ensures) c.in-Refused.is)
+    inr (inr (was g.D.Disk.tells g.D.Disk.size g.D.Disk.contents g.D.Disk.faults g.P.Policy.hint_of g.P.Policy.with_entry g.P.Policy.without_entry self.desk self.watch.geometry.origin_blocks c.most_nodes.result _ _ _ _ _ _ c.run_suspend-devices.ensures
+    (c.suspend-task.ensures ∙ ap (λ (blocks : List OBlock). table (Suspending blocks c.most_nodes.result)) c.in-Ok.ensures.blocks) (c.in-Ok-no_bits.ensures ∙ ap (λ geometry. replicate geometry.cache_blocks false) c.geometry-geometry.ensures) c.in-Refused.is))

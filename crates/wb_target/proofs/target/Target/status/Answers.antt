@@ -7,5 +7,5 @@ use Rattle.wb_target.proofs.target.Target.status.Goals as goal
 pub returns-clause-line : goal.returns-clause-line
 returns-clause-line g c =
     on_ok_weaker c.status_text.result
-    (λ (is : string_bytes c.status_text.new.text ≡ string_bytes c.args.text.now ++ status_line c.fields-fields.result). (c.fields-fields.result, (c.deref_mut.result.now.desk, c.fields-fields.ensures, is)))
+    (λ (is : string_bytes c.status_text.new.text ≡ string_bytes c.args.text.now ++ status_line c.fields-fields.result). (c.fields-fields.result, (c.deref_mut.result.now, (c.fields-fields.new.self, c.fields-fields.ensures.shown, c.fields-fields.ensures.looked, is))))
     c.status_text.ensures.line
