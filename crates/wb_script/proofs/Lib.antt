@@ -4,3 +4,4 @@ pub mod Showing
 pub mod Laid
 pub mod FirstLine
 pub mod Three
+pub mod Answering

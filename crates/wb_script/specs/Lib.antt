@@ -7,3 +7,6 @@ pub mod Leading
 pub mod Joining
 pub mod Queues
 pub mod Shown
+pub mod Answered
+pub mod Played
+pub mod Stopped

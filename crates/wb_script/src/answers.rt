@@ -1,14 +1,22 @@
 //! What a client answers to what it is asked.
 
-ghost use Rattle.std.specs.Prelude.{◌≡◌, ◌≢◌, ◌<◌, ◌≤◌, ◌+◌, ◌*◌, ◌^◌, ◌⊎◌, IfOk, IfErr, OnOk, OnErr, IsErrOf};
+ghost use Rattle.std.specs.Prelude.{◌≡◌, ◌≢◌, ◌<◌, ◌≤◌, ◌+◌, ◌*◌, ◌^◌, ◌++◌, [], ◌∷◌, ◌⊎◌, ℕ, List, Option, IfOk, IfErr, OnOk, OnErr, IsErrOf, length, string_bytes};
 ghost use Rattle.wb_table.specs.Messages.{IsMessage};
 ghost use Rattle.wb_table.specs.Words.{words_of};
 ghost use Rattle.wb_types.specs.declared.message.Message.{Message};
 ghost use Rattle.wb_opened.specs.Deeds.{Messaged};
 ghost use Rattle.wb_opened.specs.Inside.{IsInside};
 ghost use Rattle.wb_script.specs.Request.{AsksForSectors, AsksInside};
+ghost use Rattle.wb_script.specs.Answered.{DidPart, WasAnswered, WentThrough, done_line, filled, worked_line};
+ghost use Rattle.wb_script.specs.Played.{BringsMessage};
+ghost use Rattle.wb_script.specs.Shown.{AreLinesOf};
+ghost use Rattle.wb_script.specs.Stopped.{StoppedAt, IsOutsideOrStopped, NotOfOneBlock, ReadWasNotTried, WriteWasNotTried, WasRefused, WorkWasRefused, MessageWasRefused};
+ghost use Rattle.wb_opened.specs.Deeds.{TriedRead, TriedWrite, Worked};
+ghost use Rattle.wb_policy.specs.declared.order.Order.{Order as CacheOrder};
+ghost use Rattle.wb_table.specs.Status.{status_line};
+ghost use Rattle.wb_table.specs.declared.status.Fields.{Fields};
 
-use crate::line::Call;
+use crate::line::{Call, message_text, without_break};
 use crate::part::{Part, first_part};
 use crate::progress::Paced;
 use crate::room::Room;
@@ -27,6 +35,7 @@ use wb_types::{CBlock, Geometry, OBlock, Refusal, Sector};
 /// `Range` for no sector, or one outside the origin; `Crosses` for sectors of more than one block, where one alone may be asked
 /// for; `Defer` where too many accesses are unsettled; `Busy` where a block is in use; `Io` where a step failed, `Failed` after a
 /// write or sync that failed so, `Memory` where there is none, and `GenerationEnd` where no further commit can be.
+#[tactic(auto, using(crate::proofs::Answering::said_done, crate::proofs::Answering::refused_before, crate::proofs::Answering::refused_behind))]
 pub fn answer<R: Wait, C: Served, P: Paced>(
     rt: &R,
     client: &mut C,
@@ -35,43 +44,39 @@ pub fn answer<R: Wait, C: Served, P: Paced>(
     text: &mut String,
     progress: &mut P,
 ) -> Result<(), Refusal>
+    ensures answered { OnOk result ((printed : List ℕ) × WasAnswered C.did asked client.old printed client.new × (string_bytes text.new ≡ string_bytes text.old ++ printed)) }
+    ensures refused { IfErr result (λ refusal. WasRefused C.did C.met asked client.old refusal client.new) }
     ensures outside { AsksForSectors asked → ¬ AsksInside asked ((C.sizes client.old).block * (C.sizes client.old).origin_blocks) → IsErrOf result Refusal.Range }
     ensures inside { AsksForSectors asked → IsErrOf result Refusal.Range → ¬ AsksInside asked ((C.sizes client.old).block * (C.sizes client.old).origin_blocks) }
 {
     match asked {
         Call::Read { at, count } => {
-            return go_through(rt, client, at, count, Deed::Show, room, text, progress);
+            go_through(rt, client, at, count, Deed::Show, room, text, progress)
         }
-        Call::TryRead { at, count } => return try_read(client, at, count, room, text),
+        Call::TryRead { at, count } => try_read(client, at, count, room, text),
         Call::Write { at, count, fill } => {
-            go_through(
-                rt,
-                client,
-                at,
-                count,
-                Deed::Fill(fill),
-                room,
-                text,
-                progress,
-            )?
+            let deed = Deed::Fill(fill);
+            go_through(rt, client, at, count, deed, room, text, progress)?;
+            done(text)
         }
         Call::WriteDurably { at, count, fill } => {
-            go_through(
-                rt,
-                client,
-                at,
-                count,
-                Deed::FillDurably(fill),
-                room,
-                text,
-                progress,
-            )?
+            let deed = Deed::FillDurably(fill);
+            go_through(rt, client, at, count, deed, room, text, progress)?;
+            done(text)
         }
-        Call::TryWrite { at, count, fill } => try_write(client, at, count, fill, room)?,
-        Call::Settle => client.settle(rt),
-        Call::Flush => client.flush(rt)?,
+        Call::TryWrite { at, count, fill } => {
+            try_write(client, at, count, fill, room)?;
+            done(text)
+        }
+        Call::Settle => {
+            client.settle(rt);
+            done(text)
+        }
+        Call::Flush => {
+            client.flush(rt)?;
+            done(text)
+        }
     }
-    done(text)
 }
 
 /// Has the client do what a message asks for.
@@ -85,6 +90,7 @@ pub fn follow<R: Wait, C: Served>(
     text: &str,
 ) -> Result<(), Refusal>
     ensures done { OnOk result ((message : Message) × IsMessage (words_of text.now) message × C.did client.old (Messaged message) client.new) }
+    ensures refused { IfErr result (λ refusal. MessageWasRefused C.met (IsMessage (words_of text.now)) client.old refusal client.new) }
     ensures unread { ((message : Message) → ¬ IsMessage (words_of text.now) message) → IsErrOf result Refusal.BadMessage ⊎ IsErrOf result Refusal.Memory }
 {
     match read_message(alloc, text) {
@@ -93,8 +99,25 @@ pub fn follow<R: Wait, C: Served>(
     }
 }
 
+/// Has the client do what the message of a line asks for, which may have its line break; refused as `follow`.
+pub fn follow_line<R: Wait, C: Served>(
+    rt: &R,
+    alloc: Global,
+    client: &mut C,
+    line: &[u8],
+) -> Result<(), Refusal>
+    ensures done { OnOk result ((message : Message) × BringsMessage line.now message × C.did client.old (Messaged message) client.new) }
+    ensures refused { IfErr result (λ refusal. MessageWasRefused C.met (BringsMessage line.now) client.old refusal client.new) }
+{
+    match message_text(without_break(line)) {
+        Some(text) => follow(rt, alloc, client, text),
+        None => Err(Refusal::BadMessage),
+    }
+}
+
 /// Adds that something was done.
 pub fn done(text: &mut String) -> Result<(), Refusal>
+    ensures line { OnOk result (string_bytes text.new ≡ string_bytes text.old ++ done_line) }
     ensures refused { IfErr result (λ refusal. refusal ≡ Refusal.Memory) }
 {
     text.push_str("ok\n")?;
@@ -123,6 +146,8 @@ fn go_through<R: Wait, C: Served, P: Paced>(
     text: &mut String,
     progress: &mut P,
 ) -> Result<(), Refusal>
+    ensures done { OnOk result ((printed : List ℕ) × WentThrough C.did deed at.0 (at.0 + count) client.old printed client.new × (string_bytes text.new ≡ string_bytes text.old ++ printed)) }
+    ensures refused { IfErr result (λ refusal. IsOutsideOrStopped C.did C.met deed at.0 (at.0 + count) client.old refusal client.new) }
     ensures outside { ¬ IsInside at.0 count ((C.sizes client.old).block * (C.sizes client.old).origin_blocks) → IsErrOf result Refusal.Range }
     ensures inside { IsErrOf result Refusal.Range → ¬ IsInside at.0 count ((C.sizes client.old).block * (C.sizes client.old).origin_blocks) }
 {
@@ -154,6 +179,8 @@ fn do_part<R: Wait, C: Served>(
     requires some { 0 < part.count }
     requires numbered { part.first + part.count < 2 ^ 64 }
     requires inside { part.first + part.count ≤ (C.sizes client.old).block * (C.sizes client.old).origin_blocks }
+    ensures done { OnOk result ((lines : List ℕ) × DidPart C.did deed is_last part.first part.count client.old lines client.new × (string_bytes text.new ≡ string_bytes text.old ++ lines)) }
+    ensures refused { IfErr result (λ refusal. StoppedAt C.did C.met deed is_last part.first part.count client.old refusal client.new) }
     ensures sizes { C.sizes client.new ≡ C.sizes client.old }
     ensures in_range { IfErr result (λ refusal. refusal ≢ Refusal.Range) }
 {
@@ -164,13 +191,17 @@ fn do_part<R: Wait, C: Served>(
             client.read(rt, at, room.contents.as_mut_slice())?;
             show(part.first, room.contents.as_slice(), &mut room.lines, text)?;
         }
-        Deed::FillDurably(fill) if is_last => {
-            room.fill(part.count, fill)?;
-            client.write_fua(rt, at, room.contents.as_slice())?;
-        }
-        Deed::Fill(fill) | Deed::FillDurably(fill) => {
+        Deed::Fill(fill) => {
             room.fill(part.count, fill)?;
             client.write(rt, at, room.contents.as_slice())?;
+        }
+        Deed::FillDurably(fill) => {
+            room.fill(part.count, fill)?;
+            if is_last {
+                client.write_fua(rt, at, room.contents.as_slice())?;
+            } else {
+                client.write(rt, at, room.contents.as_slice())?;
+            }
         }
     }
     Ok(())
@@ -185,6 +216,8 @@ fn try_read<C: Served>(
     room: &mut Room,
     text: &mut String,
 ) -> Result<(), Refusal>
+    ensures done { OnOk result ((content : List (List ℕ)) × (lines : List ℕ) × (length content ≡ count) × C.did client.old (TriedRead at.0 content) client.new × AreLinesOf lines at.0 content × (string_bytes text.new ≡ string_bytes text.old ++ lines)) }
+    ensures refused { IfErr result (λ refusal. ReadWasNotTried C.did C.met at.0 count client.old refusal client.new) }
     ensures outside { ¬ IsInside at.0 count ((C.sizes client.old).block * (C.sizes client.old).origin_blocks) → IsErrOf result Refusal.Range }
     ensures inside { IsErrOf result Refusal.Range → ¬ IsInside at.0 count ((C.sizes client.old).block * (C.sizes client.old).origin_blocks) }
 {
@@ -205,6 +238,8 @@ fn try_write<C: Served>(
     fill: u8,
     room: &mut Room,
 ) -> Result<(), Refusal>
+    ensures done { OnOk result (C.did client.old (TriedWrite at.0 (filled count fill)) client.new) }
+    ensures refused { IfErr result (λ refusal. WriteWasNotTried C.met at.0 count fill client.old refusal client.new) }
     ensures outside { ¬ IsInside at.0 count ((C.sizes client.old).block * (C.sizes client.old).origin_blocks) → IsErrOf result Refusal.Range }
     ensures inside { IsErrOf result Refusal.Range → ¬ IsInside at.0 count ((C.sizes client.old).block * (C.sizes client.old).origin_blocks) }
 {
@@ -214,14 +249,20 @@ fn try_write<C: Served>(
 }
 
 /// Tells how the cache is, on a line.
-pub fn status<R: Wait, C: Served>(rt: &R, client: &C, text: &mut String) -> Result<(), Refusal> {
+pub fn status<R: Wait, C: Served>(rt: &R, client: &C, text: &mut String) -> Result<(), Refusal>
+    ensures line { OnOk result ((told : Fields) × (string_bytes text.new ≡ string_bytes text.old ++ status_line told ++ 10 ∷ [])) }
+    ensures refused { IfErr result (λ refusal. refusal ≡ Refusal.Memory) }
+{
     client.status(rt, text)?;
     text.push_str("\n")?;
     Ok(())
 }
 
 /// Carries out an order, if any waits, and says which.
-pub fn work<R: Wait, C: Served>(rt: &R, client: &mut C, text: &mut String) -> Result<(), Refusal> {
+pub fn work<R: Wait, C: Served>(rt: &R, client: &mut C, text: &mut String) -> Result<(), Refusal>
+    ensures worked { OnOk result ((order : Option CacheOrder) × C.did client.old (Worked order) client.new × (string_bytes text.new ≡ string_bytes text.old ++ worked_line order)) }
+    ensures refused { IfErr result (λ refusal. WorkWasRefused C.did C.met client.old refusal client.new) }
+{
     let Some(order) = client.work_one(rt)? else {
         text.push_str("idle\n")?;
         return Ok(());
@@ -256,6 +297,7 @@ fn end_of(geometry: &Geometry, at: Sector, count: u64) -> Result<u64, Refusal>
 /// `Range` as `end_of`, and `Crosses` for sectors of more than one block: before there is a buffer for them.
 fn in_one_block(geometry: &Geometry, at: Sector, count: u64) -> Result<(), Refusal>
     ensures numbered { OnOk result (at.0 + count < 2 ^ 64) }
+    ensures refused { IfErr result NotOfOneBlock }
     ensures outside { ¬ IsInside at.0 count (geometry.now.block * geometry.now.origin_blocks) → IsErrOf result Refusal.Range }
     ensures inside { IsErrOf result Refusal.Range → ¬ IsInside at.0 count (geometry.now.block * geometry.now.origin_blocks) }
 {

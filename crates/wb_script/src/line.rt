@@ -3,6 +3,7 @@
 ghost use Rattle.std.specs.Prelude.{◌≡◌, ◌≢◌, ◌∷◌, ℕ, IfSome, IfNone, codes};
 ghost use Rattle.std.specs.Str.{IsUtf8};
 ghost use Rattle.wb_script.specs.Line.{WordsAsk, NamesClient, WordsSay, IsLine};
+ghost use Rattle.wb_script.specs.Played.{HasBreakOrNone};
 ghost use Rattle.wb_table.specs.Words.{words_of};
 ghost use Rattle.wb_script.specs.declared.line.Call.{Call as Asked};
 ghost use Rattle.wb_script.specs.declared.line.Line.{Line as Said};
@@ -75,6 +76,16 @@ pub fn message_text(line: &[u8]) -> Option<&str>
     let mut words = SplitSpaces(str::from_utf8(line).ok()?);
     words.expect("message")?;
     Some(words.0)
+}
+
+/// A line without its line break, which the last line of a script may lack.
+pub fn without_break(line: &[u8]) -> &[u8]
+    ensures { HasBreakOrNone line.now result.now }
+{
+    match line {
+        [before @ .., b'\n'] => before,
+        _ => line,
+    }
 }
 
 fn read_words(mut words: SplitSpaces<'_>) -> Option<Line>

@@ -1,6 +1,6 @@
 //! Answers, and what else is printed: the writer holds them until it is told to see them out.
 
-ghost use Rattle.std.specs.Prelude.{◌≡◌, IfOk, IfErr, OnErr, OnOk};
+ghost use Rattle.std.specs.Prelude.{◌≡◌, IfOk, IfErr, OnErr, OnOk, string_bytes};
 ghost use Rattle.std.specs.Io.KnownBytes.{Appends};
 ghost use Rattle.wb_script.specs.Exit.{code_of};
 ghost use Rattle.wb_script.specs.Leading.{want_of_memory};
@@ -50,7 +50,9 @@ pub fn refuse<W: Write>(
 }
 
 /// Prints an answer.
-pub fn print<W: Write>(text: &String, writer: &mut W) -> Result<Status, StreamFailed> {
+pub fn print<W: Write>(text: &String, writer: &mut W) -> Result<Status, StreamFailed>
+    ensures printed { OnOk result (Appends (W.contents writer.old) (W.contents writer.new) (string_bytes text.now)) }
+{
     if !text.is_empty() {
         send(text.as_bytes(), writer)?;
     }

@@ -1,12 +1,15 @@
 //! Scripts: a line in, its answer out.
 
-ghost use Rattle.std.specs.Prelude.{◌<◌};
+ghost use Rattle.std.specs.Prelude.{◌≡◌, ◌<◌, ◌++◌, ℕ, List, OnOk, IfErr, string_bytes};
+ghost use Rattle.std.specs.Io.KnownBytes.{Appends};
+ghost use Rattle.wb_script.specs.Played.{WasPlayed};
+ghost use Rattle.wb_script.specs.Stopped.{PlayWasRefused};
 
 use crate::ahead::Ahead;
-use crate::answers::{answer, done, follow, most_lines, status, work};
+use crate::answers::{answer, done, follow_line, most_lines, status, work};
 use crate::ended::{Ended, refused};
 use crate::lane::Beside;
-use crate::line::{Call, Line, message_text, read_line};
+use crate::line::{Call, Line, read_line, without_break};
 use crate::output::{StreamFailed, print, print_bad_line, print_refusal, see_out};
 use crate::printing::print_all;
 use crate::progress::Progress;
@@ -276,7 +279,10 @@ fn answer_line<R: Wait, C: Served, I: Ahead, W: Write, E: Clock + Eprint>(
     client: &mut C,
     script: &mut Script<'_, I, W, E>,
     line: Line,
-) -> Result<(), Refusal> {
+) -> Result<(), Refusal>
+    ensures answered { OnOk result ((printed : List ℕ) × WasPlayed C.did script.old.line.items line client.old printed client.new × (string_bytes script.new.text ≡ string_bytes script.old.text ++ printed)) }
+    ensures refused { IfErr result (λ refusal. PlayWasRefused C.did C.met script.old.line.items line client.old refusal client.new) }
+{
     match line {
         Line::Asks(call) => {
             let answered = answer(
@@ -299,7 +305,7 @@ fn answer_line<R: Wait, C: Served, I: Ahead, W: Write, E: Clock + Eprint>(
             done(&mut script.text)
         }
         Line::Message => {
-            follow(rt, script.alloc, client, message_in(script.line.as_slice()))?;
+            follow_line(rt, script.alloc, client, script.line.as_slice())?;
             done(&mut script.text)
         }
         Line::Work => work(rt, client, &mut script.text),
@@ -427,7 +433,9 @@ fn answer_behind<R: Wait, T: Shown>(
 fn tell<I, W: Write, E>(
     script: &mut Script<'_, I, W, E>,
     answered: Result<(), Refusal>,
-) -> Result<(), StreamFailed> {
+) -> Result<(), StreamFailed>
+    ensures printed { OnOk result (OnOk answered (Appends (W.contents script.old.writer.now) (W.contents script.new.writer.now) (string_bytes script.old.text))) }
+{
     let printed = match answered {
         Ok(()) => print(&script.text, script.writer)?,
         Err(refusal) => {
@@ -525,17 +533,4 @@ fn read_input(line: &[u8]) -> Input {
         Some(said) => Input::Says(said),
         None => Input::Bad,
     }
-}
-
-/// The text of the message that a line gives.
-fn message_in(line: &[u8]) -> &str {
-    match message_text(without_break(line)) {
-        Some(text) => text,
-        None => "",
-    }
-}
-
-/// A line without its line break, which the last line of a script may lack.
-fn without_break(line: &[u8]) -> &[u8] {
-    line.strip_suffix(b"\n").unwrap_or(line)
 }
