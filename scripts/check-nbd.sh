@@ -117,6 +117,30 @@ check 'zeros all over the origin, and past its end' "$(status) $(replies)" '0 00
 check 'and then it reads as zeros' "$(printf 'r 0 640\n' | "$cache" run "$table" | cut -d' ' -f2 | sort -u)" 00
 fresh
 
+# --- The policy of the table, and what a server leaves to the next opening. Block 0 is read thrice and another one once behind it, so that the worker
+# has had an order of a policy that gives any; the status line at the end says how many blocks came.
+for policy in default cleaner; do
+  fresh
+  mkfifo sends
+  timeout 30 "$server" "cache m.img c.img o.img 64 1 writeback $policy 0" <sends >out.bin 2>told.txt &
+  running=$!
+  exec 3>sends
+  { hello; read_of 1 0 512; read_of 2 0 512; read_of 3 0 512; read_of 4 32768 512; } >&3
+  sleep 1
+  goodbye >&3
+  exec 3>&-
+  wait "$running"
+  rm -f sends
+  echo "$? $(tail -n 1 told.txt | cut -d' ' -f5,11,18)"
+done >policies.txt
+check 'the policy that the table names' "$(tr '\n' '/' <policies.txt)" '0 1/4 1 tinylfu/0 0/4 0 cleaner/'
+fresh
+for block in 0 64 128 192; do printf 'r %s 1\nr %s 1\nwork\n' $block $block; done >fill.txt
+{ cat fill.txt; echo suspend; } | "$cache" run "$table" >/dev/null
+{ hello; read_of 1 0 512; read_of 2 65536 512; read_of 3 98304 512; goodbye; } | serve "$table"
+check 'a block that no client asked for is the next to leave' "$(status) $(printf 'r 256 1\nr 256 1\nwork\n' | "$cache" run "$table" | tail -n 1)" '0 replaced 1 by 4 at 1'
+fresh
+
 # --- What is told.
 { hello; goodbye; } | serve "$table"
 check 'what was opened, and how it stands at the end' "$(sed 's/ [0-9]*\/4 64 .*/ ../' told.txt)" 'wbnbd: opened 640 sectors; 0 of 4 cache blocks mapped, 0 dirty

@@ -523,12 +523,13 @@ wbcache: 3 lines were refused, the first at line 2: 5 Io origin
 # Past the limit of the file size: the kit cannot ignore the signal, a shell can (docs/DECISIONS.md). What is answered is read apart from what
 # is said of the device, since answers may come after that.
 fresh
-said=$( (trap '' XFSZ; ulimit -f 100; printf 'w 0 1 11\nw 390 20 22\nr 0 1\nw 0 1 33\nr 640 1\n' | "$cache" -v run "$table") 2>reason.txt)
+said=$( (trap '' XFSZ; ulimit -f 100; printf 'w 0 1 11\nw 390 20 22\nr 0 1\nw 0 1 33\nr 640 1\nstatus\n' | "$cache" -v run "$table") 2>reason.txt)
 check 'a write that fails leaves the target failed' "$? $said" '3 ok
 refused 5 Io origin
 refused 6 Failed
 refused 6 Failed
-refused 1 Range'
+refused 1 Range
+Fail'
 check 'and is told' "$(cat reason.txt)" "$opened
 wbcache: origin file: a write failed: File too large (os error 27)
 wbcache: 4 lines were refused, the first at line 2: 5 Io origin"
