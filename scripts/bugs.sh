@@ -1,7 +1,8 @@
 #!/bin/sh
 # Tries the wrong bodies in crates/NAME/bugs, which the gate leaves out, as must-fail edits on a copy: the prover has to refuse each. Crates
-# go side by side, once what they stand on is proved. Where a crate is of definitions alone, wrong ones are refused by the crates above that
-# prove something of them: its file bugs/refused-by names these, each after those that it stands on.
+# go side by side, once what they stand on is proved, and first the wrong bodies of different functions of a crate together (bugs_at_once.py). Where
+# a crate is of definitions alone, wrong ones are refused by the crates above that prove something of them: its file bugs/refused-by names these, each
+# after those that it stands on.
 #
 #     sh scripts/bugs.sh [NAME..]
 #
@@ -106,7 +107,8 @@ begin_edits() { # crate or one of its edits, how many processors it may use, how
       ;;
     *)
       # shellcheck disable=SC2016 # it is the text of a script
-      start "$1" 1 "$3" sh -c 'cd "$1" && RT_JOBS=1 exec rt must-fail "$2"' begin_edits "$copy" "$1"
+      start "$1" 1 "$3" sh -c 'export RT_JOBS=1; cd "$1" || exit; python3 "$3" "$2"; test -z "$(ls "crates/$2/must-fail")" || exec rt must-fail "$2"' \
+        begin_edits "$copy" "$1" "$top/scripts/bugs_at_once.py"
       ;;
   esac
 }
