@@ -3,7 +3,7 @@
 use Rattle.std.proofs.Common.{◌≡◌, ◌≢◌, ◌≤◌, ◌<◌, ◌+◌, ◌⊎◌, [], ◌∷◌, length, length-append, inl, inr, inr, ℕ, Bool, true, false, Option, Some, None, refl, sym, ap, ◌∙◌, arith}
 use Rattle.std.proofs.lemmas.Bool.{cases_eq}
 use Rattle.wb_disk.specs.Device.{Content, History, newest, added}
-use Rattle.wb_contents.specs.Volume.{Volume, Standing, Whole, Half, Torn, location, at_location, changed, changed_at}
+use Rattle.wb_contents.specs.Volume.{Locations, Volume, Standing, Whole, Half, Torn, location, at_location, changed, changed_at}
 use Rattle.wb_contents.specs.Acts.{Act, Write, Write_origin, Write_cache, Fail_write, Finish, Fill_cache, Copy_back, Map, Unmap, Make_dirty, Make_clean, Begin_commit, Begin_suspend, Sync_cache, Sync_origin, Fail_cache_sync, Fail_origin_sync, Write_root, End_commit, Begin_flush, End_flush, volume_after as after_act, sector_written, written_through, all_synced, partly_synced}
 use Rattle.wb_contents.specs.Conditions.{MayAct, IsUnnamed}
 use Rattle.wb_contents.proofs.Positions.{changed_same, changed_other}
@@ -47,11 +47,15 @@ Mine size a x busy (Begin_flush actor) = (actor ≡ a) × (x.task ≡ None)
 Mine size a x busy (End_flush actor) = actor ≡ a
 Mine size a x busy other = ⊥
 
+-- of each sector no more than that
+abbrev pub AtMost : (f g : ℕ → ℕ → ℕ) → Type 0
+AtMost f g = (b o : ℕ) → f b o ≤ g b o
+
 -- what only grows
 pub record Grows (d e : Volume) : Type 0 where
-  pub finished : (b o : ℕ) → d.finished b o ≤ e.finished b o
-  pub histories : (b o : ℕ) → length (d.histories b o).later ≤ length (e.histories b o).later
-  pub floor : (b o : ℕ) → d.floor b o ≤ e.floor b o
+  pub finished : AtMost d.finished e.finished
+  pub histories : AtMost (λ b o. length (d.histories b o).later) (λ b o. length (e.histories b o).later)
+  pub floor : AtMost d.floor e.floor
 
 grows_same : (d e : Volume) → e.finished ≡ d.finished → e.histories ≡ d.histories → e.floor ≡ d.floor → Grows d e
 grows_same d e f g h = record { finished = λ b o. rw f (omega arith); histories = λ b o. rw g (omega arith); floor = λ b o. rw h (omega arith) }
@@ -65,10 +69,14 @@ grows_book d e b o c f g h = record {
   floor = λ b' o'. rw h (omega arith);
 }
 
+-- where a block is that no order of this actor is for stays as it was
+abbrev pub KeepsPlaces : AbstractActor → (before after : Locations) → Type 0
+KeepsPlaces x before after = drops x.task ≡ false → (b : ℕ) → NotBlock x b → after b ≡ before b
+
 -- What an actor's acts leave to the others.
 pub record Keeps (a : ℕ) (x : AbstractActor) (busy : Bool) (d e : Volume) : Type 0 where
   pub block : (b : ℕ) → x.held ≢ Owns b → block_view e b ≡ block_view d b
-  pub location : drops x.task ≡ false → (b : ℕ) → NotBlock x b → e.mapping b ≡ d.mapping b
+  pub location : KeepsPlaces x d.mapping e.mapping
   pub cached : (k : ℕ) → NotCache x k → IsUnnamed d.mapping k → (o : ℕ) → newest (e.cache k o) ≡ newest (d.cache k o)
   pub unnamed : (k : ℕ) → NotCache x k → IsUnnamed d.mapping k → IsUnnamed e.mapping k
   pub commit : busy ≡ true → x.leads ≡ false → commit_view e ≡ commit_view d
@@ -80,21 +88,45 @@ pub record Keeps (a : ℕ) (x : AbstractActor) (busy : Bool) (d e : Volume) : Ty
   pub live : is_alone x.task ≡ false → e.live ≡ d.live
   pub mode : e.mode ≡ d.mode
 
-pub keeps_same : (a : ℕ) (x : AbstractActor) (busy : Bool) (d : Volume) → Keeps a x busy d d
-keeps_same a x busy d = record {
+-- commit, flushes and mode stay as they are
+still_keeps : (a : ℕ) (x : AbstractActor) (busy : Bool) (d e : Volume) → ((b : ℕ) → x.held ≢ Owns b → block_view e b ≡ block_view d b) → KeepsPlaces x d.mapping e.mapping →
+    ((k : ℕ) → NotCache x k → IsUnnamed d.mapping k → (o : ℕ) → newest (e.cache k o) ≡ newest (d.cache k o)) → ((k : ℕ) → NotCache x k → IsUnnamed d.mapping k → IsUnnamed e.mapping k) →
+    commit_view e ≡ commit_view d → e.ticket ≡ d.ticket → e.live ≡ d.live → e.mode ≡ d.mode → Grows d e → e.then_finished ≡ d.then_finished → Keeps a x busy d e
+still_keeps a x busy d e view places cached unnamed commit ticket live mode grows finished = record {
+  block = view;
+  location = places;
+  cached = cached;
+  unnamed = unnamed;
+  commit = λ y l. commit;
+  ticket = λ c n. ap (λ f. f c) ticket;
+  began = let p : e.began ≡ d.began = ap (λ v. v.began) commit in omega (arith, p);
+  ended = let p : e.ended ≡ d.ended = ap (λ v. v.ended) commit in omega (arith, p);
+  grows = grows;
+  then_finished = λ c n. ap (λ f. f c) finished;
+  live = λ n. live;
+  mode = mode;
+}
+
+-- a flush begins or ends, or nothing does
+flush_keeps : (a : ℕ) (x : AbstractActor) (busy : Bool) (d : Volume) (ticket : ℕ → ℕ) (then_finished : ℕ → ℕ → ℕ → ℕ) (floor : ℕ → ℕ → ℕ) → ((b : ℕ) → b ≢ a → ticket b ≡ d.ticket b) → ((b : ℕ) → (b ≢ a) ⊎ (x.task ≢ None) → then_finished b ≡ d.then_finished b) →
+    AtMost d.floor floor → Keeps a x busy d (record d { ticket = ticket; then_finished = then_finished; floor = floor })
+flush_keeps a x busy d ticket then_finished floor t f raised = record {
   block = λ b n. refl;
   location = λ h b n. refl;
   cached = λ k n u o. refl;
   unnamed = λ k n u. u;
   commit = λ b l. refl;
-  ticket = λ b n. refl;
+  ticket = t;
   began = omega arith;
   ended = omega arith;
-  grows = grows_same d d refl refl refl;
-  then_finished = λ b n. refl;
+  grows = record { finished = λ b o. omega arith; histories = λ b o. omega arith; floor = raised };
+  then_finished = f;
   live = λ n. refl;
   mode = refl;
 }
+
+pub keeps_same : (a : ℕ) (x : AbstractActor) (busy : Bool) (d : Volume) → Keeps a x busy d d
+keeps_same a x busy d = flush_keeps a x busy d d.ticket d.then_finished d.floor (λ b n. refl) (λ b n. refl) (λ b o. omega arith)
 
 pub keeps_then : (a : ℕ) (x : AbstractActor) (busy : Bool) (d e f : Volume) → Keeps a x busy d e → Keeps a x busy e f → Keeps a x busy d f
 keeps_then a x busy d e f i j = record {
@@ -123,20 +155,7 @@ sector_elsewhere f b o v c n = changed_other f b c (changed (f b) o v) n
 -- by the owner of a block, on that block alone, which stays where it is
 owner_keeps : (a : ℕ) (x : AbstractActor) (busy : Bool) (d e : Volume) (b : ℕ) → x.held ≡ Owns b → ((c : ℕ) → c ≢ b → block_view e c ≡ block_view d c) → e.mapping ≡ d.mapping →
     ((k : ℕ) → IsUnnamed d.mapping k → (o : ℕ) → newest (e.cache k o) ≡ newest (d.cache k o)) → commit_view e ≡ commit_view d → e.ticket ≡ d.ticket → e.live ≡ d.live → e.mode ≡ d.mode → Grows d e → e.then_finished ≡ d.then_finished → Keeps a x busy d e
-owner_keeps a x busy d e b own view m cached q t lv md gr nt = record {
-  grows = gr;
-  then_finished = λ c n. ap (λ f. f c) nt;
-  live = λ n. lv;
-  mode = md;
-  block = λ c n. view c (another x b c own n);
-  location = λ h c n. ap (λ f. f c) m;
-  cached = λ k n u. cached k u;
-  unnamed = λ k n u c y. u c (sym (ap (λ f. f c) m) ∙ y);
-  commit = λ y l. q;
-  ticket = λ c n. ap (λ f. f c) t;
-  began = let p : e.began ≡ d.began = ap (λ v. v.began) q in omega (arith, p);
-  ended = let p : e.ended ≡ d.ended = ap (λ v. v.ended) q in omega (arith, p);
-}
+owner_keeps a x busy d e b own view m cached = still_keeps a x busy d e (λ c n. view c (another x b c own n)) (λ h c n. ap (λ f. f c) m) (λ k n u. cached k u) (λ k n u c y. u c (sym (ap (λ f. f c) m) ∙ y))
 
 -- it changes this sector of the origin, and histories and standings of its block
 origin_view : (d : Volume) (b o : ℕ) (h : History) (histories : ℕ → ℕ → History) (standing : ℕ → ℕ → Standing) → ((c : ℕ) → c ≢ b → histories c ≡ d.histories c) → ((c : ℕ) → c ≢ b → standing c ≡ d.standing c) →
@@ -174,45 +193,25 @@ through_keeps a x busy d b o own i (Some k) m = owner_keeps a x busy d (written_
 
 -- A sector of an unused cache block is in no view but that of its order.
 fill_keeps : (a : ℕ) (x : AbstractActor) (busy : Bool) (d : Volume) (k o : ℕ) (c : Content) (p : Order) → x.order ≡ Some p → p.cache ≡ k → IsUnnamed d.mapping k → Keeps a x busy d (after_act d (Fill_cache k o c))
-fill_keeps a x busy d k o c p e f free = record {
-  block = λ b n. same_view d (after_act d (Fill_cache k o c)) b refl refl
-      (λ q. place_is d.origin d.cache d.origin (changed_at d.cache k o (added (d.cache k o) c)) (d.mapping b) b q refl
-      (λ j y. ap (λ g. newest (g q)) (sector_elsewhere d.cache k o (added (d.cache k o) c) j (λ s. free b (y ∙ ap (λ v. Some v) s)))))
-      (λ q. refl) refl refl refl;
-  location = λ h b n. refl;
-  cached = λ j n u q. ap (λ g. newest (g q)) (sector_elsewhere d.cache k o (added (d.cache k o) c) j (λ s. n p e (f ∙ sym s)));
-  unnamed = λ j n u. u;
-  commit = λ y l. refl;
-  ticket = λ b n. refl;
-  began = omega arith;
-  ended = omega arith;
-  grows = grows_same d _ refl refl refl;
-  then_finished = λ b n. refl;
-  live = λ n. refl;
-  mode = refl;
-}
+fill_keeps a x busy d k o c p e f free = still_keeps a x busy d (after_act d (Fill_cache k o c))
+    (λ b n. same_view d (after_act d (Fill_cache k o c)) b refl refl
+    (λ q. place_is d.origin d.cache d.origin (changed_at d.cache k o (added (d.cache k o) c)) (d.mapping b) b q refl
+    (λ j y. ap (λ g. newest (g q)) (sector_elsewhere d.cache k o (added (d.cache k o) c) j (λ s. free b (y ∙ ap (λ v. Some v) s)))))
+    (λ q. refl) refl refl refl)
+    (λ h b n. refl) (λ j n u q. ap (λ g. newest (g q)) (sector_elsewhere d.cache k o (added (d.cache k o) c) j (λ s. n p e (f ∙ sym s)))) (λ j n u. u) refl refl refl refl (grows_same d _ refl refl refl) refl
 
 -- A block moves, by its owner: under its order, or unmapped without one.
 moved_keeps : (a : ℕ) (x : AbstractActor) (busy : Bool) (d : Volume) (b : ℕ) (to : Option ℕ) (dirty : ℕ → Bool) → x.held ≡ Owns b → (drops x.task ≡ false → NotBlock x b → ⊥) → ((k : ℕ) → to ≡ Some k → NotCache x k → ⊥) → ((c : ℕ) → c ≢ b → dirty c ≡ d.dirty c) →
     Keeps a x busy d (record d { mapping = changed d.mapping b to; dirty = dirty })
-moved_keeps a x busy d b to dirty own away onto f' = record {
-  block = λ c n. let m : c ≢ b = another x b c own n in let y = changed_other d.mapping b c to m in
-      same_view d (record d { mapping = changed d.mapping b to; dirty = dirty }) c y (f' c m) (λ q. ap (λ v. newest (at_location d.origin d.cache v c q)) y) (λ q. refl) refl refl refl;
-  location = λ h c n. changed_other d.mapping b c to (λ s. away h (λ p e f. n p e (f ∙ sym s)));
-  cached = λ j n u q. refl;
-  unnamed = λ j n u c y. elim (cases_eq c b) [
-    | inl s ↦ onto j (sym (changed_same d.mapping b to) ∙ ap (changed d.mapping b to) (sym s) ∙ y) n
-    | inr m ↦ u c (sym (changed_other d.mapping b c to m) ∙ y)
-  ];
-  commit = λ y l. refl;
-  ticket = λ c n. refl;
-  began = omega arith;
-  ended = omega arith;
-  grows = grows_same d _ refl refl refl;
-  then_finished = λ b n. refl;
-  live = λ n. refl;
-  mode = refl;
-}
+moved_keeps a x busy d b to dirty own away onto f' = still_keeps a x busy d (record d { mapping = changed d.mapping b to; dirty = dirty })
+    (λ c n. let m : c ≢ b = another x b c own n in let y = changed_other d.mapping b c to m in
+    same_view d (record d { mapping = changed d.mapping b to; dirty = dirty }) c y (f' c m) (λ q. ap (λ v. newest (at_location d.origin d.cache v c q)) y) (λ q. refl) refl refl refl)
+    (λ h c n. changed_other d.mapping b c to (λ s. away h (λ p e f. n p e (f ∙ sym s)))) (λ j n u q. refl)
+    (λ j n u c y. elim (cases_eq c b) [
+      | inl s ↦ onto j (sym (changed_same d.mapping b to) ∙ ap (changed d.mapping b to) (sym s) ∙ y) n
+      | inr m ↦ u c (sym (changed_other d.mapping b c to m) ∙ y)
+    ])
+    refl refl refl refl (grows_same d _ refl refl refl) refl
 
 -- A block becomes dirty or clean.
 dirty_keeps : (a : ℕ) (x : AbstractActor) (busy : Bool) (d : Volume) (b : ℕ) (t : Bool) → x.held ≡ Owns b → Keeps a x busy d (record d { dirty = changed d.dirty b t })
@@ -277,32 +276,7 @@ act_keeps size a x busy d (Fail_origin_sync choice) i z m k = let s = shorter_ne
     commit_keeps a x busy d (after_act d (Fail_origin_sync choice)) (shorter_view d (partly_synced choice d.origin) d.cache s (λ j o. refl)) refl (λ j o. refl) (no_leader x busy k) refl (omega arith) (omega arith) (λ n. refl) refl (grows_same d _ refl refl refl) refl
 act_keeps size a x busy d Write_root i z m k = commit_keeps a x busy d (after_act d Write_root) (λ b. refl) refl (λ j o. refl) (no_leader x busy k) refl (omega arith) (omega arith) (λ n. refl) refl (grows_same d _ refl refl refl) refl
 act_keeps size a x busy d End_commit i z m k = commit_keeps a x busy d (after_act d End_commit) (λ b. refl) refl (λ j o. refl) (no_leader x busy k) refl (omega arith) z (λ n. refl) refl (grows_same d _ refl refl refl) refl
-act_keeps size a x busy d (Begin_flush actor) i z m k = record {
-  block = λ c n. refl;
-  location = λ h c n. refl;
-  cached = λ j n u q. refl;
-  unnamed = λ j n u. u;
-  commit = λ t l. refl;
-  ticket = λ c n. changed_other d.ticket actor c (d.began + 1) (λ s. n (s ∙ k.0));
-  began = omega arith;
-  ended = omega arith;
-  grows = grows_same d _ refl refl refl;
-  then_finished = λ c n. elim n [ inl m ↦ changed_other d.then_finished actor c d.finished (λ s. m (s ∙ k.0)) | inr m ↦ absurd (m k.1) ];
-  live = λ n. refl;
-  mode = refl;
-}
-act_keeps size a x busy d (End_flush actor) i z m k = record {
-  block = λ c n. refl;
-  location = λ h c n. refl;
-  cached = λ j n u q. refl;
-  unnamed = λ j n u. u;
-  commit = λ t l. refl;
-  ticket = λ c n. refl;
-  began = omega arith;
-  ended = omega arith;
-  grows = record { finished = λ b o. omega arith; histories = λ b o. omega arith; floor = λ b o. omega arith };
-  then_finished = λ c n. refl;
-  live = λ n. refl;
-  mode = refl;
-}
+act_keeps size a x busy d (Begin_flush actor) i z m k = flush_keeps a x busy d (changed d.ticket actor (d.began + 1)) (changed d.then_finished actor d.finished) d.floor (λ c n. changed_other d.ticket actor c (d.began + 1) (λ s. n (s ∙ k.0)))
+    (λ c n. elim n [ inl m ↦ changed_other d.then_finished actor c d.finished (λ s. m (s ∙ k.0)) | inr m ↦ absurd (m k.1) ]) (λ b o. omega arith)
+act_keeps size a x busy d (End_flush actor) i z m k = flush_keeps a x busy d d.ticket d.then_finished (after_act d (End_flush actor)).floor (λ c n. refl) (λ c n. refl) (λ b o. omega arith)
 act_keeps size a x busy d act i z m k = absurd k

@@ -148,11 +148,15 @@ pub record Good (size : ℕ) (s : Shared) (d : Volume) : Type 0 where
   pub sound : AllSound s
   pub idle : s.committing ≡ false → s.root_written ≡ false
 
+-- the seal is the dirty bit where the block is mapped
+abbrev pub SealsDirty : Seal → BlockView → Type 0
+SealsDirty seal v = (k : ℕ) → v.location ≡ Some k → seal.dirty ≡ v.dirty
+
 -- a block that nobody owns: each sector has its last write, and all writes are finished; the seal is mapping and dirty bit
 pub record Rests (seal : Seal) (v : BlockView) : Type 0 where
   pub whole : (o : ℕ) → v.standing o ≡ Whole
   pub location : seal.location ≡ v.location
-  pub dirty : (k : ℕ) → v.location ≡ Some k → seal.dirty ≡ v.dirty
+  pub dirty : SealsDirty seal v
   pub done : (o : ℕ) → v.finished o ≡ length (v.histories o).later
 
 abbrev pub RestsAt : Shared → Volume → ℕ → Type 0

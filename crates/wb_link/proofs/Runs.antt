@@ -1,5 +1,5 @@
 -- Every run of the world is a run of the contents machine, whose histories are the clerk's.
-use Rattle.std.proofs.Common.{◌≡◌, ◌≤◌, inl, inr, ℕ, true, List, [], Option, Some, None, refl, sym, ap, subst, ◌∙◌, arith, replicate, slice_get, slice_set}
+use Rattle.std.proofs.Common.{◌≡◌, inl, inr, ℕ, true, List, [], Option, Some, None, refl, sym, ap, subst, ◌∙◌, arith, replicate, slice_get, slice_set}
 use Rattle.wb_disk.specs.Device.{Content, History, newest, only}
 use Rattle.wb_contents.specs.Volume.{Volume, changed}
 use Rattle.wb_contents.specs.Acts.{Act, volume_after_all as after_acts}
@@ -12,7 +12,7 @@ use Rattle.wb_link.proofs.Copying.{alike_on}
 use Rattle.wb_link.proofs.Link.{Linked, acts_of, start_acts, Ready, ReadsRight}
 use Rattle.wb_contents.proofs.Lists.{replicated}
 use Rattle.wb_link.proofs.Steps.{in_set, stepped, step_is, step_linked, Facts, step_facts}
-use Rattle.wb_link.proofs.Acts.{Keeps}
+use Rattle.wb_link.proofs.Acts.{AtMost, Keeps}
 use Rattle.wb_link.proofs.Aside.{release_is, release_linked}
 use Rattle.wb_link.proofs.Starting.{again_is, again_linked, start_is, start_linked, start_run, start_keeps}
 use Rattle.wb_link.proofs.Noting.{AllEntered, all_below, finished_ok, flushes, floors_ok, entered_on, entered_ok}
@@ -22,10 +22,10 @@ use Rattle.wb_link.proofs.Actors.{job_on, no_task}
 -- machine's or lower.
 pub record Noted (actors : List AbstractActor) (d : Volume) (n : AbstractNotes) : Type 0 where
   pub histories : n.histories ≡ d.histories
-  pub finished : (b o : ℕ) → n.finished b o ≤ d.finished b o
-  pub floors : (b o : ℕ) → n.floors b o ≤ d.floor b o
+  pub finished : AtMost n.finished d.finished
+  pub floors : AtMost n.floors d.floor
   pub jobs : (a : ℕ) (x : AbstractActor) (script : Script) → slice_get actors a ≡ Some x → x.task ≡ Some script → n.jobs a ≡ Some script.job
-  pub asked : (a : ℕ) (x : AbstractActor) (script : Script) → slice_get actors a ≡ Some x → x.task ≡ Some script → flushes script.job ≡ true → (b o : ℕ) → n.asked a b o ≤ d.then_finished a b o
+  pub asked : (a : ℕ) (x : AbstractActor) (script : Script) → slice_get actors a ≡ Some x → x.task ≡ Some script → flushes script.job ≡ true → AtMost (n.asked a) (d.then_finished a)
   pub entered : (a : ℕ) (x : AbstractActor) (script : Script) → slice_get actors a ≡ Some x → x.task ≡ Some script → AllEntered x.held d (n.entered a)
 
 -- one record is a list of acts, two at most
@@ -63,7 +63,7 @@ started_noted size w d n a x job keeps k here = record {
       (λ s f. let same : abstract_table job ≡ s = cc in changed_same n.jobs a (Some job) ∙ ap (λ (v : Script). Some v.job) same)
       (λ c y o g s f. changed_other n.jobs a c (Some job) o ∙ k.jobs c y s g f)
       c y g script t;
-  asked = λ c y script g t. in_set w.actors a x (abstract_given x job) here (λ c y. (s : Script) → y.task ≡ Some s → flushes s.job ≡ true → (b o : ℕ) → changed n.asked a n.finished c b o ≤ e.then_finished c b o)
+  asked = λ c y script g t. in_set w.actors a x (abstract_given x job) here (λ c y. (s : Script) → y.task ≡ Some s → flushes s.job ≡ true → AtMost (changed n.asked a n.finished c) (e.then_finished c))
       (λ s f h b o. let same : abstract_table job ≡ s = cc in let mine : flushes job ≡ true = ap (λ (v : Script). flushes v.job) same ∙ h in let p = k.finished b o in
       let l : changed n.asked a n.finished a b o ≡ n.finished b o = ap (λ f. f b o) (changed_same n.asked a n.finished) in let r : e.then_finished a b o ≡ d.finished b o = ap (λ f. f b o) (start_noted a d job mine) in omega arith)
       (λ c y o g s f h b q. let l : changed n.asked a n.finished c b q ≡ n.asked c b q = ap (λ f. f b q) (changed_other n.asked a c n.finished o) in
@@ -89,7 +89,7 @@ step_noted size w d n a x script next got i k m = record {
       (λ s f. changed_same n.jobs a (job_noted script.job (abstract_want script)) ∙ (same_job script (abstract_want script) got s f).0)
       (λ c y o g s f. changed_other n.jobs a c (job_noted script.job (abstract_want script)) o ∙ k.jobs c y s g f)
       c y g later t;
-  asked = λ c y later g t. in_set w.actors a x y' m.actor (λ c y. (s : Script) → y.task ≡ Some s → flushes s.job ≡ true → (b o : ℕ) → n.asked c b o ≤ e.then_finished c b o)
+  asked = λ c y later g t. in_set w.actors a x y' m.actor (λ c y. (s : Script) → y.task ≡ Some s → flushes s.job ≡ true → AtMost (n.asked c) (e.then_finished c))
       (λ s f h b o. let mine : flushes script.job ≡ true = ap flushes (sym (same_job script (abstract_want script) got s f).1) ∙ h in let p = k.asked a x script m.actor m.task mine b o in
       let r : e.then_finished a b o ≡ d.then_finished a b o = ap (λ f. f b o) (facts.keeps.then_finished a (inr (no_task x script m.task))) in omega arith)
       (λ c y o g s f h b q. let p = k.asked c y s g f h b q in let r : e.then_finished c b q ≡ d.then_finished c b q = ap (λ f. f b q) (facts.keeps.then_finished c (inl o)) in omega arith)
@@ -119,41 +119,29 @@ fresh_noted many d view e = record {
   finished = λ b o. omega arith;
   floors = λ b o. omega arith;
   jobs = λ a x script g. subst (λ (v : AbstractActor). v.task ≡ Some script → None ≡ Some script.job) (replicated many a abstract_resting x g) (λ e. absurd (cc));
-  asked = λ a x script g. subst (λ (v : AbstractActor). v.task ≡ Some script → flushes script.job ≡ true → (b o : ℕ) → 0 ≤ d.then_finished a b o) (replicated many a abstract_resting x g) (λ e. absurd (cc));
+  asked = λ a x script g. subst (λ (v : AbstractActor). v.task ≡ Some script → flushes script.job ≡ true → AtMost (λ b o. 0) (d.then_finished a)) (replicated many a abstract_resting x g) (λ e. absurd (cc));
   entered = λ a x script g t. tt;
 }
 
+-- after the record the world is this one
+moved : (size : ℕ) (w v : World) (d : Volume) (n : AbstractNotes) (r : Record) (acts : List Act) → after_record w r ≡ v → IsActs d acts → Linked size v (after_acts d acts) → Noted v.actors (after_acts d acts) (abstract_note n r) → AbstractRight n r → Moves size w d n r
+moved size w v d n r acts is run linked noted right = record {
+  acts = acts;
+  run = run;
+  linked = subst (λ (v : World). Linked size v (after_acts d acts)) (sym is) linked;
+  noted = subst (λ (v : World). Noted v.actors (after_acts d acts) (abstract_note n r)) (sym is) noted;
+  right = right;
+}
+
 pub moves : (size : ℕ) (w : World) (d : Volume) (n : AbstractNotes) (r : Record) → Linked size w d → Noted w.actors d n → AbstractMay size w r → Moves size w d n r
-moves size w d n (Start a job) i k m = record {
-  acts = start_acts a job;
-  run = start_run a d job;
-  linked = subst (λ (v : World). Linked size v (after_acts d (start_acts a job))) (sym (start_is size w a job m.0 m.1)) (start_linked size w d a m.0 job i m.1);
-  noted = subst (λ (v : World). Noted v.actors (after_acts d (start_acts a job)) (abstract_note n (Start a job))) (sym (start_is size w a job m.0 m.1)) (started_noted size w d n a m.0 job (start_keeps size w d a m.0 job i m.1.task) k m.1.actor);
-  right = tt;
-}
-moves size w d n (Again a job) i k m = record {
-  acts = start_acts a job;
-  run = start_run a d job;
-  linked = subst (λ (v : World). Linked size v (after_acts d (start_acts a job))) (sym (again_is size w a job m.0 m.1)) (again_linked size w d a m.0 job i m.1);
-  noted = subst (λ (v : World). Noted v.actors (after_acts d (start_acts a job)) (abstract_note n (Again a job))) (sym (again_is size w a job m.0 m.1)) (started_noted size w d n a m.0 job (start_keeps size w d a m.0 job i m.1.task) k m.1.actor);
-  right = tt;
-}
+moves size w d n (Start a job) i k m = moved size w _ d n (Start a job) (start_acts a job) (start_is size w a job m.0 m.1) (start_run a d job) (start_linked size w d a m.0 job i m.1) (started_noted size w d n a m.0 job (start_keeps size w d a m.0 job i m.1.task) k m.1.actor) tt
+moves size w d n (Again a job) i k m = moved size w _ d n (Again a job) (start_acts a job) (again_is size w a job m.0 m.1) (start_run a d job) (again_linked size w d a m.0 job i m.1) (started_noted size w d n a m.0 job (start_keeps size w d a m.0 job i m.1.task) k m.1.actor) tt
 moves size w d n (Step a next got) i k m =
     let step = m.2 in
     let job : n.jobs a ≡ Some m.1.job = k.jobs a m.0 m.1 step.actor step.task in
     let good = step_facts size w d a m.0 m.1 next got i step in
-    let is : abstract_noted_step n a (n.jobs a) next ≡ abstract_noted_step n a (Some m.1.job) (abstract_want m.1) = ap (λ o. abstract_noted_step n a o next) job ∙ ap (λ v. abstract_noted_step n a (Some m.1.job) v) step.asked in record {
-      acts = acts_of w.shared.mapping a m.1.job m.0.buffer (abstract_want m.1) got;
-      run = good.run;
-      linked = subst (λ (v : World). Linked size v (after_acts d (acts_of w.shared.mapping a m.1.job m.0.buffer (abstract_want m.1) got))) (sym (step_is w a next got m.0 m.1 step)) (step_linked size w d a m.0 m.1 next got i step);
-      noted = subst (λ (v : World). Noted v.actors (after_acts d (acts_of w.shared.mapping a m.1.job m.0.buffer (abstract_want m.1) got)) (abstract_note n (Step a next got))) (sym (step_is w a next got m.0 m.1 step))
-          (subst (λ (v : AbstractNotes). Noted (stepped w a m.0 m.1 got).actors (after_acts d (acts_of w.shared.mapping a m.1.job m.0.buffer (abstract_want m.1) got)) v) (sym is) (step_noted size w d n a m.0 m.1 next got i k step));
-      right = subst (λ (v : Want). AbstractGivesLatest n.histories (n.jobs a) v got) (sym step.asked) (subst (λ (v : Option Job). AbstractGivesLatest n.histories v (abstract_want m.1) got) (sym job) (reads_right n.histories m.1.job (abstract_want m.1) got d k.histories good.right.reads));
-    }
-moves size w d n (Release k) i k' m = record {
-  acts = [];
-  run = tt;
-  linked = subst (λ (v : World). Linked size v d) (sym (release_is w k m.0 m.1)) (release_linked size w d k m.0 i m.1 m.2);
-  noted = subst (λ (v : World). Noted v.actors d n) (sym (release_is w k m.0 m.1)) k';
-  right = tt;
-}
+    let is : abstract_noted_step n a (n.jobs a) next ≡ abstract_noted_step n a (Some m.1.job) (abstract_want m.1) = ap (λ o. abstract_noted_step n a o next) job ∙ ap (λ v. abstract_noted_step n a (Some m.1.job) v) step.asked in
+    moved size w (stepped w a m.0 m.1 got) d n (Step a next got) (acts_of w.shared.mapping a m.1.job m.0.buffer (abstract_want m.1) got) (step_is w a next got m.0 m.1 step) good.run (step_linked size w d a m.0 m.1 next got i step)
+    (subst (λ (v : AbstractNotes). Noted (stepped w a m.0 m.1 got).actors (after_acts d (acts_of w.shared.mapping a m.1.job m.0.buffer (abstract_want m.1) got)) v) (sym is) (step_noted size w d n a m.0 m.1 next got i k step))
+    (subst (λ (v : Want). AbstractGivesLatest n.histories (n.jobs a) v got) (sym step.asked) (subst (λ (v : Option Job). AbstractGivesLatest n.histories v (abstract_want m.1) got) (sym job) (reads_right n.histories m.1.job (abstract_want m.1) got d k.histories good.right.reads)))
+moves size w d n (Release k) i k' m = moved size w _ d n (Release k) [] (release_is w k m.0 m.1) tt (release_linked size w d k m.0 i m.1 m.2) k' tt

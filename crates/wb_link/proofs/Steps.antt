@@ -8,7 +8,7 @@ use Rattle.wb_contents.specs.Conditions.{IsRunOfActs as IsActs}
 use Rattle.wb_link.specs.Tables.{Order, Answer, Want, Look_fail, Share, Own, Begin_clean, End, Got, Done, Flag, Script, abstract_want}
 use Rattle.wb_link.specs.World.{ShareNoBlock, is_alone, job_alone, task_after, Nothing, Shared, Owns, AbstractActor, World, Step, effect, actor_after, held_after, AbstractGives, Wins, MayStep, step_task, step_actor, after_record, drops}
 use Rattle.wb_link.proofs.Views.{block_view}
-use Rattle.wb_link.proofs.Acts.{Keeps, NotBlock}
+use Rattle.wb_link.proofs.Acts.{Keeps, KeepsPlaces}
 use Rattle.wb_link.proofs.Link.{Ordered, Turns, Placing, Rests, RestsAt, NobodyAlone, Ready, Owes, Receives, Right, Goes, Next, Safe, Disjoint, Unowned, Linked, acts_of}
 use Rattle.wb_contents.proofs.Lists.{set_there, set_other}
 use Rattle.wb_link.proofs.Steady.{Acted, acted}
@@ -173,7 +173,7 @@ step_linked size w d a x script asked got i m = record {
   turns_aside k q r = keeps.state (undropped k q r) q.cache (λ p m2 e2. (i.aside.apart k q a x p r m.actor m2).1 e2) (i.aside.stands k q r)
 
   -- where it stands no order of this actor's
-  stays : drops x.task ≡ false → (b : ℕ) → NotBlock x b → t.mapping b ≡ s.mapping b
+  stays : KeepsPlaces x s.mapping t.mapping
   stays h b n = ap (λ h. h b) first.agrees.mapping ∙ done.keeps.location h b n ∙ sym (ap (λ h. h b) i.good.agrees.mapping)
 
   same_mode : d.mode ≢ Passthrough → e.mode ≢ Passthrough

@@ -12,7 +12,7 @@ use Rattle.wb_link.specs.World.{Shared, Nothing, Owns, AbstractActor, Within, Al
 use Rattle.wb_link.specs.Clerk.{added_each}
 use Rattle.wb_link.proofs.Views.{BlockView, block_view}
 use Rattle.wb_link.proofs.Effects.{put_sector_desk}
-use Rattle.wb_link.proofs.Link.{Agrees, Rests, RestsAt, Safe, landed_or, if_so, origin_acts}
+use Rattle.wb_link.proofs.Link.{Agrees, Rests, RestsAt, Safe, SealsDirty, landed_or, if_so, origin_acts}
 use Rattle.wb_link.proofs.Sweeping.{Leads, Sweep, sweep, sweeps}
 use Rattle.wb_link.proofs.Agreeing.{based_write_agrees, through_agrees, finish_agrees, lose_agrees}
 use Rattle.wb_link.proofs.Copying.{contains_cases, contains_more}
@@ -31,7 +31,7 @@ Settled v i = (v.standing i ≡ Whole) × (v.finished i ≡ length (v.histories 
 
 record Mapped_at (k : ℕ) (seal : Seal) (v : BlockView) : Type 0 where
   location : seal.location ≡ v.location
-  dirty : (j : ℕ) → v.location ≡ Some j → seal.dirty ≡ v.dirty
+  dirty : SealsDirty seal v
   route : Some k ≡ v.location
 
 -- between the two steps: these sectors are half written

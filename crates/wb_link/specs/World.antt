@@ -167,14 +167,20 @@ abbrev pub newest_at : Shared → Option ℕ → ℕ → ℕ → Content
 newest_at s None b o = newest (s.origin b o)
 newest_at s (Some k) b o = newest (s.cache k o)
 
--- a commit of the ticket's number or a later one has ended, or none has
+-- once commits have ended up to this number: the ticket's is among them, or is not
+abbrev pub IsServed : (ended : ℕ) → Option ℕ → Type 0
+IsServed ended None = ⊥
+IsServed ended (Some k) = k ≤ ended
+
+abbrev pub IsUnserved : (ended : ℕ) → Option ℕ → Type 0
+IsUnserved ended None = Unit {0}
+IsUnserved ended (Some k) = ended < k
+
 abbrev pub Serves : Shared → Option ℕ → Type 0
-Serves s None = ⊥
-Serves s (Some k) = k ≤ s.ended
+Serves s = IsServed s.ended
 
 abbrev pub Unserved : Shared → Option ℕ → Type 0
-Unserved s None = Unit {0}
-Unserved s (Some k) = s.ended < k
+Unserved s = IsUnserved s.ended
 
 -- at these offsets both are the same
 abbrev pub AreAlike : List ℕ → (ℕ → Content) → (ℕ → Content) → Type 0
