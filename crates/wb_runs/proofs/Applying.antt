@@ -40,14 +40,9 @@ use Rattle.wb_runs.proofs.Desks.{one_order, found_where}
 
 one_device : (a b : Dev) → Decided (a ≡ b)
 one_device Metadata Metadata = inl refl
-one_device Metadata Cache = inr (λ e. absurd (cc))
-one_device Metadata Origin = inr (λ e. absurd (cc))
-one_device Cache Metadata = inr (λ e. absurd (cc))
 one_device Cache Cache = inl refl
-one_device Cache Origin = inr (λ e. absurd (cc))
-one_device Origin Metadata = inr (λ e. absurd (cc))
-one_device Origin Cache = inr (λ e. absurd (cc))
 one_device Origin Origin = inl refl
+one_device a b = inr (λ e. absurd (cc))
 
 of_all : {X : Type 0} (P : X → Type 0) → ((x : X) → Decided (P x)) → (xs : List X) → Decided (All P xs)
 of_all P one [] = inl (All-nil P)
@@ -116,9 +111,7 @@ may_fail device choice sectors = elim (two_of (of_all (λ (name : NamedContent).
 
 pub may_fail_at : (devices : Devices (List History)) (choice : Choice) (next : Want) → Decided (MayFailAt devices choice next)
 may_fail_at devices choice (Device step) = may_fail (device_of step) choice (length (device_in (device_of step) devices))
-may_fail_at devices choice (Cell step) = inr (λ m. m)
-may_fail_at devices choice (Desk step) = inr (λ m. m)
-may_fail_at devices choice (End answer) = inr (λ m. m)
+may_fail_at devices choice next = inr (λ m. m)
 
 is_passthrough : (mode : Mode) → Decided (mode ≡ Passthrough)
 is_passthrough Writeback = inr (λ e. absurd (cc))
@@ -136,26 +129,8 @@ out_of_place (Stands t) (Invalidate block) = elim (is_passthrough t.desk.mode) [
   | inl past ↦ inr (λ o. o past)
   | inr other ↦ inl other
 ]
-out_of_place Gone (Invalidate block) = inl (λ f. f)
-out_of_place (Opens m r) (Invalidate block) = inl (λ f. f)
-out_of_place (Stands t) (Read extent) = inr (λ o. o tt)
-out_of_place (Stands t) (Write extent content) = inr (λ o. o tt)
-out_of_place (Stands t) Flush = inr (λ o. o tt)
-out_of_place (Stands t) Suspend = inr (λ o. o tt)
-out_of_place (Stands t) (Migrate migration block) = inr (λ o. o tt)
-out_of_place (Stands t) (Replace old new) = inr (λ o. o tt)
-out_of_place Gone (Migrate migration block) = inl (λ f. f)
-out_of_place (Opens m r) (Migrate migration block) = inl (λ f. f)
-out_of_place Gone (Replace old new) = inl (λ f. f)
-out_of_place (Opens m r) (Replace old new) = inl (λ f. f)
-out_of_place Gone (Read extent) = inl (λ f. f)
-out_of_place Gone (Write extent content) = inl (λ f. f)
-out_of_place Gone Flush = inl (λ f. f)
-out_of_place Gone Suspend = inl (λ f. f)
-out_of_place (Opens m r) (Read extent) = inl (λ f. f)
-out_of_place (Opens m r) (Write extent content) = inl (λ f. f)
-out_of_place (Opens m r) Flush = inl (λ f. f)
-out_of_place (Opens m r) Suspend = inl (λ f. f)
+out_of_place (Stands t) job = inr (λ o. o tt)
+out_of_place phase job = inl (λ f. f)
 
 -- ---- orders
 
@@ -188,18 +163,12 @@ not_passthrough mode = elim (is_passthrough mode) [
 ]
 
 is_free_block : (o : Option Block) → Decided (o ≡ Some Free)
-is_free_block None = inr (λ e. cc)
 is_free_block (Some Free) = inl refl
-is_free_block (Some Mapped) = inr (λ e. cc)
-is_free_block (Some Reserved) = inr (λ e. cc)
-is_free_block (Some (Quarantined claimed early)) = inr (λ e. cc)
+is_free_block o = inr (λ e. cc)
 
 is_reserved_block : (o : Option Block) → Decided (o ≡ Some Reserved)
-is_reserved_block None = inr (λ e. cc)
-is_reserved_block (Some Free) = inr (λ e. cc)
-is_reserved_block (Some Mapped) = inr (λ e. cc)
 is_reserved_block (Some Reserved) = inl refl
-is_reserved_block (Some (Quarantined claimed early)) = inr (λ e. cc)
+is_reserved_block o = inr (λ e. cc)
 
 is_vacant : (o : Option (Option LiveOrder)) → Decided (o ≡ Some None)
 is_vacant None = inr (λ e. cc)
@@ -277,9 +246,7 @@ is_followed block cache (ReplaceOrder v x c) = elim (one_order (ReplaceOrder v x
   | inl same ↦ inl (v, same)
   | inr other ↦ inr (λ f. other (let e = f.1 in cc))
 ]
-is_followed block cache (PromoteOrder b c) = inr (λ f. absurd (let e = f.1 in cc))
-is_followed block cache (DemoteOrder b) = inr (λ f. absurd (let e = f.1 in cc))
-is_followed block cache (CleanOrder b) = inr (λ f. absurd (let e = f.1 in cc))
+is_followed block cache order = inr (λ f. absurd (let e = f.1 in cc))
 
 may_follow : {P : Type 0} (desk : DeskState P) (kept : List Order) (block : OBlock) (cache : CBlock) → Decided (MayFollow desk kept block cache)
 may_follow desk kept block cache = elim (two_of (some_order (λ o. (old : OBlock) × (o ≡ ReplaceOrder old block cache)) (is_followed block cache) kept) (is_reserved_block (slice_get desk.space.blocks cache.0))) [

@@ -226,9 +226,7 @@ module _ (shape : Shape) where
   work_inside (OnBlock (Displacing part)) seal j s = work_displaces shape part j (place_in seal) (dirty_in seal) (place_inside shape.geometry.cache_blocks seal s)
   work_inside (OnBlock (Invalidating part)) seal j s = work_has (λ place dirty ws. AllInside shape ws) (Invalidating part) (record { drops = λ c dirty ws r. (tt, (tt, r)); last = λ dirty. (tt, tt) }) (place_in seal) (dirty_in seal)
   work_inside (OnBlock (Migrating migration part)) seal j s = work_migrates shape part j.0 migration (place_in seal) (dirty_in seal) j.1 (place_inside shape.geometry.cache_blocks seal s)
-  work_inside (Flushing serves most) seal j s = tt
-  work_inside (Suspending blocks most) seal j s = tt
-  work_inside (Opening left) seal j s = tt
+  work_inside job seal j s = tt
 
   -- what a suspend has to look at
   pub looks_inside : (blocks : List OBlock) (most : ℕ) → AllInside shape (seal_looks blocks ++ Desk (BeginCommit most) ∷ [])
@@ -238,16 +236,11 @@ module _ (shape : Shape) where
   -- what is left once the seal was looked at
   seeing_inside : (job : TaskJob) (b : OBlock) (seal : ℕ) (ws : List Want) → JobInside shape job → SealInside shape.geometry.cache_blocks seal → AllInside shape ws → AllInside shape (steps_seeing job b seal ws)
   seeing_inside (OnBlock job) b seal ws j s a = (tt, work_inside (OnBlock job) seal j s)
-  seeing_inside (Flushing serves most) b seal ws j s a = a
-  seeing_inside (Suspending blocks most) b seal ws j s a = a
-  seeing_inside (Opening left) b seal ws j s a = a
+  seeing_inside job b seal ws j s a = a
 
   gives_up_inside : (job : BlockJob) → AllInside shape (gives_up job)
-  gives_up_inside (Reading part) = tt
-  gives_up_inside (Writing part) = tt
-  gives_up_inside (Displacing part) = tt
-  gives_up_inside (Invalidating part) = tt
   gives_up_inside (Migrating migration part) = (tt, tt)
+  gives_up_inside job = tt
 
   orders_inside : (blocks : List OBlock) → AllInside shape (release_orders blocks)
   orders_inside [] = tt
@@ -261,15 +254,11 @@ module _ (shape : Shape) where
 
   gives_back_inside : (job : TaskJob) → AllInside shape (gives_back job)
   gives_back_inside (OnBlock job) = (tt, tt)
-  gives_back_inside (Flushing serves most) = tt
-  gives_back_inside (Suspending blocks most) = tt
-  gives_back_inside (Opening left) = tt
+  gives_back_inside job = tt
 
   exchange_inside : (job : TaskJob) (seen : ℕ) → AllInside shape (exchange job seen)
   exchange_inside (OnBlock job) seen = (tt, (tt, tt))
-  exchange_inside (Flushing serves most) seen = tt
-  exchange_inside (Suspending blocks most) seen = tt
-  exchange_inside (Opening left) seen = tt
+  exchange_inside job seen = tt
 
   nodes_inside : (count first : ℕ) → AllInside shape (node_writes count first ++ root_steps)
   nodes_inside zero first = (tt, (tt, (tt, (tt, tt))))
@@ -292,14 +281,10 @@ module _ (shape : Shape) where
 
   fault_inside : (job : TaskJob) (step : DeviceStep) → AllInside shape (Rattle.wb_tasks.specs.Plan.after_fault_of job step)
   fault_inside (OnBlock job) (ReadExtent d e) = (tt, gives_up_inside job)
-  fault_inside (OnBlock job) (WriteExtent d e) = (tt, tt)
-  fault_inside (OnBlock job) (Sync d) = (tt, tt)
-  fault_inside (OnBlock job) (ReadMetadata k) = (tt, tt)
-  fault_inside (OnBlock job) (WriteNode k) = (tt, tt)
-  fault_inside (OnBlock job) WriteRoot = (tt, tt)
   fault_inside (Flushing serves most) step = (tt, (tt, tt))
   fault_inside (Suspending blocks most) step = (tt, (tt, tt))
   fault_inside (Opening left) step = tt
+  fault_inside (OnBlock job) step = (tt, tt)
 
   begin_refused : (job : TaskJob) (refusal : Refusal) → AllInside shape (Rattle.wb_tasks.specs.Plan.lets_go_unless_failed job refusal)
   begin_refused job Failed = tt
@@ -323,60 +308,27 @@ module _ (shape : Shape) where
       by_test : (t : Bool) → AllInside shape (if t then Rattle.wb_tasks.specs.Plan.refused (plan_of job (Cell (Look (Number b)) ∷ ws) answer) (gives_back job) Rattle.wb_types.specs.declared.refusal.Refusal.TheVariants.Worn else Rattle.wb_tasks.specs.Plan.onward (plan_of job (Cell (Look (Number b)) ∷ ws) answer)).steps
       by_test true = gives_back_inside job
       by_test false = a.1
-  look_inside job (Cell (Look (CountWord kind))) ws answer value j a s = a.1
-  look_inside job (Cell (Take access b seen)) ws answer value j a s = a.1
-  look_inside job (Cell (Release access b)) ws answer value j a s = a.1
-  look_inside job (Cell (Seal b place dirty)) ws answer value j a s = a.1
-  look_inside job (Cell (Finish b)) ws answer value j a s = a.1
-  look_inside job (Cell (Count kind)) ws answer value j a s = a.1
-  look_inside job (Cell SetFailed) ws answer value j a s = a.1
-  look_inside job (Cell SetSuspended) ws answer value j a s = a.1
-  look_inside job (Device step) ws answer value j a s = a.1
-  look_inside job (Desk step) ws answer value j a s = a.1
-  look_inside job (End end) ws answer value j a s = a.1
+  look_inside job w ws answer value j a s = a.1
 
   fault_of : (job : TaskJob) (w : Want) (ws : List Want) (answer : Answer) → AllInside shape (w ∷ ws) → AllInside shape (after_fault (plan_of job (w ∷ ws) answer) w).steps
   fault_of job (Device step) ws answer a = fault_inside job step
-  fault_of job (Cell step) ws answer a = a
-  fault_of job (Desk step) ws answer a = a
-  fault_of job (End end) ws answer a = a
+  fault_of job w ws answer a = a
 
   refusal_of : (job : TaskJob) (w : Want) (ws : List Want) (answer : Answer) (refusal : Refusal) → AllInside shape (w ∷ ws) → AllInside shape (after_refusal (plan_of job (w ∷ ws) answer) w refusal).steps
   refusal_of job (Desk (Arrive most)) ws answer refusal a = begin_refused job refusal
   refusal_of job (Desk (Ask most)) ws answer refusal a = begin_refused job refusal
-  refusal_of job (Desk (BeginCommit most)) ws answer refusal a = lets_go_inside job
-  refusal_of job (Desk EndCommit) ws answer refusal a = lets_go_inside job
-  refusal_of job (Desk BreakCommit) ws answer refusal a = lets_go_inside job
-  refusal_of job (Desk (Map b c)) ws answer refusal a = lets_go_inside job
-  refusal_of job (Desk (Unmap b)) ws answer refusal a = lets_go_inside job
-  refusal_of job (Desk (ReleaseOrder b)) ws answer refusal a = lets_go_inside job
   refusal_of job (Cell step) ws answer refusal a = tt
   refusal_of job (Device step) ws answer refusal a = tt
   refusal_of job (End end) ws answer refusal a = tt
+  refusal_of job w ws answer refusal a = lets_go_inside job
 
   more_of : (job : TaskJob) (w : Want) (ws : List Want) (answer : Answer) → AllInside shape (w ∷ ws) → AllInside shape (after_more (plan_of job (w ∷ ws) answer) w).steps
   more_of job (Device (ReadMetadata left)) ws answer a = (tt, a.1)
-  more_of job (Device (ReadExtent d e)) ws answer a = a.1
-  more_of job (Device (WriteExtent d e)) ws answer a = a.1
-  more_of job (Device (Sync d)) ws answer a = a.1
-  more_of job (Device (WriteNode k)) ws answer a = a.1
-  more_of job (Device WriteRoot) ws answer a = a.1
-  more_of job (Cell step) ws answer a = a.1
-  more_of job (Desk step) ws answer a = a.1
-  more_of job (End end) ws answer a = a.1
+  more_of job w ws answer a = a.1
 
   ticket_of : (job : TaskJob) (w : Want) (ws : List Want) (answer : Answer) → AllInside shape (w ∷ ws) → AllInside shape (after_ticket (plan_of job (w ∷ ws) answer) w).steps
   ticket_of job (Desk (Arrive most)) ws answer a = (tt, tt)
-  ticket_of job (Desk (Ask most)) ws answer a = a.1
-  ticket_of job (Desk (BeginCommit most)) ws answer a = a.1
-  ticket_of job (Desk EndCommit) ws answer a = a.1
-  ticket_of job (Desk BreakCommit) ws answer a = a.1
-  ticket_of job (Desk (Map b c)) ws answer a = a.1
-  ticket_of job (Desk (Unmap b)) ws answer a = a.1
-  ticket_of job (Desk (ReleaseOrder b)) ws answer a = a.1
-  ticket_of job (Device step) ws answer a = a.1
-  ticket_of job (Cell step) ws answer a = a.1
-  ticket_of job (End end) ws answer a = a.1
+  ticket_of job w ws answer a = a.1
 
   -- whatever a step gives, what is left is inside
   by_got : (job : TaskJob) (w : Want) (ws : List Want) (answer : Answer) (got : Got) → JobInside shape job → AllInside shape (w ∷ ws) → ((b : OBlock) (v : ℕ) → w ≡ Cell (Look (SealWord b)) → got ≡ Word v → SealInside shape.geometry.cache_blocks v) → AllInside shape (after (plan_of job (w ∷ ws) answer) got).steps

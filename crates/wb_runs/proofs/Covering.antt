@@ -67,25 +67,13 @@ Covers shape mode whole steps moved = CoversWhere (is_begun steps) shape mode wh
 
 -- what is left of the work of a job begins with no look at its seal
 rest_begun : (job : BlockJob) (next : Bool) (ws : List Want) → IsRest job next ws → is_begun ws ≡ true
-rest_begun job next [] r = refl
-rest_begun job next (Device step ∷ ws) r = refl
-rest_begun job next (Desk step ∷ ws) r = refl
-rest_begun job next (End answer ∷ ws) r = refl
-rest_begun job next (Cell (Seal b place dirty) ∷ ws) r = refl
-rest_begun job next (Cell (Finish b) ∷ ws) r = refl
-rest_begun job next (Cell (Count kind) ∷ ws) r = refl
-rest_begun job next (Cell (Release access b) ∷ ws) r = refl
-rest_begun job next (Cell SetFailed ∷ ws) r = refl
-rest_begun job next (Cell SetSuspended ∷ ws) r = refl
 rest_begun job next (Cell (Look word) ∷ ws) r = absurd r
 rest_begun job next (Cell (Take access b seen) ∷ ws) r = absurd r
+rest_begun job next ws r = refl
 
 parting_begun : (job : BlockJob) (ws : List Want) → IsParting job ws → is_begun ws ≡ true
-parting_begun job [] p = refl
-parting_begun job (Device step ∷ ws) p = refl
-parting_begun job (Desk step ∷ ws) p = refl
-parting_begun job (End answer ∷ ws) p = refl
 parting_begun job (Cell step ∷ ws) p = absurd p
+parting_begun job ws p = refl
 
 -- so it covers as before
 begun_covers : (shape : Shape) (mode : Mode) (whole : Extent) (ws : List Want) (moved : List ℕ) → is_begun ws ≡ true → IsPermutation (sectors_in whole) (moved ++ sectors_of (homes shape whole (extents_left mode ws))) → Covers shape mode whole ws moved
@@ -167,10 +155,7 @@ seen (Writing part) seal answer f = by_mode part.mode (place_in seal) f
     by_mode Writethrough place f = refl
     by_mode Passthrough None f = refl
     by_mode Passthrough (Some c) f = f
-seen (Reading part) seal answer f = refl
-seen (Displacing part) seal answer f = refl
-seen (Invalidating part) seal answer f = refl
-seen (Migrating migration part) seal answer f = refl
+seen job seal answer f = refl
 
 module _ (shape : Shape) (mode : Mode) (whole : Extent) (part : BlockRange) (cut : IsCutInto whole part.extents) (words : Words) (card : Card) (moved : List ℕ) where
   -- the task after a step, if it may still be answered done

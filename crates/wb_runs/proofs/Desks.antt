@@ -55,18 +55,7 @@ one_order (Replace v b c) (Replace w x k) = elim (cases_eq v.0 w.0) [
 ]
 one_order (Demote b) (Demote x) = elim (cases_eq b.0 x.0) [ inl e ↦ inl (ap (λ (i : ℕ). Demote (record { 0 = i })) e) | inr n ↦ inr (λ h. n (cc)) ]
 one_order (Clean b) (Clean x) = elim (cases_eq b.0 x.0) [ inl e ↦ inl (ap (λ (i : ℕ). Clean (record { 0 = i })) e) | inr n ↦ inr (λ h. n (cc)) ]
-one_order (Promote b c) (Replace w x k) = inr (λ h. absurd (cc))
-one_order (Promote b c) (Demote x) = inr (λ h. absurd (cc))
-one_order (Promote b c) (Clean x) = inr (λ h. absurd (cc))
-one_order (Replace v b c) (Promote x k) = inr (λ h. absurd (cc))
-one_order (Replace v b c) (Demote x) = inr (λ h. absurd (cc))
-one_order (Replace v b c) (Clean x) = inr (λ h. absurd (cc))
-one_order (Demote b) (Promote x k) = inr (λ h. absurd (cc))
-one_order (Demote b) (Replace w x k) = inr (λ h. absurd (cc))
-one_order (Demote b) (Clean x) = inr (λ h. absurd (cc))
-one_order (Clean b) (Promote x k) = inr (λ h. absurd (cc))
-one_order (Clean b) (Replace w x k) = inr (λ h. absurd (cc))
-one_order (Clean b) (Demote x) = inr (λ h. absurd (cc))
+one_order o p = inr (λ h. absurd (cc))
 
 -- somebody has taken the order, which is this one
 pub record IsThe (order : Order) (o : LiveOrder) : Type 0 where

@@ -108,6 +108,4 @@ module _ (P A : Type 0) (shape : Shape) where
         by_commit : (commit : Option RunningCommit) → commit ≡ None → K i w.phase commit m → T i (phase_then shape w.phase (Device (ReadMetadata left)) Fault Plain) (commit_then w.phase commit (Device (ReadMetadata left)) Fault Plain) m
         by_commit None e k = reading_failed i w.phase m left k
         by_commit (Some c) e k = absurd (cc)
-    failed_kept i buffer job (Cell step) k g = absurd g
-    failed_kept i buffer job (Desk step) k g = absurd g
-    failed_kept i buffer job (End answer) k g = absurd g
+    failed_kept i buffer job next k g = absurd g

@@ -125,13 +125,7 @@ some_task Holds holds (x ∷ xs) = first_or_later Holds holds x xs (some_task Ho
 
 is_suspend : (job : Job) → Decided (job ≡ Suspend)
 is_suspend Suspend = inl refl
-is_suspend (Read extent) = inr (λ e. absurd (cc))
-is_suspend (Write extent content) = inr (λ e. absurd (cc))
-is_suspend Flush = inr (λ e. absurd (cc))
-is_suspend (Open mode second) = inr (λ e. absurd (cc))
-is_suspend (Invalidate block) = inr (λ e. absurd (cc))
-is_suspend (Migrate migration block) = inr (λ e. absurd (cc))
-is_suspend (Replace old new) = inr (λ e. absurd (cc))
+is_suspend job = inr (λ e. absurd (cc))
 
 abbrev mapped_in : List (Option Entry) → List OBlock
 mapped_in [] = []
@@ -162,16 +156,7 @@ awaits desk share (Desk (Ask most)) = elim (is_covered desk share) [
     ]
   ]
 ]
-awaits desk share (Desk (Arrive most)) = inr (λ m. m)
-awaits desk share (Desk (BeginCommit most)) = inr (λ m. m)
-awaits desk share (Desk EndCommit) = inr (λ m. m)
-awaits desk share (Desk BreakCommit) = inr (λ m. m)
-awaits desk share (Desk (Map b c)) = inr (λ m. m)
-awaits desk share (Desk (Unmap b)) = inr (λ m. m)
-awaits desk share (Desk (ReleaseOrder b)) = inr (λ m. m)
-awaits desk share (Cell step) = inr (λ m. m)
-awaits desk share (Device step) = inr (λ m. m)
-awaits desk share (End answer) = inr (λ m. m)
+awaits desk share next = inr (λ m. m)
 
 module _ (P A : Type 0) (shape : Shape) (policy : P) (first : ReadSteps A) (begins : sectors_read first ≡ 0) where
   -- ---- what is left of a task can go on
@@ -232,13 +217,7 @@ module _ (P A : Type 0) (shape : Shape) (policy : P) (first : ReadSteps A) (begi
         opens : (mode : Mode) (reading : Option (ReadSteps A)) → AtOpening shape.geometry kept.base.known.images reading w.commit w.devices.metadata → (job : Job) → IsOpeningJob mode job → OpenJob reading w.commit job k.plan → CanGive {P = P} {A = A} shape (At (Opens mode reading)) k.actor job (want k.plan)
         opens mode reading known (Open m' second) o f = subst (λ (p : Plan). CanGive {P = P} {A = A} shape (At (Opens mode reading)) k.actor (Open m' second) (want p)) (sym f.is)
             (open_gives P A shape w.devices w.commit w.actors k.actor mode m' second reading kept.base.known.images known f.sectors policy first begins f.point f.at)
-        opens mode reading known (Read extent) o f = absurd o
-        opens mode reading known (Write extent content) o f = absurd o
-        opens mode reading known Flush o f = absurd o
-        opens mode reading known Suspend o f = absurd o
-        opens mode reading known (Invalidate block) o f = absurd o
-        opens mode reading known (Migrate migration block) o f = absurd o
-        opens mode reading known (Replace old new) o f = absurd o
+        opens mode reading known job o f = absurd o
 
     fails_on : (choice : Choice) → MayFailAt w.devices choice (want k.plan) → CanFalter w choice (want k.plan)
     fails_on choice m = by_phase (λ phase job plan. CanFalter {P = P} {A = A} (At phase) choice (want plan)) (λ t known leader s f. stands t known leader k.job s f claim.claim) (λ mode reading known o f. opens mode reading known k.job o f)
@@ -258,13 +237,7 @@ module _ (P A : Type 0) (shape : Shape) (policy : P) (first : ReadSteps A) (begi
         opens : (mode : Mode) (reading : Option (ReadSteps A)) → AtOpening shape.geometry kept.base.known.images reading w.commit w.devices.metadata → (job : Job) → IsOpeningJob mode job → OpenJob reading w.commit job k.plan → CanFalter {P = P} {A = A} (At (Opens mode reading)) choice (want k.plan)
         opens mode reading known (Open m' second) o f = subst (λ (p : Plan). CanFalter {P = P} {A = A} (At (Opens mode reading)) choice (want p)) (sym f.is)
             (open_falters P A shape w.devices w.commit w.actors k.actor mode m' second reading kept.base.known.images known f.sectors policy first begins choice f.point f.at (subst (λ (p : Plan). MayFailAt w.devices choice (want p)) f.is m))
-        opens mode reading known (Read extent) o f = absurd o
-        opens mode reading known (Write extent content) o f = absurd o
-        opens mode reading known Flush o f = absurd o
-        opens mode reading known Suspend o f = absurd o
-        opens mode reading known (Invalidate block) o f = absurd o
-        opens mode reading known (Migrate migration block) o f = absurd o
-        opens mode reading known (Replace old new) o f = absurd o
+        opens mode reading known job o f = absurd o
 
   -- ---- every event
 

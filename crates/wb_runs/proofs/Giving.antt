@@ -293,12 +293,7 @@ module _ (P A : Type 0) (shape : Shape) (devices : Devices (List History)) (comm
       read_gives extent part (Device (ReadExtent d e)) i s = let r = contents_from (device_in d devices) e.count e.first (omega (arith, s, sizes d i)) in
           record { got = Done; read = r.0; chosen = Plain; gives = (i, refl, refl, r.1, r.2) }
       read_gives extent part (End answer) i s = record { got = Done; read = []; chosen = Plain; gives = ((refl, refl), refl) }
-      read_gives extent part (Device (WriteExtent d e)) i s = absurd i
-      read_gives extent part (Device (Sync d)) i s = absurd i
-      read_gives extent part (Device (ReadMetadata k)) i s = absurd i
-      read_gives extent part (Device (WriteNode k)) i s = absurd i
-      read_gives extent part (Device WriteRoot) i s = absurd i
-      read_gives extent part (Desk step) i s = absurd i
+      read_gives extent part next i s = absurd i
 
       -- the desk takes a block out of the cache
       unmaps : (job : Job) (block : OBlock) → IsSound t.desk.tree → ((new : DeskState P) → DidUnmap (λ policy b. new.policy) block t.desk new → Gives shape w x job (Desk (Unmap block)) Done [] (Asks new)) → CanGive shape w x job (Desk (Unmap block))
@@ -313,31 +308,13 @@ module _ (P A : Type 0) (shape : Shape) (devices : Devices (List History)) (comm
           by_next (Device (WriteExtent d e)) i s = record { got = Done; read = []; chosen = Plain; gives = (i, (refl, refl), refl, omega (arith, s, sizes d i)) }
           by_next (Desk (Unmap block)) i s = unmaps (Write extent content) block sound (λ new did. (refl, refl, did))
           by_next (End answer) i s = record { got = Done; read = []; chosen = Plain; gives = ((refl, refl), refl) }
-          by_next (Device (ReadExtent d e)) i s = absurd i
-          by_next (Device (Sync d)) i s = absurd i
-          by_next (Device (ReadMetadata k)) i s = absurd i
-          by_next (Device (WriteNode k)) i s = absurd i
-          by_next (Device WriteRoot) i s = absurd i
-          by_next (Desk (Map block place)) i s = absurd i
-          by_next (Desk (ReleaseOrder block)) i s = absurd i
-          by_next (Desk (Arrive most)) i s = absurd i
-          by_next (Desk (Ask most)) i s = absurd i
-          by_next (Desk (BeginCommit most)) i s = absurd i
-          by_next (Desk EndCommit) i s = absurd i
-          by_next (Desk BreakCommit) i s = absurd i
+          by_next next i s = absurd i
 
       pub invalidation_gives : IsSound t.desk.tree → (block : OBlock) (part : BlockRange) (next : Want) → IsOwnStep (OnBlock (Invalidating part)) next → CanGive shape w x (Invalidate block) next
       invalidation_gives sound block part (Cell step) i = cell_gives (Invalidate block) step
       invalidation_gives sound block part (Desk (Unmap b)) i = unmaps (Invalidate block) b sound (λ new did. (refl, refl, did))
       invalidation_gives sound block part (End answer) i = record { got = Done; read = []; chosen = Plain; gives = ((refl, refl), refl) }
-      invalidation_gives sound block part (Desk (Map b place)) i = absurd i
-      invalidation_gives sound block part (Desk (ReleaseOrder b)) i = absurd i
-      invalidation_gives sound block part (Desk (Arrive most)) i = absurd i
-      invalidation_gives sound block part (Desk (Ask most)) i = absurd i
-      invalidation_gives sound block part (Desk (BeginCommit most)) i = absurd i
-      invalidation_gives sound block part (Desk EndCommit) i = absurd i
-      invalidation_gives sound block part (Desk BreakCommit) i = absurd i
-      invalidation_gives sound block part (Device step) i = absurd i
+      invalidation_gives sound block part next i = absurd i
 
       -- a migration's step; where a promotion asks for its entry there may be no memory for that
       pub migration_gives : IsSound t.desk.tree → (migration : Migration) (block : OBlock) (part : BlockRange) (next : Want) → IsOwnStep (OnBlock (Migrating migration part)) next → StepInside shape next → CanGive shape w x (Migrate migration block) next
@@ -348,15 +325,7 @@ module _ (P A : Type 0) (shape : Shape) (devices : Devices (List History)) (comm
       migration_gives sound migration block part (Desk (Unmap b)) i s = unmaps (Migrate migration block) b sound (λ new did. (refl, refl, did))
       migration_gives sound migration block part (Desk (ReleaseOrder b)) i s = let r = releases t.desk x.orders b kept in record { got = Done; read = []; chosen = Asks r.0; gives = (refl, refl, r.1) }
       migration_gives sound migration block part (End answer) i s = record { got = Done; read = []; chosen = Plain; gives = ((refl, refl), refl) }
-      migration_gives sound migration block part (Desk (Arrive most)) i s = absurd i
-      migration_gives sound migration block part (Desk (Ask most)) i s = absurd i
-      migration_gives sound migration block part (Desk (BeginCommit most)) i s = absurd i
-      migration_gives sound migration block part (Desk EndCommit) i s = absurd i
-      migration_gives sound migration block part (Desk BreakCommit) i s = absurd i
-      migration_gives sound migration block part (Device (Sync d)) i s = absurd i
-      migration_gives sound migration block part (Device (ReadMetadata k)) i s = absurd i
-      migration_gives sound migration block part (Device (WriteNode k)) i s = absurd i
-      migration_gives sound migration block part (Device WriteRoot) i s = absurd i
+      migration_gives sound migration block part next i s = absurd i
 
     -- where a step of a job of a block fails
     pub block_falters : (job : BlockJob) (choice : Choice) (next : Want) → IsOwnStep (OnBlock job) next → Rattle.wb_promise.specs.Happenings.MayFailAt devices choice next → CanFalter w choice next
@@ -365,29 +334,10 @@ module _ (P A : Type 0) (shape : Shape) (devices : Devices (List History)) (comm
     block_falters (Displacing part) choice (Device (WriteExtent d e)) i m = record { chosen = Plain; falters = (refl, subst HoldsBlocks (sym i) tt) }
     block_falters (Migrating migration part) choice (Device (ReadExtent d e)) i m = record { chosen = Plain; falters = (refl, subst HoldsBlocks (sym i) (source_holds migration)) }
     block_falters (Migrating migration part) choice (Device (WriteExtent d e)) i m = record { chosen = Plain; falters = (refl, subst HoldsBlocks (sym i) (target_holds migration)) }
-    block_falters (Reading part) choice (Device (WriteExtent d e)) i m = absurd i
-    block_falters (Writing part) choice (Device (ReadExtent d e)) i m = absurd i
-    block_falters (Displacing part) choice (Device (ReadExtent d e)) i m = absurd i
-    block_falters (Invalidating part) choice (Device step) i m = absurd i
-    block_falters (Reading part) choice (Device (Sync d)) i m = absurd i
-    block_falters (Reading part) choice (Device (ReadMetadata k)) i m = absurd i
-    block_falters (Reading part) choice (Device (WriteNode k)) i m = absurd i
-    block_falters (Reading part) choice (Device WriteRoot) i m = absurd i
-    block_falters (Writing part) choice (Device (Sync d)) i m = absurd i
-    block_falters (Writing part) choice (Device (ReadMetadata k)) i m = absurd i
-    block_falters (Writing part) choice (Device (WriteNode k)) i m = absurd i
-    block_falters (Writing part) choice (Device WriteRoot) i m = absurd i
-    block_falters (Displacing part) choice (Device (Sync d)) i m = absurd i
-    block_falters (Displacing part) choice (Device (ReadMetadata k)) i m = absurd i
-    block_falters (Displacing part) choice (Device (WriteNode k)) i m = absurd i
-    block_falters (Displacing part) choice (Device WriteRoot) i m = absurd i
-    block_falters (Migrating migration part) choice (Device (Sync d)) i m = absurd i
-    block_falters (Migrating migration part) choice (Device (ReadMetadata k)) i m = absurd i
-    block_falters (Migrating migration part) choice (Device (WriteNode k)) i m = absurd i
-    block_falters (Migrating migration part) choice (Device WriteRoot) i m = absurd i
     block_falters job choice (Cell step) i m = absurd m
     block_falters job choice (Desk step) i m = absurd m
     block_falters job choice (End answer) i m = absurd m
+    block_falters job choice next i m = absurd i
 
     module _ (images : Images) (known : AtDesk shape.geometry images t.desk commit devices.metadata) (answer : Answer) where
       abbrev F : CommitJob → FlushPoint → Plan
@@ -442,9 +392,7 @@ module _ (P A : Type 0) (shape : Shape) (devices : Devices (List History)) (comm
           record { chosen = Plain; falters = (refl, subst (λ (c : Option RunningCommit). Rattle.wb_promise.specs.Happenings.FailsSync {P = P} {A = A} (Stands t) c devices.metadata) (sym s.1) (s.2, tt)) }
 
       pub flush_gives : (job : CommitJob) (point : FlushPoint) → IsOf point job → AtFlush point commit → (¬ Awaits t.desk x.share (want (F job point))) → CanGive shape w x (doing_of job) (want (F job point))
-      flush_gives job ToLook of at goes_on = cell_gives (doing_of job) _
       flush_gives job (ToBegin []) of at goes_on = begin_can job
-      flush_gives job (ToBegin (block ∷ rest)) of at goes_on = cell_gives (doing_of job) _
       flush_gives job (ToSyncCache nodes) of at goes_on = (data_can job).0
       flush_gives job (ToSyncOrigin nodes) of at goes_on = (data_can job).1
       flush_gives job (ToWriteNodes zero from) of at goes_on = sync_gives job (from + 0) (NodesWritten from) at (λ i e. none_coming from i (let all : from + 0 ≡ from = omega arith in e ∙ all))
@@ -456,13 +404,12 @@ module _ (P A : Type 0) (shape : Shape) (devices : Devices (List History)) (comm
           done : (commit : Option RunningCommit) → Runs nodes Committed commit → Rattle.wb_stage.specs.Stages.is_all_done commit ≡ true
           done None r = absurd r
           done (Some c) r = ap (λ (s : CommitSteps). Rattle.wb_devices.specs.Committing.is_committed s) r.2
-      flush_gives job ToSetSuspended of at goes_on = cell_gives (doing_of job) _
-      flush_gives job ToSetFailed of at goes_on = cell_gives (doing_of job) _
       flush_gives job ToAsk of at goes_on = ask_can job of goes_on
       flush_gives job ToBreak of at goes_on = break_can job
       flush_gives job (ToRelease []) of at goes_on = answer_can job
       flush_gives (Flushes serves most) (ToRelease (block ∷ blocks)) of at goes_on = let r = releases t.desk x.awaiting block known.is.kept in record { got = Done; read = []; chosen = Asks r.0; gives = (refl, refl, r.1) }
       flush_gives (Suspends looks most) (ToRelease (block ∷ blocks)) of at goes_on = absurd of
+      flush_gives job point of at goes_on = cell_gives (doing_of job) _
 
       pub flush_falters : (job : CommitJob) (choice : Choice) (point : FlushPoint) → AtFlush point commit → Rattle.wb_promise.specs.Happenings.MayFailAt devices choice (want (F job point)) → CanFalter w choice (want (F job point))
       flush_falters job choice ToLook at m = absurd m
@@ -511,8 +458,6 @@ module _ (P A : Type 0) (shape : Shape) (devices : Devices (List History)) (comm
 
     pub open_gives : (point : OpenPoint) → AtOpen n point reading commit → CanGive shape v x (Open m' second) (want (O point))
     open_gives AtFirst at = record { got = Done; read = []; chosen = Begins first; gives = (refl, refl, subst (λ (c : Option RunningCommit). Rattle.wb_promise.specs.Happenings.DoesSync {P = P} {A = A} (Opens mode reading) c devices.metadata (Begins first)) (sym at.0) begins) }
-    open_gives AtCache at = record { got = Done; read = []; chosen = Plain; gives = ((refl, refl), refl) }
-    open_gives AtOrigin at = record { got = Done; read = []; chosen = Plain; gives = ((refl, refl), refl) }
     open_gives (AtRead left) at = reads_on left reading commit at.0 known at.1
     open_gives (AtNodes zero from) at = let all : from + 0 ≡ from = omega arith in let s = syncs_next P A (from + 0) commit devices.metadata (NodesWritten from) at opens_fit (λ i e. none_coming from i (e ∙ all)) in
         record { got = Done; read = []; chosen = Plain; gives = (refl, refl, subst (λ (c : Option RunningCommit). Rattle.wb_promise.specs.Happenings.DoesSync {P = P} {A = A} (Opens mode reading) c devices.metadata Plain) (sym s.1) (s.2, refl)) }
@@ -521,7 +466,7 @@ module _ (P A : Type 0) (shape : Shape) (devices : Devices (List History)) (comm
     open_gives AtRootSync at = let s = syncs_next P A at.0 commit devices.metadata RootWritten at.1 opens_fit (λ i e. refl) in
         record { got = Done; read = []; chosen = Plain; gives = (refl, refl, subst (λ (c : Option RunningCommit). Rattle.wb_promise.specs.Happenings.DoesSync {P = P} {A = A} (Opens mode reading) c devices.metadata Plain) (sym s.1) (s.2, refl)) }
     open_gives AtEnd at = record { got = Done; read = []; chosen = Opened policy; gives = (refl, refl, answers reading commit known at.0 at.1) }
-    open_gives (AtRefusal refusal) at = record { got = Done; read = []; chosen = Plain; gives = ((refl, refl), refl) }
+    open_gives point at = record { got = Done; read = []; chosen = Plain; gives = ((refl, refl), refl) }
 
     pub open_falters : (choice : Choice) (point : OpenPoint) → AtOpen n point reading commit → Rattle.wb_promise.specs.Happenings.MayFailAt devices choice (want (O point)) → CanFalter v choice (want (O point))
     open_falters choice AtFirst at m = record { chosen = Plain; falters = (refl, subst (λ (c : Option RunningCommit). Rattle.wb_promise.specs.Happenings.FailsSync {P = P} {A = A} (Opens mode reading) c devices.metadata) (sym at.0) tt) }

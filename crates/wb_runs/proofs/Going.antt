@@ -73,19 +73,13 @@ pub stays : (Makes : List OBlock → ℕ → CommitJob) (commit commit' : Option
 stays Makes commit commit' L L' plan k none = record { blocks = k.blocks; most = k.most; answer = k.answer; point = k.point; of = k.of; is = k.is; at = by_point k.point none; leads = λ i. absurd (none i) }
   where
     by_point : (p : FlushPoint) → (IsLeading p → ⊥) → AtFlush p commit'
-    by_point ToLook n = tt
-    by_point (ToBegin looks) n = tt
     by_point (ToSyncCache nodes) n = absurd (n tt)
     by_point (ToSyncOrigin nodes) n = absurd (n tt)
     by_point (ToWriteNodes left from) n = absurd (n tt)
     by_point (ToWriteRoot nodes) n = absurd (n tt)
     by_point (ToSyncRoot nodes) n = absurd (n tt)
     by_point (ToEnd nodes) n = absurd (n tt)
-    by_point ToSetSuspended n = tt
-    by_point ToSetFailed n = tt
-    by_point ToAsk n = tt
-    by_point ToBreak n = tt
-    by_point (ToRelease blocks) n = tt
+    by_point p n = tt
 
 -- where it stands after a step, and what became of the others
 pub record Moved (commit commit' : Option RunningCommit) (a leader : ℕ) (task : Option (Job × Plan)) : Type 0 where

@@ -155,35 +155,20 @@ module _ (P A : Type 0) (shape : Shape) where
 
   plain_read : (w : State P A) (actor : Actor) (got : Got) (read : List Bytes) (chosen : Chosen P A) (job : Job) (d : Dev) (e : Extent) → Gives shape w actor job (Device (ReadExtent d e)) got read chosen → chosen ≡ Plain
   plain_read w actor got read chosen (Read x) d e g = g.1
-  plain_read w actor got read chosen (Write x c) d e g = absurd g
-  plain_read w actor got read chosen Flush d e g = absurd g
-  plain_read w actor got read chosen Suspend d e g = absurd g
-  plain_read w actor got read chosen (Invalidate block) d e g = absurd g
-  plain_read w actor got read chosen (Open mode second) d e g = absurd g
   plain_read w actor got read chosen (Migrate migration block) d e g = g.1.1
-  plain_read w actor got read chosen (Replace old new) d e g = absurd g
+  plain_read w actor got read chosen job d e g = absurd g
 
   done_sizes : (w : State P A) (actor : Actor) (got : Got) (read : List Bytes) (chosen : Chosen P A) (job : Job) (buffer : List Bytes) (next : Want) → Gives shape w actor job next got read chosen → SameSizes w.devices (devices_then (λ step. device_done job buffer step chosen) w.devices next)
   done_sizes w actor got read chosen job buffer (Device (ReadExtent d e)) g = same_with d w.devices _ (λ h. ap (λ (c : Chosen P A). length (put_by c (device_in d w.devices))) (plain_read w actor got read chosen job d e g))
   done_sizes w actor got read chosen job buffer (Device (WriteExtent d e)) g = same_with d w.devices _ (λ h. length_written_where (λ at. true) (device_in d w.devices) e.first (contents_for job buffer e.count))
   done_sizes w actor got read chosen job buffer (Device (Sync d)) g = same_with d w.devices _ (λ h. length-map (device_in d w.devices) (λ (h : History). only (newest h)))
-  done_sizes w actor got read chosen job buffer (Device (ReadMetadata k)) g = (refl, refl)
-  done_sizes w actor got read chosen job buffer (Device (WriteNode k)) g = (refl, refl)
-  done_sizes w actor got read chosen job buffer (Device WriteRoot) g = (refl, refl)
-  done_sizes w actor got read chosen job buffer (Cell step) g = (refl, refl)
-  done_sizes w actor got read chosen job buffer (Desk step) g = (refl, refl)
-  done_sizes w actor got read chosen job buffer (End answer) g = (refl, refl)
+  done_sizes w actor got read chosen job buffer next g = (refl, refl)
 
   failed_sizes : (w : State P A) (choice : Choice) (chosen : Chosen P A) (job : Job) (buffer : List Bytes) (next : Want) → Falters w choice next chosen → SameSizes w.devices (devices_then (λ step. device_failed (lands (device_of step) choice) job buffer step chosen) w.devices next)
   failed_sizes w choice chosen job buffer (Device (ReadExtent d e)) g = same_with d w.devices _ (λ h. ap (λ (c : Chosen P A). length (put_by c (device_in d w.devices))) g.0)
   failed_sizes w choice chosen job buffer (Device (WriteExtent d e)) g = same_with d w.devices _ (λ h. length_written_where (lands d choice) (device_in d w.devices) e.first (contents_for job buffer e.count))
   failed_sizes w choice chosen job buffer (Device (Sync d)) g = same_with d w.devices _ (λ h. length-synced_from (lands d choice) 0 (device_in d w.devices))
-  failed_sizes w choice chosen job buffer (Device (ReadMetadata k)) g = (refl, refl)
-  failed_sizes w choice chosen job buffer (Device (WriteNode k)) g = (refl, refl)
-  failed_sizes w choice chosen job buffer (Device WriteRoot) g = (refl, refl)
-  failed_sizes w choice chosen job buffer (Cell step) g = (refl, refl)
-  failed_sizes w choice chosen job buffer (Desk step) g = (refl, refl)
-  failed_sizes w choice chosen job buffer (End answer) g = (refl, refl)
+  failed_sizes w choice chosen job buffer next g = (refl, refl)
 
   -- what a look at a seal finds
   seal_found : (phase : Phase P A) (step : CellStep) (got : Got) (b : OBlock) (v : ℕ) → SealsHere shape phase → OfTarget phase (λ t. got ≡ got_of (result_of t.words step)) → step ≡ Look (SealWord b) → got ≡ Word v → SealInside shape.geometry.cache_blocks v
@@ -195,14 +180,7 @@ module _ (P A : Type 0) (shape : Shape) where
   seal_found (Opens mode reading) step got b v s g e f = absurd g
 
   cell_given : (w : State P A) (actor : Actor) (got : Got) (read : List Bytes) (chosen : Chosen P A) (job : Job) (step : CellStep) → Gives shape w actor job (Cell step) got read chosen → OfTarget w.phase (λ t. got ≡ got_of (result_of t.words step))
-  cell_given w actor got read chosen (Read x) step g = g.1
-  cell_given w actor got read chosen (Write x c) step g = g.1
-  cell_given w actor got read chosen Flush step g = g.1
-  cell_given w actor got read chosen Suspend step g = g.1
-  cell_given w actor got read chosen (Invalidate block) step g = g.1
-  cell_given w actor got read chosen (Open mode second) step g = g.1
-  cell_given w actor got read chosen (Migrate migration block) step g = g.1
-  cell_given w actor got read chosen (Replace old new) step g = g.1
+  cell_given w actor got read chosen job step g = g.1
 
   plan_on : (w : State P A) (actor : Actor) (got : Got) (read : List Bytes) (chosen : Chosen P A) (job : Job) (plan : Plan) (next : Want) → SealsHere shape w.phase → PlanInside shape (Some (job, plan)) → next ≡ want plan → Gives shape w actor job next got read chosen → PlanInside shape (task_then (Some (job, plan)) next got)
   plan_on w actor got read chosen job plan (End answer) s i h g = tt
@@ -238,14 +216,9 @@ module _ (P A : Type 0) (shape : Shape) where
 
   seals_on : (phase : Phase P A) (commit : Option RunningCommit) (m : List History) (next : Want) (got : Got) (chosen : Chosen P A) (i : Images) → SealsHere shape phase → StepInside shape next → MetadataKept shape.geometry i (phase_then shape phase next got chosen) (commit_then phase commit next got chosen) m → SealsHere shape (phase_then shape phase next got chosen)
   seals_on (Stands t) commit m (Cell step) got chosen i s l k = seals_after shape t.words step l s
-  seals_on (Stands t) commit m (Device step) got chosen i s l k = s
-  seals_on (Stands t) commit m (Desk step) got chosen i s l k = s
-  seals_on (Stands t) commit m (End answer) got chosen i s l k = s
-  seals_on Gone commit m next got chosen i s l k = tt
-  seals_on (Opens mode reading) commit m (Cell step) got chosen i s l k = tt
-  seals_on (Opens mode reading) commit m (Device step) got chosen i s l k = tt
-  seals_on (Opens mode reading) commit m (Desk step) got chosen i s l k = tt
   seals_on (Opens mode reading) commit m (End answer) got chosen i s l k = opened_seals mode reading commit got chosen m i k
+  seals_on (Stands t) commit m next got chosen i s l k = s
+  seals_on phase commit m next got chosen i s l k = tt
 
   module _ (w : State P A) (i : Inside shape w) (a : ℕ) where
     goes : (x : Actor) (next : Want) (got : Got) (chosen : Chosen P A) (change : DeviceStep → List History → List History) (images : Images) → slice_get w.actors a ≡ Some x → SameSizes w.devices (devices_then change w.devices next) → StepInside shape next →
@@ -282,9 +255,7 @@ module _ (P A : Type 0) (shape : Shape) where
             subst (λ (j : TaskJob). JobInside shape j) (sym (job_stays plan Fault)) p.0,
             inside_after shape plan Fault p.0 p.1 (λ b v e f. absurd (cc)) (λ answer e. absurd (let y : Device step ≡ End answer = h ∙ e in cc)),
           )
-      on_device job plan (Cell step) xt h m = absurd m
-      on_device job plan (Desk step) xt h m = absurd m
-      on_device job plan (End answer) xt h m = absurd m
+      on_device job plan next xt h m = absurd m
 
       by_task : (t : Option (Job × Plan)) → x.task ≡ t → OfSome t (λ doing. (next ≡ want doing.1) × MayFailAt w.devices choice next × Falters w choice next chosen) → Inside shape (stepped shape w a x next Fault chosen (λ step. device_failed (lands (device_of step) choice) (job_of x.task) x.buffer step chosen))
       by_task None xt h = absurd h
@@ -330,7 +301,6 @@ module _ (P A : Type 0) (shape : Shape) where
       by_mode Passthrough = (part_inside shape Passthrough extent (record { 0 = extent.first / block_size shape }) cut (may_start shape extent g.0) g.1, (tt, (tt, tt)))
   table_inside w n a Flush chosen b g mode awaiting = (tt, (tt, (tt, tt)))
   table_inside w n a Suspend (Looks looks) b g mode awaiting = (tt, (tt, looks_inside shape looks (Rattle.wb_promise.specs.Happenings.most_for shape.geometry true)))
-  table_inside w n a Suspend chosen b g mode awaiting = absurd g
   table_inside w n a (Open opened_in second) chosen b g mode awaiting = (tt, (tt, (tt, (tt, (tt, (tt, (tt, tt)))))))
   table_inside w n a (Invalidate block) chosen b g mode awaiting = (tt, (tt, (tt, tt)))
   table_inside w n a (Migrate migration block) chosen b g mode awaiting =
@@ -341,21 +311,14 @@ module _ (P A : Type 0) (shape : Shape) where
       let kept = orders_of_actor w a (slice_get w.actors a) (λ x e order m. b.used.orders a x e order (in_orders x order m)) in
       let inside = replacement_inside P A shape b.known.images w.phase w.commit w.devices.metadata (slice_get w.actors a) old new chosen b.known.known kept g in
       ((part_inside shape Writeback (whole_block (block_size shape) old) old (cut_of chosen) (whole_starts shape old inside.1.0) (cut_replacing w.phase (slice_get w.actors a) old new chosen g), tt), (tt, (tt, tt)))
-  table_inside w n a (Read extent) chosen b g mode awaiting = absurd g
-  table_inside w n a (Write extent content) chosen b g mode awaiting = absurd g
+  table_inside w n a job chosen b g mode awaiting = absurd g
 
   rest_inside : (actors : List Actor) (a : ℕ) (x : Actor) → slice_get (all_resting actors) a ≡ Some x → PlanInside shape x.task
   rest_inside actors a x e = subst (λ (v : Actor). PlanInside shape v.task) (sym (all_rest actors a x e)) tt
 
   clear : (w : State P A) (job : Job) → Inside shape w → Inside shape (cleared w job)
   clear w (Open mode second) i = record { cache = i.cache; origin = i.origin; seals = tt; tasks = rest_inside w.actors }
-  clear w (Read extent) i = i
-  clear w (Write extent content) i = i
-  clear w Flush i = i
-  clear w Suspend i = i
-  clear w (Invalidate block) i = i
-  clear w (Migrate migration block) i = i
-  clear w (Replace old new) i = i
+  clear w job i = i
 
   starts : (w : State P A) (n : Notes) (a : ℕ) (job : Job) (chosen : Chosen P A) → Base P A shape w n → Inside shape (cleared w job) → ((mode : Mode) (awaiting : List Order) → PlanInside shape (Some (begun_as job, table (task_job shape mode awaiting job (cut_of chosen) (looks_of chosen))))) → Inside shape (started shape w a job chosen)
   starts w n a job chosen b i p = by_actor (slice_get (cleared w job).actors a) refl
@@ -373,30 +336,15 @@ module _ (P A : Type 0) (shape : Shape) where
 
   pub inside_what : (w : State P A) (n : Notes) (event : Event) (what : What) (read : List Bytes) (chosen : Chosen P A) → Base P A shape w n → Inside shape w → MayBe shape w event what read chosen → Inside shape (after_what shape w event what chosen)
   inside_what w n (Start a job) Started read chosen b i h = starts w n a job chosen b (clear w job i) (table_inside w n a job chosen b h.2)
-  inside_what w n (Start a job) Skipped read chosen b i h = i
-  inside_what w n (Start a job) (Refused refusal) read chosen b i h = i
-  inside_what w n (Start a job) (Stepped next got) read chosen b i h = i
-  inside_what w n (Start a job) Stopped read chosen b i h = i
   inside_what w n (Step a) (Stepped next got) read chosen b i h = step_inside w n a next got read chosen (slice_get w.actors a) refl b i h
-  inside_what w n (Step a) Skipped read chosen b i h = i
-  inside_what w n (Step a) (Refused refusal) read chosen b i h = i
-  inside_what w n (Step a) Started read chosen b i h = i
-  inside_what w n (Step a) Stopped read chosen b i h = i
   inside_what w n (FaultStep a choice) (Stepped next got) read chosen b i h = subst (λ (g : Got). Inside shape (after_what shape w (FaultStep a choice) (Stepped next g) chosen)) (sym h.1) (fault_inside w n a choice next chosen (slice_get w.actors a) refl b i h.2)
-  inside_what w n (FaultStep a choice) Skipped read chosen b i h = i
-  inside_what w n (FaultStep a choice) (Refused refusal) read chosen b i h = i
-  inside_what w n (FaultStep a choice) Started read chosen b i h = i
-  inside_what w n (FaultStep a choice) Stopped read chosen b i h = i
   inside_what w n (Stop choice) Stopped read chosen b i h = record {
     cache = (Crashed-crashed_from Cache choice 0 w.devices.cache).size ∙ i.cache;
     origin = (Crashed-crashed_from Origin choice 0 w.devices.origin).size ∙ i.origin;
     seals = tt;
     tasks = rest_inside w.actors;
   }
-  inside_what w n (Stop choice) Skipped read chosen b i h = i
-  inside_what w n (Stop choice) (Refused refusal) read chosen b i h = i
-  inside_what w n (Stop choice) Started read chosen b i h = i
-  inside_what w n (Stop choice) (Stepped next got) read chosen b i h = i
+  inside_what w n event what read chosen b i h = i
 
   always : (w : State P A) (n : Notes) (hs : List (Happening P A)) → Base P A shape w n → Inside shape w → IsRun shape w hs → Inside shape (after_all shape w hs)
   always w n [] b i r = i

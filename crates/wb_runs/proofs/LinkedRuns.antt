@@ -73,22 +73,14 @@ module _ (P A : Type 0) (shape : Shape) where
 
   -- its phase after a step that is no answer is of the same kind
   here_on : (phase : Phase P A) (next : Want) (got : Got) (chosen : Chosen P A) (t : Option (Job × Plan)) → ¬ IsAnswer next → TaskHere phase t → TaskHere (phase_then shape phase next got chosen) t
-  here_on (Stands t) next got chosen None o h = tt
-  here_on (Stands t) next got chosen (Some task) o h = h
-  here_on Gone next got chosen None o h = tt
-  here_on Gone next got chosen (Some task) o h = h
-  here_on (Opens mode reading) next got chosen None o h = tt
-  here_on (Opens mode reading) (Cell step) got chosen (Some task) o h = h
-  here_on (Opens mode reading) (Device step) got chosen (Some task) o h = h
-  here_on (Opens mode reading) (Desk step) got chosen (Some task) o h = h
   here_on (Opens mode reading) (End answer) got chosen (Some task) o h = absurd (o tt)
+  here_on phase next got chosen (Some task) o h = h
+  here_on phase next got chosen None o h = tt
 
   here_after : (phase : Phase P A) (next : Want) (got : Got) (task : Option (Job × Plan)) → TaskHere phase task → TaskHere phase (task_then task next got)
   here_after phase next got None h = tt
-  here_after phase (Cell step) got (Some task) h = h
-  here_after phase (Device step) got (Some task) h = h
-  here_after phase (Desk step) got (Some task) h = h
   here_after phase (End answer) got (Some task) h = tt
+  here_after phase next got (Some task) h = h
 
   still_task : (task : Option (Job × Plan)) (next : Want) (got : Got) → IsTask (task_then task next got) → IsTask task
   still_task None next got i = i
@@ -109,10 +101,8 @@ module _ (P A : Type 0) (shape : Shape) where
     alone_on : (phase : Phase P A) (v : Want) → ¬ IsAnswer v → AtPhase phase w.actors → AtPhase (phase_then shape phase v got chosen) (slice_set w.actors a y)
     alone_on (Stands t) v o k = tt
     alone_on Gone v o k = tt
-    alone_on (Opens mode reading) (Cell step) o k = (k.0, still_alone k.0 k.1)
-    alone_on (Opens mode reading) (Device step) o k = (k.0, still_alone k.0 k.1)
-    alone_on (Opens mode reading) (Desk step) o k = (k.0, still_alone k.0 k.1)
     alone_on (Opens mode reading) (End answer) o k = absurd (o tt)
+    alone_on (Opens mode reading) v o k = (k.0, still_alone k.0 k.1)
 
     -- it goes on
     goes_on : (n' : Notes) → ¬ IsAnswer next → mode_of (phase_then shape w.phase next got chosen) ≡ mode_of w.phase → ((b : ℕ) → b ≢ a → slice_get n'.doings b ≡ slice_get n.doings b) → TaskClaim shape (mode_of w.phase) y.task (slice_get n'.doings a) → Linked shape (phase_then shape w.phase next got chosen) (slice_set w.actors a y) n'
@@ -147,28 +137,16 @@ module _ (P A : Type 0) (shape : Shape) where
   answer_others mode shown n a doing job Finished got read s j b o = subst (λ (q : Job). slice_get (finished_note n a doing q shown).doings b ≡ slice_get n.doings b) (sym j) (by_job job s)
     where
       by_job : (q : Job) → IsServed q → slice_get (finished_note n a doing q shown).doings b ≡ slice_get n.doings b
-      by_job (Read extent) s = set_other n.doings a b None o
-      by_job (Write extent content) s = set_other n.doings a b None o
-      by_job Flush s = set_other n.doings a b None o
-      by_job Suspend s = set_other n.doings a b None o
-      by_job (Invalidate block) s = set_other n.doings a b None o
-      by_job (Migrate migration block) s = set_other n.doings a b None o
-      by_job (Replace old new) s = set_other n.doings a b None o
       by_job (Open opened_in second) s = absurd s
+      by_job q s = set_other n.doings a b None o
 
   answer_mine : (mode : Mode) (shown : List Bytes) (n : Notes) (a : ℕ) (doing : Doing) (job : Job) (answer : Answer) (got : Got) (read : List Bytes) → IsServed job → doing.job ≡ job → slice_get n.doings a ≡ Some (Some doing) → slice_get (noted_step shape mode shown n a (Some (Some doing)) (End answer) got read).doings a ≡ Some None
   answer_mine mode shown n a doing job (Refuses refusal) got read s j e = set_there n.doings a (Some doing) None e
   answer_mine mode shown n a doing job Finished got read s j e = subst (λ (q : Job). slice_get (finished_note n a doing q shown).doings a ≡ Some None) (sym j) (by_job job s)
     where
       by_job : (q : Job) → IsServed q → slice_get (finished_note n a doing q shown).doings a ≡ Some None
-      by_job (Read extent) s = set_there n.doings a (Some doing) None e
-      by_job (Write extent content) s = set_there n.doings a (Some doing) None e
-      by_job Flush s = set_there n.doings a (Some doing) None e
-      by_job Suspend s = set_there n.doings a (Some doing) None e
-      by_job (Invalidate block) s = set_there n.doings a (Some doing) None e
-      by_job (Migrate migration block) s = set_there n.doings a (Some doing) None e
-      by_job (Replace old new) s = set_there n.doings a (Some doing) None e
       by_job (Open opened_in second) s = absurd s
+      by_job q s = set_there n.doings a (Some doing) None e
 
   module _ (shown : List Bytes) (w : State P A) (n : Notes) (l : LinkedTo w n) (a : ℕ) (x : Actor) (e : slice_get w.actors a ≡ Some x) (job : Job) (plan : Plan) (xt : x.task ≡ Some (job, plan)) (answer : Answer) (got : Got) (read : List Bytes) (chosen : Chosen P A)
       (d : Noted shape (mode_of w.phase) job plan (slice_get n.doings a)) where
@@ -296,9 +274,7 @@ module _ (P A : Type 0) (shape : Shape) where
       where
         by_next : (job : Job) (plan : Plan) (next : Want) → x.task ≡ Some (job, plan) → next ≡ want plan → MayFailAt w.devices choice next → LinkedTo (stepped shape w a x next Fault chosen (λ step. device_failed (lands (device_of step) choice) (job_of x.task) x.buffer step chosen)) (noted_step shape (mode_of w.phase) shown n a (slice_get n.doings a) next Fault read)
         by_next job plan (Device step) xt h m = one_faults x job plan step read chosen e xt h
-        by_next job plan (Cell step) xt h m = absurd m
-        by_next job plan (Desk step) xt h m = absurd m
-        by_next job plan (End answer) xt h m = absurd m
+        by_next job plan next xt h m = absurd m
 
         by_task : (t : Option (Job × Plan)) → x.task ≡ t → OfSome t (λ doing. (next ≡ want doing.1) × MayFailAt w.devices choice next × Falters w choice next chosen) →
             LinkedTo (stepped shape w a x next Fault chosen (λ step. device_failed (lands (device_of step) choice) (job_of x.task) x.buffer step chosen)) (noted_step shape (mode_of w.phase) shown n a (slice_get n.doings a) next Fault read)
@@ -433,7 +409,6 @@ module _ (P A : Type 0) (shape : Shape) where
       let f = free P A w a Suspend applies in
       subst (λ (o : Option Actor). Started_so shown w n a Suspend (Looks looks) o) (sym f.1)
       (served_starts w.phase w.actors n a f.0 (given {P = P} {A = A} shape (mode_of w.phase) f.0 Suspend (Looks looks)) Suspend _ (Looks looks) l f.1 f.2 refl tt tt (λ p. applies (inr (inr (inr p)))))
-  starts shown w n a Suspend chosen l applies gives = absurd gives
   starts shown w n a (Invalidate block) chosen l applies gives =
       let f = free P A w a (Invalidate block) applies in
       subst (λ (o : Option Actor). Started_so shown w n a (Invalidate block) chosen o) (sym f.1)
@@ -446,34 +421,18 @@ module _ (P A : Type 0) (shape : Shape) where
       let f = free P A w a (Replace old new) applies in
       subst (λ (o : Option Actor). Started_so shown w n a (Replace old new) chosen o) (sym f.1)
       (served_starts w.phase w.actors n a f.0 (given shape (mode_of w.phase) f.0 (Replace old new) chosen) (Replace old new) _ chosen l f.1 f.2 refl tt tt (λ p. applies (inr (inr (inr p)))))
-  starts shown w n a (Read extent) chosen l applies gives = absurd gives
-  starts shown w n a (Write extent content) chosen l applies gives = absurd gives
+  starts shown w n a job chosen l applies gives = absurd gives
 
   -- ---- every event
 
   pub links_what : (shown : List Bytes) (w : State P A) (n : Notes) (event : Event) (what : What) (read : List Bytes) (chosen : Chosen P A) → IsKnown P A shape w → UsedRightly P A shape w.phase w.actors → LinkedTo w n → MayBe shape w event what read chosen →
       LinkedTo (after_what shape w event what chosen) (noted_what shape (mode_of w.phase) shown n event what read)
   links_what shown w n (Start a job) Started read chosen k u l h = starts shown w n a job chosen l h.1 h.2
-  links_what shown w n (Start a job) Skipped read chosen k u l h = l
-  links_what shown w n (Start a job) (Refused refusal) read chosen k u l h = l
-  links_what shown w n (Start a job) (Stepped next got) read chosen k u l h = l
-  links_what shown w n (Start a job) Stopped read chosen k u l h = l
   links_what shown w n (Step a) (Stepped next got) read chosen k u l h = step_links shown w n k l u a next got read chosen (slice_get w.actors a) refl h
-  links_what shown w n (Step a) Skipped read chosen k u l h = l
-  links_what shown w n (Step a) (Refused refusal) read chosen k u l h = l
-  links_what shown w n (Step a) Started read chosen k u l h = l
-  links_what shown w n (Step a) Stopped read chosen k u l h = l
   links_what shown w n (FaultStep a choice) (Stepped next got) read chosen k u l h =
       subst (λ (g : Got). LinkedTo (after_what shape w (FaultStep a choice) (Stepped next g) chosen) (noted_what shape (mode_of w.phase) shown n (FaultStep a choice) (Stepped next g) read)) (sym h.1) (fault_links shown w n k l u a choice next read chosen (slice_get w.actors a) refl h.2)
-  links_what shown w n (FaultStep a choice) Skipped read chosen k u l h = l
-  links_what shown w n (FaultStep a choice) (Refused refusal) read chosen k u l h = l
-  links_what shown w n (FaultStep a choice) Started read chosen k u l h = l
-  links_what shown w n (FaultStep a choice) Stopped read chosen k u l h = l
   links_what shown w n (Stop choice) Stopped read chosen k u l h = idle (all_resting w.actors) (nobody n.doings) Gone (record n { doings = nobody n.doings }) refl (all_idle (mode_of w.phase) w.actors n l.claims) tt
-  links_what shown w n (Stop choice) Skipped read chosen k u l h = l
-  links_what shown w n (Stop choice) (Refused refusal) read chosen k u l h = l
-  links_what shown w n (Stop choice) Started read chosen k u l h = l
-  links_what shown w n (Stop choice) (Stepped next got) read chosen k u l h = l
+  links_what shown w n event what read chosen k u l h = l
 
   pub links_start : (metadata : List History) → LinkedTo (start shape metadata) (formatted shape)
   links_start metadata = idle (replicate shape.actors resting) (replicate shape.actors None) Gone (formatted shape) refl
@@ -508,13 +467,7 @@ module _ (P A : Type 0) (shape : Shape) where
 
   refused_by : (mode : Mode) (job : Job) (plan : Plan) (doing : Doing) (refusal : Refusal) → JobClaim shape mode job plan doing → End (Refuses refusal) ≡ want plan → RefusedBy doing job refusal
   refused_by mode (Open opened_in second) plan doing refusal c e = open_refuses plan doing refusal c e
-  refused_by mode (Read extent) plan doing refusal c e = tt
-  refused_by mode (Write extent content) plan doing refusal c e = tt
-  refused_by mode Flush plan doing refusal c e = tt
-  refused_by mode Suspend plan doing refusal c e = tt
-  refused_by mode (Invalidate block) plan doing refusal c e = tt
-  refused_by mode (Migrate migration block) plan doing refusal c e = tt
-  refused_by mode (Replace old new) plan doing refusal c e = tt
+  refused_by mode job plan doing refusal c e = tt
 
   covered : (mode : Mode) (job : Job) (plan : Plan) (x : Actor) (doing : Doing) (answer : Answer) → Suits shape.geometry.origin_blocks plan x.card → JobClaim shape mode job plan doing → End answer ≡ want plan → IsCovered doing job answer
   covered mode (Read extent) plan x doing Finished s c e = read_ends shape mode plan x s extent doing c e
@@ -562,10 +515,7 @@ module _ (P A : Type 0) (shape : Shape) where
 
   skips_rightly : (w : State P A) (event : Event) (what : What) (read : List Bytes) (chosen : Chosen P A) → MayBe shape w event what read chosen → SkipsRightly w event what
   skips_rightly w event Skipped read chosen h = h.1
-  skips_rightly w event (Refused refusal) read chosen h = tt
-  skips_rightly w event Started read chosen h = tt
-  skips_rightly w event (Stepped next got) read chosen h = tt
-  skips_rightly w event Stopped read chosen h = tt
+  skips_rightly w event what read chosen h = tt
 
   pub all_skip : (w : State P A) (hs : List (Happening P A)) → IsRun shape w hs → AllSkipRightly shape w hs
   all_skip w [] run = tt

@@ -94,12 +94,7 @@ module _ (shape : Shape) (mode : Mode) (shown : List Bytes) (n : Notes) (a : ℕ
       nothing : (job : Job) → MovesNone job step → (m : Notes) (mid : Doing) → device_note shape mode m a mid job step got read ≡ m
       nothing (Read extent) z m mid = absurd z
       nothing (Write extent content) z m mid = absurd z
-      nothing Flush z m mid = refl
-      nothing Suspend z m mid = refl
-      nothing (Invalidate block) z m mid = refl
-      nothing (Open opened_in second) z m mid = refl
-      nothing (Migrate migration block) z m mid = refl
-      nothing (Replace old new) z m mid = refl
+      nothing job z m mid = refl
 
   -- nothing is noted
   pub plain_words : (step : CellStep) (got : Got) (read : List Bytes) → JobClaim shape mode job (after plan got) doing → Then (Cell step) got read
@@ -236,9 +231,7 @@ module _ (P A : Type 0) (shape : Shape) where
     unclaimed (Replace old new) (Device step) got read u z j = plain_device shape mode shown n a x doing noted (Replace old new) plan j step got read tt tt
     unclaimed (Replace old new) (Desk step) got read u z j = plain_desk shape mode shown n a x doing noted (Replace old new) plan j step got read tt
     unclaimed job (End answer) got read u z j = absurd z
-    unclaimed (Read extent) next got read u z j = absurd u
-    unclaimed (Write extent content) next got read u z j = absurd u
-    unclaimed (Open opened_in second) next got read u z j = absurd u
+    unclaimed job next got read u z j = absurd u
 
     open_goes : (opened_in : Mode) (second : Bool) (next : Want) (got : Got) (read : List Bytes) (chosen : Chosen P A) → NoAnswer next → doing.job ≡ Open opened_in second → JobClaim shape mode (Open opened_in second) plan doing → next ≡ want plan → Gives shape w x (Open opened_in second) next got read chosen → InPhase w.phase (Open opened_in second) → Then_of (Open opened_in second) next got read
     open_goes opened_in second next got read chosen z j c h g at = by_next next z (subst (λ (v : Want). IsOpenNext v) (sym h) (open_next plan doing c)) h g
@@ -256,11 +249,8 @@ module _ (P A : Type 0) (shape : Shape) where
         by_next (Device WriteRoot) z i h g = on WriteRoot h (subst Comes (sym g.1) tt) (done WriteRoot g.1)
         by_next (Device (ReadMetadata left)) z i h g = on (ReadMetadata left) h (reading_comes P A shape images w.devices.metadata doing second left w.phase w.commit got chosen g.2) (reading_why P A shape images w.devices.metadata doing second left w.phase w.commit got chosen known g.1 g.2 (subst (λ (q : Job). InPhase w.phase q) (sym j) at))
         by_next (End answer) z i h g = absurd z
-        by_next (Cell step) z i h g = absurd i
-        by_next (Desk step) z i h g = absurd i
-        by_next (Device (ReadExtent d e)) z i h g = absurd i
-        by_next (Device (WriteExtent d e)) z i h g = absurd i
         by_next (Device (WriteNode k)) z i h g = on (WriteNode k) h (subst Comes (sym g.1) tt) (done (WriteNode k) g.1)
+        by_next next z i h g = absurd i
 
     -- a step of any job that is no answer
     pub claims_on : (job : Job) (next : Want) (got : Got) (read : List Bytes) (chosen : Chosen P A) → NoAnswer next → doing.job ≡ job → JobClaim shape mode job plan doing → next ≡ want plan → Gives shape w x job next got read chosen → InPhase w.phase job → Then_of job next got read
@@ -279,20 +269,12 @@ module _ (P A : Type 0) (shape : Shape) where
       where
         by_step : (step : DeviceStep) → Device step ≡ want plan → IsOwnStep (OnBlock (ReadingPart (block_range shape mode extent c.cut))) (Device step) → Then_of (Read extent) (Device step) Fault read
         by_step (ReadExtent d ex) h o = read_faults shape mode shown n a x doing noted plan suits extent ex d read j h c
-        by_step (WriteExtent d ex) h o = absurd o
-        by_step (Sync d) h o = absurd o
-        by_step (ReadMetadata k) h o = absurd o
-        by_step (WriteNode k) h o = absurd o
-        by_step WriteRoot h o = absurd o
+        by_step step h o = absurd o
     claims_failed (Write extent content) step read j c h = by_step step h (write_owns extent c.cut (Device step) c.is_job h)
       where
         by_step : (step : DeviceStep) → Device step ≡ want plan → WritesOwn (Device step) → Then_of (Write extent content) (Device step) Fault read
         by_step (WriteExtent d ex) h o = write_faults shape mode shown n a x doing noted plan suits extent ex content d read j h c
-        by_step (ReadExtent d ex) h o = absurd o
-        by_step (Sync d) h o = absurd o
-        by_step (ReadMetadata k) h o = absurd o
-        by_step (WriteNode k) h o = absurd o
-        by_step WriteRoot h o = absurd o
+        by_step step h o = absurd o
     claims_failed Flush step read j c h = unclaimed Flush (Device step) Fault read tt tt j
     claims_failed Suspend step read j c h = unclaimed Suspend (Device step) Fault read tt tt j
     claims_failed (Invalidate block) step read j c h = unclaimed (Invalidate block) (Device step) Fault read tt tt j

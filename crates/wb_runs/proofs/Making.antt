@@ -84,12 +84,8 @@ unknown_all m (node ∷ nodes) = elim (cases_Bool (is_some (place_of m node.leve
     none (Some p) e = absurd (cc)
 
 power_most : (k : ℕ) → k ≤ 4 → (0 < 32 ^ k) × (32 ^ k ≤ 1048576)
-power_most zero l = (omega arith, omega arith)
-power_most (suc zero) l = (omega arith, omega arith)
-power_most (suc (suc zero)) l = (omega arith, omega arith)
-power_most (suc (suc (suc zero))) l = (omega arith, omega arith)
-power_most (suc (suc (suc (suc zero)))) l = (omega arith, omega arith)
 power_most (suc (suc (suc (suc (suc k))))) l = absurd (omega (arith, l))
+power_most k l = (omega arith, omega arith)
 
 index_few : (k index : ℕ) → k ≤ 4 → index / 32 ^ k < 1 → index < 2 ^ 32
 index_few k index l b =

@@ -308,10 +308,8 @@ module _ (A : Type 0) (g : Geometry) (images : Images) (device : List History) w
           }
 
       by_reading : (now : ReadSteps A) → HasReached g images now device → HasNextRoot now commit → Turns (λ i. AtOpening g i (Some now) commit device) images
-      by_reading (Begun alloc global) k next = absurd next.is_done
-      by_reading (FirstSlotRead alloc global first) k next = absurd next.is_done
-      by_reading (RootFound global root loader nodes) k next = absurd next.is_done
       by_reading (AllRead stored) k next = subst (λ (c : Option RunningCommit). Turns (λ i. AtOpening g i (Some (AllRead stored)) c device) images) (sym next.commit_is) (over stored k next)
+      by_reading now k next = absurd next.is_done
 
   -- what was read is to be written anew: its nodes come first
   pub nodes_begin : (asked : Geometry) (now : ReadSteps A) (nodes : ℕ) (after : Option (ReadSteps A)) (commit : Option RunningCommit) → AreSameSizes asked g → HasReached g images now device → Converts asked now nodes after commit → Turns (λ i. AtOpening g i after commit device) images

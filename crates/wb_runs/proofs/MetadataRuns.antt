@@ -135,27 +135,12 @@ module _ (P A : Type 0) (shape : Shape) where
 
   by_what : (i : Images) (w : State P A) (event : Event) (what : What) (read : List Bytes) (chosen : Chosen P A) → Known i w → MayBe shape w event what read chosen → Knows i (after_what shape w event what chosen)
   by_what i w (Start a job) Started read chosen k h = by_start i w a job chosen k h.2
-  by_what i w (Start a job) Skipped read chosen k h = same i w k
-  by_what i w (Start a job) (Refused refusal) read chosen k h = same i w k
-  by_what i w (Start a job) (Stepped next got) read chosen k h = same i w k
-  by_what i w (Start a job) Stopped read chosen k h = same i w k
   by_what i w (Step a) (Stepped next got) read chosen k h = by_step i w a next got read chosen (slice_get w.actors a) k h
-  by_what i w (Step a) Skipped read chosen k h = same i w k
-  by_what i w (Step a) (Refused refusal) read chosen k h = same i w k
-  by_what i w (Step a) Started read chosen k h = same i w k
-  by_what i w (Step a) Stopped read chosen k h = same i w k
   by_what i w (FaultStep a choice) (Stepped next got) read chosen k h = subst (λ (g : Got). Knows i (after_what shape w (FaultStep a choice) (Stepped next g) chosen)) (sym h.1) (by_fault i w a choice next chosen (slice_get w.actors a) k h.2)
-  by_what i w (FaultStep a choice) Skipped read chosen k h = same i w k
-  by_what i w (FaultStep a choice) (Refused refusal) read chosen k h = same i w k
-  by_what i w (FaultStep a choice) Started read chosen k h = same i w k
-  by_what i w (FaultStep a choice) Stopped read chosen k h = same i w k
-  by_what i w (Stop choice) Skipped read chosen k h = same i w k
-  by_what i w (Stop choice) (Refused refusal) read chosen k h = same i w k
-  by_what i w (Stop choice) Started read chosen k h = same i w k
-  by_what i w (Stop choice) (Stepped next got) read chosen k h = same i w k
   by_what i w (Stop choice) Stopped read chosen k h =
       let c = crash_readable shape.geometry i w.devices.metadata (crashed Metadata choice w.devices.metadata) (kept_readable shape.geometry i w.devices.metadata P A w.phase w.commit k) (Crashed-crashed_from Metadata choice 0 w.devices.metadata) in
       record { now = c.now; turn = c.turn; turned = c.turned; kept = c.kept }
+  by_what i w event what read chosen k h = same i w k
 
   -- whatever happens, it is known what the metadata are read as, and what became of that
   pub known_turns : (i : Images) (w : State P A) (h : Happening P A) → Known i w → MayBe shape w h.record_is.event h.record_is.what h.record_is.read.items h.chosen → Knows i (after_happening shape w h)

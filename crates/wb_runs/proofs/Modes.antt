@@ -116,11 +116,8 @@ module _ (P A : Type 0) where
   -- a step that is no answer, done or failed
   stays : (phase : Phase P A) (shape : Shape) (next : Want) (got : Got) (chosen : Chosen P A) → ¬ IsAnswer next → Keeps phase next chosen → mode_of (phase_then shape phase next got chosen) ≡ mode_of phase
   stays (Stands t) shape next got chosen o k = k
-  stays Gone shape next got chosen o k = refl
-  stays (Opens mode reading) shape (Cell step) got chosen o k = refl
-  stays (Opens mode reading) shape (Device step) got chosen o k = refl
-  stays (Opens mode reading) shape (Desk step) got chosen o k = refl
   stays (Opens mode reading) shape (End answer) got chosen o k = absurd (o tt)
+  stays phase shape next got chosen o k = refl
 
   device_keeps : (phase : Phase P A) (step : _) (chosen : Chosen P A) → Keeps phase (Device step) chosen
   device_keeps (Stands t) step chosen = refl

@@ -162,13 +162,7 @@ IsOpeningJob mode job = ⊥
 
 pub opens_in : (mode : Mode) (job : Job) → IsOpeningJob mode job → (second : Bool) × (job ≡ Open mode second)
 opens_in mode (Open opened second) i = (second, ap (λ (m : Mode). Open m second) i)
-opens_in mode (Read extent) i = absurd i
-opens_in mode (Write extent content) i = absurd i
-opens_in mode Flush i = absurd i
-opens_in mode Suspend i = absurd i
-opens_in mode (Invalidate block) i = absurd i
-opens_in mode (Migrate migration block) i = absurd i
-opens_in mode (Replace old new) i = absurd i
+opens_in mode job i = absurd i
 
 abbrev pub InPhase : {P A : Type 0} → Phase P A → Job → Type 0
 InPhase (Stands t) job = IsServed job
@@ -195,9 +189,7 @@ module _ (P A : Type 0) (shape : Shape) (images : Images) (device : List History
 
   pub reading_comes : (phase : Phase P A) (commit : Option RunningCommit) (got : Got) (chosen : Chosen P A) → OfReading phase (λ mode was. DoesRead mode shape.geometry second left was device commit got chosen) → Comes got
   reading_comes (Opens mode (Some was)) commit got chosen g = reads_come mode was commit got chosen g
-  reading_comes (Opens mode None) commit got chosen g = absurd g
-  reading_comes (Stands t) commit got chosen g = absurd g
-  reading_comes Gone commit got chosen g = absurd g
+  reading_comes phase commit got chosen g = absurd g
 
   no_fault : (mode : Mode) (was : ReadSteps A) (chosen : Chosen P A) → DoesRead mode shape.geometry second left was device None Fault chosen → ⊥
   no_fault mode was (Reaches r d) g = g.0 refl
@@ -222,6 +214,4 @@ module _ (P A : Type 0) (shape : Shape) (images : Images) (device : List History
       by_got Done d c = absurd c
       by_got More d c = absurd c
       by_got got d c = absurd c
-  reading_why (Opens mode None) commit got chosen known e g at refusal c = absurd g
-  reading_why (Stands t) commit got chosen known e g at refusal c = absurd g
-  reading_why Gone commit got chosen known e g at refusal c = absurd g
+  reading_why phase commit got chosen known e g at refusal c = absurd g

@@ -23,10 +23,8 @@ use Rattle.wb_runs.proofs.Lists.{first_or}
 
 -- an order of a block names it
 pub of_named : (b : OBlock) (order : Order) → is_of b order ≡ true → IsNamed order b.0
-of_named b (Promote x c) e = inl (grind arith)
 of_named b (Replace v x c) e = grind arith
-of_named b (Demote x) e = inl (grind arith)
-of_named b (Clean x) e = inl (grind arith)
+of_named b order e = inl (grind arith)
 
 -- what is left of orders was there, and is of another block
 pub dropped_is : (b : OBlock) (orders : List Order) (order : Order) → Contains (dropped b orders) order → Contains orders order × (is_of b order ≡ false)

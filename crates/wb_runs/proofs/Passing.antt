@@ -21,32 +21,16 @@ WritesOwn next = Unit {0}
 
 writing_own : (part : BlockRange) (next : Want) → IsOwnStep (OnBlock (Writing part)) next → WritesOwn next
 writing_own part (Device (WriteExtent d e)) o = o
-writing_own part (Device (ReadExtent d e)) o = absurd o
-writing_own part (Device (Sync d)) o = absurd o
-writing_own part (Device (ReadMetadata k)) o = absurd o
-writing_own part (Device (WriteNode k)) o = absurd o
-writing_own part (Device WriteRoot) o = absurd o
-writing_own part (Desk step) o = absurd o
 writing_own part (Cell step) o = tt
 writing_own part (End answer) o = tt
+writing_own part next o = absurd o
 
 displacing_own : (part : BlockRange) (next : Want) → IsOwnStep (OnBlock (Displacing part)) next → WritesOwn next
 displacing_own part (Device (WriteExtent d e)) o = subst HoldsBlocks (sym o) tt
-displacing_own part (Device (ReadExtent d e)) o = absurd o
-displacing_own part (Device (Sync d)) o = absurd o
-displacing_own part (Device (ReadMetadata k)) o = absurd o
-displacing_own part (Device (WriteNode k)) o = absurd o
-displacing_own part (Device WriteRoot) o = absurd o
 displacing_own part (Desk (Unmap block)) o = tt
-displacing_own part (Desk (Map block place)) o = absurd o
-displacing_own part (Desk (ReleaseOrder block)) o = absurd o
-displacing_own part (Desk (Arrive most)) o = absurd o
-displacing_own part (Desk (Ask most)) o = absurd o
-displacing_own part (Desk (BeginCommit most)) o = absurd o
-displacing_own part (Desk EndCommit) o = absurd o
-displacing_own part (Desk BreakCommit) o = absurd o
 displacing_own part (Cell step) o = tt
 displacing_own part (End answer) o = tt
+displacing_own part next o = absurd o
 
 pub write_own : (mode : Mode) (part : BlockRange) (next : Want) → IsOwnStep (OnBlock (write_job mode part)) next → WritesOwn next
 write_own Writeback part next o = writing_own part next o

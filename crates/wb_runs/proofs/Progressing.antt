@@ -52,15 +52,12 @@ use Rattle.wb_tasks.specs.declared.step.Answer.{Answer}
 -- ---- one actor of a list changed
 
 lifted : (commit commit' : Option RunningCommit) (L L' : Type 0) (task : Option (Job × Plan)) → ((Makes : List OBlock → ℕ → CommitJob) (plan : Plan) → FlushAt Makes commit L plan → FlushAt Makes commit' L' plan) → FlushTask commit L task → FlushTask commit' L' task
-lifted commit commit' L L' None f k = tt
 lifted commit commit' L L' (Some (Flush, plan)) f k = f Flushes plan k
 lifted commit commit' L L' (Some (Suspend, plan)) f k = f Suspends plan k
-lifted commit commit' L L' (Some (Read extent, plan)) f k = tt
-lifted commit commit' L L' (Some (Write extent content, plan)) f k = tt
-lifted commit commit' L L' (Some (Open mode second, plan)) f k = tt
 lifted commit commit' L L' (Some (Invalidate block, plan)) f k = k
 lifted commit commit' L L' (Some (Migrate migration block, plan)) f k = k
 lifted commit commit' L L' (Some (Replace old new, plan)) f k = absurd k
+lifted commit commit' L L' task f k = tt
 
 flushes_set : (actors : List Actor) (a : ℕ) (x y : Actor) (commit commit' : Option RunningCommit) (leader leader' : ℕ) → slice_get actors a ≡ Some x → ((b : ℕ) (z : Actor) → slice_get actors b ≡ Some z → FlushTask commit (b ≡ leader) z.task) →
     FlushTask commit' (a ≡ leader') y.task → ((Makes : List OBlock → ℕ → CommitJob) (b : ℕ) (plan : Plan) → b ≢ a → FlushAt Makes commit (b ≡ leader) plan → FlushAt Makes commit' (b ≡ leader') plan) →
@@ -445,12 +442,10 @@ module _ (P A : Type 0) (shape : Shape) where
       by_job : (job : Job) → FlushJob commit (a ≡ k.0) (begun_as job) (table (task_job shape t.desk.mode x.awaiting job (cut_of chosen) (looks_of chosen)))
       by_job Flush = record { blocks = blocks_left x.awaiting; most = most_for shape.geometry false; answer = Finished; point = ToLook; of = tt; is = refl; at = tt; leads = λ i. absurd i }
       by_job Suspend = record { blocks = looks_of chosen; most = most_for shape.geometry true; answer = Finished; point = ToLook; of = tt; is = refl; at = tt; leads = λ i. absurd i }
-      by_job (Read extent) = tt
-      by_job (Write extent content) = tt
-      by_job (Open mode second) = tt
       by_job (Invalidate block) = (invalidated_range shape block, refl)
       by_job (Migrate migration block) = (migrated_range shape block (cut_of chosen), refl)
       by_job (Replace old new) = (migrated_range shape old (cut_of chosen), refl)
+      by_job job = tt
   task_by_phase Gone commit actors a x job chosen e p k = tt
   task_by_phase (Opens mode reading) commit actors a x job chosen e p k = absurd (p (λ z. z))
 
@@ -479,26 +474,11 @@ module _ (P A : Type 0) (shape : Shape) where
 
   by_event : (w : State P A) (n : Notes) (event : Event) (what : What) (read : List Bytes) (chosen : Chosen P A) → Base P A shape w n → GoesOn w → MayBe shape w event what read chosen → GoesOn (after_what shape w event what chosen)
   by_event w n (Start a job) Started read chosen b k h = starts w a job chosen k h.1
-  by_event w n (Start a job) Skipped read chosen b k h = k
-  by_event w n (Start a job) (Refused refusal) read chosen b k h = k
-  by_event w n (Start a job) (Stepped next got) read chosen b k h = k
-  by_event w n (Start a job) Stopped read chosen b k h = k
   by_event w n (Step a) (Stepped next got) read chosen b k h = by_step w n a next got read chosen (slice_get w.actors a) refl b k h
-  by_event w n (Step a) Skipped read chosen b k h = k
-  by_event w n (Step a) (Refused refusal) read chosen b k h = k
-  by_event w n (Step a) Started read chosen b k h = k
-  by_event w n (Step a) Stopped read chosen b k h = k
   by_event w n (FaultStep a choice) (Stepped next got) read chosen b k h =
       subst (λ (g : Got). GoesOn (after_what shape w (FaultStep a choice) (Stepped next g) chosen)) (sym h.1) (by_fault w n a choice next chosen (slice_get w.actors a) refl b k h.2)
-  by_event w n (FaultStep a choice) Skipped read chosen b k h = k
-  by_event w n (FaultStep a choice) (Refused refusal) read chosen b k h = k
-  by_event w n (FaultStep a choice) Started read chosen b k h = k
-  by_event w n (FaultStep a choice) Stopped read chosen b k h = k
   by_event w n (Stop choice) Stopped read chosen b k h = tt
-  by_event w n (Stop choice) Skipped read chosen b k h = k
-  by_event w n (Stop choice) (Refused refusal) read chosen b k h = k
-  by_event w n (Stop choice) Started read chosen b k h = k
-  by_event w n (Stop choice) (Stepped next got) read chosen b k h = k
+  by_event w n event what read chosen b k h = k
 
   -- what every run keeps
   pub record Kept (w : State P A) : Type 0 where

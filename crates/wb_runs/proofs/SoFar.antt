@@ -43,13 +43,7 @@ seeing_was (OnBlock (Writing part)) seal answer f = by_mode part.mode (place_in 
     by_mode Writethrough place f = f
     by_mode Passthrough None f = f
     by_mode Passthrough (Some c) f = absurd (cc)
-seeing_was (OnBlock (ReadingPart part)) seal answer f = f
-seeing_was (OnBlock (Displacing part)) seal answer f = f
-seeing_was (OnBlock (Invalidating part)) seal answer f = f
-seeing_was (OnBlock (Migrating migration part)) seal answer f = f
-seeing_was (Flushing serves most) seal answer f = f
-seeing_was (Suspending blocks most) seal answer f = f
-seeing_was (Opening left) seal answer f = f
+seeing_was job seal answer f = f
 
 look_was : (s : Plan) (v : Want) (x : ℕ) → (after_look s v x).answer ≡ Finished → s.answer ≡ Finished
 look_was s (Cell (Look Fail)) x f = by_test (x == 0) f
@@ -68,17 +62,7 @@ look_was s (Cell (Look (Number b))) x f = by_test (is_worn s.job x) f
     by_test true f = absurd (cc)
     by_test false f = f
 look_was s (Cell (Look (SealWord b))) x f = seeing_was s.job x s.answer f
-look_was s (Cell (Look (CountWord kind))) x f = f
-look_was s (Cell (Take access b seen)) x f = f
-look_was s (Cell (Release access b)) x f = f
-look_was s (Cell (Seal b place dirty)) x f = f
-look_was s (Cell (Finish b)) x f = f
-look_was s (Cell (Count kind)) x f = f
-look_was s (Cell SetFailed) x f = f
-look_was s (Cell SetSuspended) x f = f
-look_was s (Device step) x f = f
-look_was s (Desk step) x f = f
-look_was s (End answer) x f = f
+look_was s v x f = f
 
 pub answer_was : (s : Plan) (result : CellResult) → (after s (got_of result)).answer ≡ Finished → s.answer ≡ Finished
 answer_was s CellDone f = f
@@ -177,6 +161,4 @@ module _ (shape : Shape) (mode : Mode) (whole : Extent) (part_of : BlockRange �
       by_steps : (steps : List Want) (answer : Answer) → End Finished ≡ first_step steps answer → Has (part_of (block_range shape mode whole c.cut)) card steps → (answer ≡ Finished → Covers shape mode whole steps moved) → IsPermutation (sectors_in whole) moved
       by_steps [] answer w h v = let done : answer ≡ Finished = cc in subst (λ (xs : List ℕ). IsPermutation (sectors_in whole) xs) (append-nil moved) (v done)
       by_steps (End other ∷ ws) answer w h v = absurd h.1.1
-      by_steps (Cell step ∷ ws) answer w h v = absurd (cc)
-      by_steps (Device step ∷ ws) answer w h v = absurd (cc)
-      by_steps (Desk step ∷ ws) answer w h v = absurd (cc)
+      by_steps steps answer w h v = absurd (cc)

@@ -129,9 +129,7 @@ module _ (P A : Type 0) (shape : Shape) where
   sync_metadata : (i : Images) (phase : Phase P A) (commit : Option RunningCommit) (m : List History) (chosen : Chosen P A) → K i phase commit m → DoesSync phase commit m chosen →
       T i (phase_then shape phase (Device (Sync Metadata)) Done chosen) (commit_then phase commit (Device (Sync Metadata)) Done chosen) (synced m)
   sync_metadata i (Stands t) (Some c) m chosen k s = leading_on i t c m (synced m) k (sync_does c.image c.steps m s.0)
-  sync_metadata i (Stands t) None m chosen k s = absurd s
   sync_metadata i Gone (Some c) m chosen k s = absurd k
-  sync_metadata i Gone None m chosen k s = absurd s
   sync_metadata i (Opens mode None) (Some c) m chosen k s = absurd k
   sync_metadata i (Opens mode (Some reading)) (Some c) m chosen k s =
       subst (λ (ch : Chosen P A). T i (phase_then shape (Opens mode (Some reading)) (Device (Sync Metadata)) Done ch) (Some (record c { steps = steps_after c.image c.steps })) (synced m)) (sym s.1)
@@ -149,7 +147,7 @@ module _ (P A : Type 0) (shape : Shape) where
       begun (FirstSlotRead alloc global first) e = absurd (omega (arith, e))
       begun (RootFound global root loader nodes) e = absurd (omega (arith, e))
       begun (AllRead state) e = absurd (omega (arith, e))
-  sync_metadata i (Opens mode reading) None m chosen k s = absurd s
+  sync_metadata i phase None m chosen k s = absurd s
 
   put_node : (i : Images) (phase : Phase P A) (commit : Option RunningCommit) (m : List History) (number : ℕ) (job : Job) (buffer : List Bytes) (chosen : Chosen P A) → K i phase commit m → DoesPut commit (WriteNode number) m chosen →
       T i (phase_then shape phase (Device (WriteNode number)) Done chosen) (commit_then phase commit (Device (WriteNode number)) Done chosen) (device_done job buffer (WriteNode number) chosen m)
@@ -176,9 +174,6 @@ module _ (P A : Type 0) (shape : Shape) where
 
   read_metadata : (i : Images) (phase : Phase P A) (m : List History) (second : Bool) (left : ℕ) (got : Got) (chosen : Chosen P A) → K i phase None m → OfReading phase (λ mode was. DoesRead mode shape.geometry second left was m None got chosen) →
       T i (phase_then shape phase (Device (ReadMetadata left)) got chosen) (commit_then phase None (Device (ReadMetadata left)) got chosen) m
-  read_metadata i (Stands t) m second left got chosen k s = absurd s
-  read_metadata i Gone m second left got chosen k s = absurd s
-  read_metadata i (Opens mode None) m second left got chosen k s = absurd s
   read_metadata i (Opens mode (Some was)) m second left got (Reaches after commit) k (no_fault, inr more) =
       read_nothing i mode m (found_readable shape.geometry i m k.found) after commit more.4 more.5
   read_metadata i (Opens mode (Some was)) m second left got (Reaches after commit) k (no_fault, inl more) = elim more.3.2 [
@@ -203,7 +198,7 @@ module _ (P A : Type 0) (shape : Shape) where
       by_got (GotRefused refusal) n h = read_nothing i mode m (found_readable shape.geometry i m k.found) after commit h.0 h.1
       by_got Fault n h = absurd (n refl)
       by_got got n h = absurd h
-  read_metadata i (Opens mode (Some was)) m second left got chosen k s = absurd s
+  read_metadata i phase m second left got chosen k s = absurd s
 
   -- a commit begins, where it does
   begun : (i : Images) (t : Target P) (commit : Option RunningCommit) (m : List History) (seen : Option (List Bool)) (most : ℕ) (got : Got) (chosen : Chosen P A) → K i (Stands t) commit m → DoesBegin seen most t.desk got chosen →
@@ -237,12 +232,9 @@ module _ (P A : Type 0) (shape : Shape) where
   arrives : (i : Images) (phase : Phase P A) (commit : Option RunningCommit) (m : List History) (most : ℕ) (got : Got) (chosen : Chosen P A) → K i phase commit m → OfTarget phase (λ t. DoesArrive most t.desk got chosen) →
       T i (phase_then shape phase (Desk (Arrive most)) got chosen) (commit_then phase commit (Desk (Arrive most)) got chosen) m
   arrives i (Stands t) commit m most Ticket Plain k s = same i (Stands t) commit m k
-  arrives i (Stands t) commit m most Ticket chosen k s = absurd s
   arrives i (Stands t) commit m most (Began nodes) chosen k s = leads i t commit m most (Began nodes) chosen k s
   arrives i (Stands t) commit m most (GotRefused refusal) chosen k s = leads i t commit m most (GotRefused refusal) chosen k s
-  arrives i (Stands t) commit m most got chosen k s = absurd s
-  arrives i Gone commit m most got chosen k s = absurd s
-  arrives i (Opens mode reading) commit m most got chosen k s = absurd s
+  arrives i phase commit m most got chosen k s = absurd s
 
   asks : (share : Share) (i : Images) (phase : Phase P A) (commit : Option RunningCommit) (m : List History) (most : ℕ) (got : Got) (chosen : Chosen P A) → K i phase commit m → OfTarget phase (λ t. DoesAsk share most t.desk got chosen) →
       T i (phase_then shape phase (Desk (Ask most)) got chosen) (commit_then phase commit (Desk (Ask most)) got chosen) m
@@ -275,23 +267,17 @@ module _ (P A : Type 0) (shape : Shape) where
   map_keeps i (Stands t) commit m b c Done (Asks new) k s = same i (phase_then shape (Stands t) (Desk (Map b c)) Done (Asks new)) commit m
       (subst (λ (d : DeskState P). AtDesk shape.geometry i d commit m) (sym s.2) (mapped_stands P shape.geometry i t.desk commit m b c new.tree new.policy k s.0 s.1))
   map_keeps i (Stands t) commit m b c (GotRefused refusal) Plain k s = same i (Stands t) commit m k
-  map_keeps i (Stands t) commit m b c got chosen k s = absurd s
-  map_keeps i Gone commit m b c got chosen k s = absurd s
-  map_keeps i (Opens mode reading) commit m b c got chosen k s = absurd s
+  map_keeps i phase commit m b c got chosen k s = absurd s
 
   pub unmap_keeps : (i : Images) (phase : Phase P A) (commit : Option RunningCommit) (m : List History) (b : _) (got : Got) (chosen : Chosen P A) → K i phase commit m → OfTarget phase (λ t. DoesUnmap b t.desk chosen) →
       T i (phase_then shape phase (Desk (Unmap b)) got chosen) (commit_then phase commit (Desk (Unmap b)) got chosen) m
   unmap_keeps i (Stands t) commit m b got (Asks new) k s = same i (phase_then shape (Stands t) (Desk (Unmap b)) got (Asks new)) commit m (unmapped_stands P shape.geometry i t.desk commit m b new k s)
-  unmap_keeps i (Stands t) commit m b got chosen k s = absurd s
-  unmap_keeps i Gone commit m b got chosen k s = absurd s
-  unmap_keeps i (Opens mode reading) commit m b got chosen k s = absurd s
+  unmap_keeps i phase commit m b got chosen k s = absurd s
 
   pub release_keeps : (i : Images) (phase : Phase P A) (commit : Option RunningCommit) (m : List History) (b : OBlock) (orders : List Order) (got : Got) (chosen : Chosen P A) → K i phase commit m → OfTarget phase (λ t. DoesRelease orders b t.desk chosen) →
       T i (phase_then shape phase (Desk (ReleaseOrder b)) got chosen) (commit_then phase commit (Desk (ReleaseOrder b)) got chosen) m
   release_keeps i (Stands t) commit m b orders got (Asks new) k s = same i (phase_then shape (Stands t) (Desk (ReleaseOrder b)) got (Asks new)) commit m (released_for P shape.geometry i t.desk commit m new (order_of b orders) k s)
-  release_keeps i (Stands t) commit m b orders got chosen k s = absurd s
-  release_keeps i Gone commit m b orders got chosen k s = absurd s
-  release_keeps i (Opens mode reading) commit m b orders got chosen k s = absurd s
+  release_keeps i phase commit m b orders got chosen k s = absurd s
 
   -- ---- answers
 
@@ -306,10 +292,8 @@ module _ (P A : Type 0) (shape : Shape) where
   answer_opens i (Opens mode (Some reading)) (Some c) m got (Opened policy) k s = by_reading reading k s.0
     where
       by_reading : (reading : ReadSteps A) → Rooting shape.geometry i reading c m → IsDone reading → T i (phase_then shape (Opens mode (Some reading)) (End Finished) got (Opened policy)) None m
-      by_reading (Begun alloc global) k d = absurd d
-      by_reading (FirstSlotRead alloc global first) k d = absurd d
-      by_reading (RootFound global root loader nodes) k d = absurd d
       by_reading (AllRead stored) k d = let t = target_stands A shape.geometry i m P mode policy shape.threshold stored c k s.1 in record { now = t.now; turn = t.turn; turned = t.turned; kept = t.kept.0 }
+      by_reading reading k d = absurd d
   answer_opens i (Opens mode (Some reading)) None m got (Opened policy) k s = absurd (let e = s.1 in cc)
   answer_opens i (Opens mode None) commit m got (Opened policy) k s = absurd s.0
   answer_opens i (Stands t) commit m got (Opened policy) k s = absurd s.0
@@ -331,23 +315,13 @@ module _ (P A : Type 0) (shape : Shape) where
 
     read_fact : (job : Job) (d : Dev) (e : _) → G job (Device (ReadExtent d e)) → HoldsBlocks d
     read_fact (Read x) d e g = g.0
-    read_fact (Write x c) d e g = absurd g
-    read_fact Flush d e g = absurd g
-    read_fact Suspend d e g = absurd g
-    read_fact (Invalidate block) d e g = absurd g
-    read_fact (Open mode second) d e g = absurd g
     read_fact (Migrate migration block) d e g = g.0
-    read_fact (Replace old new) d e g = absurd g
+    read_fact job d e g = absurd g
 
     write_fact : (job : Job) (d : Dev) (e : _) → G job (Device (WriteExtent d e)) → HoldsBlocks d
-    write_fact (Read x) d e g = absurd g
     write_fact (Write x c) d e g = g.0
-    write_fact Flush d e g = absurd g
-    write_fact Suspend d e g = absurd g
-    write_fact (Invalidate block) d e g = absurd g
-    write_fact (Open mode second) d e g = absurd g
     write_fact (Migrate migration block) d e g = g.0
-    write_fact (Replace old new) d e g = absurd g
+    write_fact job d e g = absurd g
 
     pub sync_fact : (job : Job) → G job (Device (Sync Metadata)) → (got ≡ Done) × DoesSync w.phase w.commit m chosen
     sync_fact (Read x) g = (g.1, g.2)
@@ -441,45 +415,23 @@ module _ (P A : Type 0) (shape : Shape) where
     end_fact (Replace old new) g = g.2
 
     pub map_fact : (job : Job) (b c : _) → G job (Desk (Map b c)) → OfTarget w.phase (λ t. DoesMap b c t.desk got chosen)
-    map_fact (Read x) b c g = absurd g
-    map_fact (Write x y) b c g = absurd g
-    map_fact Flush b c g = absurd g
-    map_fact Suspend b c g = absurd g
-    map_fact (Invalidate block) b c g = absurd g
-    map_fact (Open mode second) b c g = absurd g
     map_fact (Migrate migration block) b c g = g.1
-    map_fact (Replace old new) b c g = absurd g
+    map_fact job b c g = absurd g
 
     pub unmap_fact : (job : Job) (b : _) → G job (Desk (Unmap b)) → OfTarget w.phase (λ t. DoesUnmap b t.desk chosen)
-    unmap_fact (Read x) b g = absurd g
     unmap_fact (Write x y) b g = g.2
-    unmap_fact Flush b g = absurd g
-    unmap_fact Suspend b g = absurd g
     unmap_fact (Invalidate block) b g = g.2
-    unmap_fact (Open mode second) b g = absurd g
     unmap_fact (Migrate migration block) b g = g.2
-    unmap_fact (Replace old new) b g = absurd g
+    unmap_fact job b g = absurd g
 
     pub release_fact : (job : Job) (b : OBlock) → G job (Desk (ReleaseOrder b)) → (orders : List Order) × OfTarget w.phase (λ t. DoesRelease orders b t.desk chosen)
-    release_fact (Read x) b g = absurd g
-    release_fact (Write x y) b g = absurd g
     release_fact Flush b g = (actor.awaiting, g.2)
-    release_fact Suspend b g = absurd g
-    release_fact (Invalidate block) b g = absurd g
-    release_fact (Open mode second) b g = absurd g
     release_fact (Migrate migration block) b g = (actor.orders, g.2)
-    release_fact (Replace old new) b g = absurd g
+    release_fact job b g = absurd g
 
     pub answer_fact : (job : Job) (answer : Answer) → G job (End answer) → (chosen ≡ Plain) ⊎ ((answer ≡ Finished) × DoesOpen w.phase w.commit chosen)
-    answer_fact (Read x) answer g = inl g.0.1
-    answer_fact (Write x c) answer g = inl g.0.1
-    answer_fact Flush answer g = inl g.0.1
-    answer_fact Suspend answer g = inl g.0.1
-    answer_fact (Invalidate block) answer g = inl g.0.1
     answer_fact (Open mode second) Finished g = inr (refl, g.2)
-    answer_fact (Open mode second) (Refuses refusal) g = inl g.0.1
-    answer_fact (Migrate migration block) answer g = inl g.0.1
-    answer_fact (Replace old new) answer g = inl g.0.1
+    answer_fact job answer g = inl g.0.1
 
     -- its device is not that of the metadata
     moves_data : (i : Images) (buffer : List Bytes) (job : Job) (step : DeviceStep) (d : Dev) → HoldsBlocks d → device_of step ≡ d → IsData step → K i w.phase w.commit m → After i buffer job (Device step)
@@ -513,15 +465,7 @@ module _ (P A : Type 0) (shape : Shape) where
                 by_phase Gone h = absurd h
                 by_phase (Opens mode None) h = absurd h
                 by_phase (Opens mode (Some was)) h = absurd h
-            by_chosen Plain h = refl
-            by_chosen (Cut es) h = refl
-            by_chosen (Orders es c) h = refl
-            by_chosen (Looks bs) h = refl
-            by_chosen (Begins r) h = refl
-            by_chosen (Reaches r c) h = refl
-            by_chosen (Commits c t) h = refl
-            by_chosen (Asks d) h = refl
-            by_chosen (Opened p) h = refl
+            by_chosen ch h = refl
 
         by_commit : (commit : Option RunningCommit) → commit ≡ None → K i w.phase commit m → OfReading w.phase (λ mode was. DoesRead mode shape.geometry (asks_second job) left was m commit got chosen) →
             T i (phase_then shape w.phase (Device (ReadMetadata left)) got chosen) (commit_then w.phase commit (Device (ReadMetadata left)) got chosen) (device_done job buffer (ReadMetadata left) chosen m)

@@ -37,18 +37,12 @@ use Rattle.wb_runs.proofs.Stepping.{metadata_fact, begin_fact, map_fact, sync_fa
 
 -- of a step on the words
 pub cell_fits : (words : Words) (step : CellStep) → Fits (Cell step) (got_of (result_of words step))
-cell_fits words (Look word) = tt
 cell_fits words (Take access b seen) = by_test (eqb (word_at words.cells b) seen)
   where
     by_test : (t : Bool) → Fits (Cell (Take access b seen)) (got_of (if t then Won else CellLost))
     by_test true = tt
     by_test false = tt
-cell_fits words (Release access b) = tt
-cell_fits words (Seal b place dirty) = tt
-cell_fits words (Finish b) = tt
-cell_fits words (Count kind) = tt
-cell_fits words SetFailed = tt
-cell_fits words SetSuspended = tt
+cell_fits words step = tt
 
 done_fits : (next : Want) (got : Got) → MayBeDone next → got ≡ Done → Fits next got
 done_fits next got m e = subst (λ (g : Got). Fits next g) (sym e) m
@@ -128,15 +122,7 @@ read_fits shape mode second left was device commit got (Reaches left' commit') d
   ]
   | inr r ↦ stop_fits left r.0 got d.0 r.1 r.3
 ]
-read_fits shape mode second left was device commit got Plain d = absurd d
-read_fits shape mode second left was device commit got (Cut es) d = absurd d
-read_fits shape mode second left was device commit got (Orders es c) d = absurd d
-read_fits shape mode second left was device commit got (Looks bs) d = absurd d
-read_fits shape mode second left was device commit got (Asks new) d = absurd d
-read_fits shape mode second left was device commit got (Begins now) d = absurd d
-read_fits shape mode second left was device commit got (Puts new) d = absurd d
-read_fits shape mode second left was device commit got (Commits c tree) d = absurd d
-read_fits shape mode second left was device commit got (Opened policy) d = absurd d
+read_fits shape mode second left was device commit got chosen d = absurd d
 
 module _ (P A : Type 0) (shape : Shape) (w : State P A) (actor : Actor) (got : Got) (read : List Bytes) (chosen : Chosen P A) where
   on_words : (phase : Phase P A) (step : CellStep) → OfTarget phase (λ t. got ≡ got_of (result_of t.words step)) → Fits (Cell step) got
@@ -151,10 +137,8 @@ module _ (P A : Type 0) (shape : Shape) (w : State P A) (actor : Actor) (got : G
   on_desk (Opens mode reading) next so fits d = absurd d
 
   on_metadata : (phase : Phase P A) (second : Bool) (left : ℕ) → OfReading phase (λ mode was. DoesRead mode shape.geometry second left was w.devices.metadata w.commit got chosen) → Fits (Device (ReadMetadata left)) got
-  on_metadata (Stands t) second left d = absurd d
-  on_metadata Gone second left d = absurd d
-  on_metadata (Opens mode None) second left d = absurd d
   on_metadata (Opens mode (Some was)) second left d = read_fits shape mode second left was w.devices.metadata w.commit got chosen d
+  on_metadata phase second left d = absurd d
 
   pub data_sync : (job : Job) (d : Dev) → Gives shape w actor job (Device (Sync d)) got read chosen → got ≡ Done
   data_sync job Metadata g = (sync_fact P A shape w actor got read chosen job g).0
@@ -176,14 +160,7 @@ module _ (P A : Type 0) (shape : Shape) (w : State P A) (actor : Actor) (got : G
   data_sync (Replace old new) Origin g = g.1
 
   pub word_given : (job : Job) (step : CellStep) → Gives shape w actor job (Cell step) got read chosen → OfTarget w.phase (λ t. got ≡ got_of (result_of t.words step))
-  word_given (Read x) step g = g.1
-  word_given (Write x c) step g = g.1
-  word_given Flush step g = g.1
-  word_given Suspend step g = g.1
-  word_given (Invalidate block) step g = g.1
-  word_given (Open mode second) step g = g.1
-  word_given (Migrate migration block) step g = g.1
-  word_given (Replace old new) step g = g.1
+  word_given job step g = g.1
 
   pub end_given : (job : Job) → Gives shape w actor job (Desk EndCommit) got read chosen → got ≡ Done
   end_given (Read x) g = g.1
@@ -216,44 +193,23 @@ module _ (P A : Type 0) (shape : Shape) (w : State P A) (actor : Actor) (got : G
   map_given (Opens mode reading) b c d = absurd d
 
   pub released_done : (job : Job) (b : _) → Gives shape w actor job (Desk (ReleaseOrder b)) got read chosen → got ≡ Done
-  released_done (Read x) b g = absurd g
-  released_done (Write x c) b g = absurd g
   released_done Flush b g = g.1
-  released_done Suspend b g = absurd g
-  released_done (Invalidate block) b g = absurd g
-  released_done (Open mode second) b g = absurd g
   released_done (Migrate migration block) b g = g.1
-  released_done (Replace old new) b g = absurd g
+  released_done job b g = absurd g
 
   unmapped_done : (job : Job) (b : _) → Gives shape w actor job (Desk (Unmap b)) got read chosen → got ≡ Done
-  unmapped_done (Read x) b g = absurd g
   unmapped_done (Write x c) b g = g.1
-  unmapped_done Flush b g = absurd g
-  unmapped_done Suspend b g = absurd g
   unmapped_done (Invalidate block) b g = g.1
-  unmapped_done (Open mode second) b g = absurd g
   unmapped_done (Migrate migration block) b g = g.1
-  unmapped_done (Replace old new) b g = absurd g
+  unmapped_done job b g = absurd g
 
   -- each result fits the step that gave it
   pub gives_fits : (job : Job) (next : Want) → IsStep next → Gives shape w actor job next got read chosen → Fits next got
   gives_fits job (Cell step) i g = on_words w.phase step (word_given job step g)
   gives_fits (Read x) (Device (ReadExtent d e)) i g = done_fits (Device (ReadExtent d e)) got tt g.2
-  gives_fits (Write x c) (Device (ReadExtent d e)) i g = absurd g
-  gives_fits Flush (Device (ReadExtent d e)) i g = absurd g
-  gives_fits Suspend (Device (ReadExtent d e)) i g = absurd g
-  gives_fits (Invalidate block) (Device (ReadExtent d e)) i g = absurd g
-  gives_fits (Open mode second) (Device (ReadExtent d e)) i g = absurd g
   gives_fits (Migrate migration block) (Device (ReadExtent d e)) i g = done_fits (Device (ReadExtent d e)) got tt g.2
-  gives_fits (Replace old new) (Device (ReadExtent d e)) i g = absurd g
-  gives_fits (Read x) (Device (WriteExtent d e)) i g = absurd g
   gives_fits (Write x c) (Device (WriteExtent d e)) i g = done_fits (Device (WriteExtent d e)) got tt g.2
-  gives_fits Flush (Device (WriteExtent d e)) i g = absurd g
-  gives_fits Suspend (Device (WriteExtent d e)) i g = absurd g
-  gives_fits (Invalidate block) (Device (WriteExtent d e)) i g = absurd g
-  gives_fits (Open mode second) (Device (WriteExtent d e)) i g = absurd g
   gives_fits (Migrate migration block) (Device (WriteExtent d e)) i g = done_fits (Device (WriteExtent d e)) got tt g.2
-  gives_fits (Replace old new) (Device (WriteExtent d e)) i g = absurd g
   gives_fits job (Device (Sync d)) i g = done_fits (Device (Sync d)) got tt (data_sync job d g)
   gives_fits job (Device (WriteNode number)) i g = done_fits (Device (WriteNode number)) got tt (node_fact P A shape w actor got read chosen job number g).0
   gives_fits job (Device WriteRoot) i g = done_fits (Device WriteRoot) got tt (root_fact P A shape w actor got read chosen job g).0
@@ -267,3 +223,4 @@ module _ (P A : Type 0) (shape : Shape) (w : State P A) (actor : Actor) (got : G
   gives_fits job (Desk (Unmap b)) i g = done_fits (Desk (Unmap b)) got tt (unmapped_done job b g)
   gives_fits job (Desk (ReleaseOrder b)) i g = done_fits (Desk (ReleaseOrder b)) got tt (released_done job b g)
   gives_fits job (End answer) i g = absurd i
+  gives_fits job next i g = absurd g

@@ -108,10 +108,8 @@ pub all_done : (g : Geometry) (images : Images) (commit : RunningCommit) (of : C
 all_done g images commit of device u done = by_steps commit.steps done u.come
   where
     by_steps : (steps : CommitSteps) → is_committed steps ≡ true → CommitHasCome of.image of.before steps device → DeviceStores of.tree device of.new of.used
-    by_steps (NodesWritten count) e come = absurd (cc)
-    by_steps NodesSynced e come = absurd (cc)
-    by_steps RootWritten e come = absurd (cc)
     by_steps Committed e come = when_done of u.can device come
+    by_steps steps e come = absurd (cc)
 
 -- ---- the steps of a table are those of a commit
 

@@ -272,14 +272,7 @@ module _ (P A : Type 0) (shape : Shape) where
     answers (Opens mode reading) answer p all ords i h g = opens mode reading answer p all ords i h g
 
     given_word : (j : Job) (step : CellStep) → Gives shape w x j (Cell step) got read chosen → OfTarget w.phase (λ t. got ≡ got_of (result_of t.words step))
-    given_word (Read extent) step g = g.1
-    given_word (Write extent content) step g = g.1
-    given_word Flush step g = g.1
-    given_word Suspend step g = g.1
-    given_word (Invalidate block) step g = g.1
-    given_word (Open mode second) step g = g.1
-    given_word (Migrate migration block) step g = g.1
-    given_word (Replace old new) step g = g.1
+    given_word j step g = g.1
 
     steps : (next : Want) → UsedRightly w.phase w.actors → next ≡ want plan → Gives shape w x job next got read chosen → Then w.phase next
     steps (Cell step) u h g = on_words w.devices w.actors a x e job plan xt u.suited u.orders w.phase step got chosen u.here h (gives_fits P A shape w x got read chosen job (Cell step) tt g) (given_word job step g)
@@ -307,9 +300,7 @@ module _ (P A : Type 0) (shape : Shape) where
     where
       by_next : (job : Job) (plan : Plan) (next : Want) → x.task ≡ Some (job, plan) → next ≡ want plan → MayFailAt w.devices choice next → UsedRightly (phase_then shape w.phase next Fault chosen) (slice_set w.actors a (actor_then {P = P} {A = A} shape w.phase w.devices x next Fault))
       by_next job plan (Device step) xt h m = on_device w.devices w.actors a x e job plan xt u.suited u.orders w.phase step Fault chosen u.here h tt
-      by_next job plan (Cell step) xt h m = absurd m
-      by_next job plan (Desk step) xt h m = absurd m
-      by_next job plan (End answer) xt h m = absurd m
+      by_next job plan next xt h m = absurd m
 
       by_task : (t : Option (Job × Plan)) → x.task ≡ t → OfSome t (λ doing. (next ≡ want doing.1) × MayFailAt w.devices choice next × Falters w choice next chosen) →
           UsedRightly (phase_then shape w.phase next Fault chosen) (slice_set w.actors a (actor_then {P = P} {A = A} shape w.phase w.devices x next Fault))
@@ -445,7 +436,6 @@ module _ (P A : Type 0) (shape : Shape) where
     where
       over : (job : Job) (chosen : Chosen P A) (phase : Phase P A) (actors : List Actor) (y : Actor) (a : ℕ) → UsedRightly phase (slice_set actors a y) → UsedRightly (phase_given phase job chosen) (slice_set actors a y)
       over job chosen phase actors y a u = record { suited = u.suited; here = same_here phase job chosen (slice_set actors a y) u.here; orders = u.orders }
-  starts w a Suspend chosen k u applies gives = absurd gives
   starts w a (Read extent) (Cut cut) k u applies gives =
       let f = free P A w a (Read extent) applies in
       subst (λ (o : Option Actor). Started_so w a (Read extent) (Cut cut) o) (sym f.1)
@@ -467,7 +457,6 @@ module _ (P A : Type 0) (shape : Shape) where
     where
       over : {actors : List Actor} → UsedRightly w.phase actors → UsedRightly (phase_given w.phase (Invalidate block) Plain) actors
       over {actors} u = record { suited = u.suited; here = same_here w.phase (Invalidate block) Plain actors u.here; orders = u.orders }
-  starts w a (Invalidate block) chosen k u applies gives = absurd gives
   starts w a (Migrate migration block) chosen k u applies gives =
       let f = free P A w a (Migrate migration block) applies in
       let kept = subst (λ (o : Option Actor). OrdersInside shape.geometry (Rattle.wb_promise.specs.Happenings.orders_in o)) (sym f.1) (λ order m. u.orders a f.0 f.1 order (in_orders f.0 order m)) in
@@ -488,8 +477,7 @@ module _ (P A : Type 0) (shape : Shape) where
     where
       over : {actors : List Actor} → UsedRightly w.phase actors → UsedRightly (phase_given w.phase (Replace old new) chosen) actors
       over {actors} u = record { suited = u.suited; here = same_here w.phase (Replace old new) chosen actors u.here; orders = u.orders }
-  starts w a (Read extent) chosen k u applies gives = absurd gives
-  starts w a (Write extent content) chosen k u applies gives = absurd gives
+  starts w a job chosen k u applies gives = absurd gives
 
   -- ---- every event
 
@@ -504,28 +492,13 @@ module _ (P A : Type 0) (shape : Shape) where
   some_actor (Some x) Is h = tt
 
   pub used_what : (w : State P A) (event : Event) (what : What) (read : List Bytes) (chosen : Chosen P A) → IsKnown P A shape w → AfterWhat w → MayBe shape w event what read chosen → AfterWhat (after_what shape w event what chosen)
-  used_what w (Start a job) Skipped read chosen k u h = u
-  used_what w (Start a job) (Refused refusal) read chosen k u h = u
   used_what w (Start a job) Started read chosen k u h = starts w a job chosen k u h.1 h.2
-  used_what w (Start a job) (Stepped next got) read chosen k u h = u
-  used_what w (Start a job) Stopped read chosen k u h = u
-  used_what w (Step a) Skipped read chosen k u h = u
-  used_what w (Step a) (Refused refusal) read chosen k u h = u
-  used_what w (Step a) Started read chosen k u h = u
   used_what w (Step a) (Stepped next got) read chosen k u h = stepped_to w a next got chosen (λ job buffer step. device_done job buffer step chosen) (slice_get w.actors a) (some_actor (slice_get w.actors a) _ h) (stepped_used w a next got read chosen (slice_get w.actors a) refl k u h)
-  used_what w (Step a) Stopped read chosen k u h = u
-  used_what w (FaultStep a choice) Skipped read chosen k u h = u
-  used_what w (FaultStep a choice) (Refused refusal) read chosen k u h = u
-  used_what w (FaultStep a choice) Started read chosen k u h = u
   used_what w (FaultStep a choice) (Stepped next got) read chosen k u h =
       subst (λ (g : Got). AfterWhat (after_what shape w (FaultStep a choice) (Stepped next g) chosen)) (sym h.1)
       (stepped_to w a next Fault chosen (λ job buffer step. device_failed (lands (device_of step) choice) job buffer step chosen) (slice_get w.actors a) (some_actor (slice_get w.actors a) _ h.2) (faulted_used w a choice next chosen (slice_get w.actors a) refl u h.2))
-  used_what w (FaultStep a choice) Stopped read chosen k u h = u
-  used_what w (Stop choice) Skipped read chosen k u h = u
-  used_what w (Stop choice) (Refused refusal) read chosen k u h = u
-  used_what w (Stop choice) Started read chosen k u h = u
-  used_what w (Stop choice) (Stepped next got) read chosen k u h = u
   used_what w (Stop choice) Stopped read chosen k u h = record { suited = rest_used w.actors; here = rest_blank w.actors; orders = rest_orders w.actors }
+  used_what w event what read chosen k u h = u
 
   pub always : (w : State P A) (hs : List (Happening P A)) → IsKnown P A shape w → AfterWhat w → IsRun shape w hs → AfterWhat (after_all shape w hs)
   always w [] k u r = u
