@@ -67,9 +67,6 @@ by_desk x s t i = same x s t i.seals i.blocks
 
 -- A commit's beginning and its end leave a reserved and a mapped block as it is, and make a kept one a reserved one.
 pub begun_turns : (b : Block) → Ordered b → Turns b (block_begun b)
-begun_turns Free i = inl refl
-begun_turns Mapped i = inl refl
-begun_turns Reserved i = inl refl
 begun_turns (Retained early) i = inr ((early, refl), inl (true, refl))
 begun_turns (Quarantined early) i = absurd (none early i)
   where
@@ -77,20 +74,17 @@ begun_turns (Quarantined early) i = absurd (none early i)
     none early (inl (inl e)) = absurd (cc)
     none early (inl (inr e)) = absurd (cc)
     none early (inr k) = let bad : Quarantined early ≡ Retained k.0 = k.1 in absurd (cc)
+begun_turns b i = inl refl
 
 pub ended_turns : (b : Block) → Ordered b → Turns b (block_ended b)
-ended_turns Free i = inl refl
-ended_turns Mapped i = inl refl
-ended_turns Reserved i = inl refl
 ended_turns (Retained true) i = inr ((true, refl), inr refl)
-ended_turns (Retained false) i = inl refl
-ended_turns (Quarantined false) i = inl refl
 ended_turns (Quarantined true) i = absurd (none i)
   where
     none : Ordered (Quarantined true) → ⊥
     none (inl (inl e)) = absurd (cc)
     none (inl (inr e)) = absurd (cc)
     none (inr k) = let bad : Quarantined true ≡ Retained k.0 = k.1 in absurd (cc)
+ended_turns b i = inl refl
 
 -- a block of the actor's order
 order_keeps : (x : AbstractActor) (s : Shared) (p : Order) (m : Locations) (b : Block) → x.order ≡ Some p → KeepsShared x s (record s { mapping = m; blocks = changed s.blocks p.cache b })

@@ -26,7 +26,9 @@ use Rattle.wb_promise.specs.declared.event.Event.{Event}
 use Rattle.wb_promise.specs.declared.event.Event.TheVariants.{Start, Step, FaultStep, Stop}
 use Rattle.wb_promise.specs.declared.event.What.{What}
 use Rattle.wb_promise.specs.declared.event.What.TheVariants.{Skipped, Refused, Started, Stepped, Stopped}
-use Rattle.wb_promise.specs.States.{Shape, State, Actor, Phase, Stands, Gone, Opens, OfTarget, mode_of, resting, start}
+use Rattle.wb_desk.specs.Desks.{DeskState}
+use Rattle.wb_runs.proofs.Given.{given_keeps}
+use Rattle.wb_promise.specs.States.{Shape, State, Actor, Target, Phase, Stands, Gone, Opens, OfTarget, mode_of, resting, start}
 use Rattle.wb_promise.specs.Happenings.{Chosen, Plain, Cut, Orders, Begins, Reaches, Puts, Commits, Asks, Opened, Happening, OfSome, Gives, MayFailAt, Falters, DoesNotApply, MayBe, task_job, begun_as, StartsAs, Looks}
 use Rattle.wb_promise.specs.Effects.{phase_then, phase_opened, phase_given, task_then, actor_then, stepped, with_actor, cleared, given, job_of, cut_of, device_done, device_failed, all_resting, after_what, after_happening, after_all, IsRun, looks_of}
 use Rattle.wb_promise.specs.Clerk.{Notes, Doing, noted_step, noted_what, finished_note, begun, nobody, put, formatted}
@@ -284,63 +286,14 @@ module _ (P A : Type 0) (shape : Shape) where
   -- ---- starts
 
   same_here : (phase : Phase P A) (job : Job) (chosen : Chosen P A) (t : Option (Job × Plan)) → TaskHere phase t → TaskHere (phase_given phase job chosen) t
-  same_here phase job chosen None h = tt
-  same_here (Stands t) (Migrate migration block) (Orders cut cache) (Some task) h = h
-  same_here (Stands t) (Migrate migration block) Plain (Some task) h = h
-  same_here (Stands t) (Migrate migration block) (Cut cut) (Some task) h = h
-  same_here (Stands t) (Migrate migration block) (Looks looks) (Some task) h = h
-  same_here (Stands t) (Migrate migration block) (Begins now) (Some task) h = h
-  same_here (Stands t) (Migrate migration block) (Reaches now commit) (Some task) h = h
-  same_here (Stands t) (Migrate migration block) (Puts new) (Some task) h = h
-  same_here (Stands t) (Migrate migration block) (Commits commit tree) (Some task) h = h
-  same_here (Stands t) (Migrate migration block) (Asks new) (Some task) h = h
-  same_here (Stands t) (Migrate migration block) (Opened policy) (Some task) h = h
-  same_here (Stands t) (Replace old new) (Orders cut cache) (Some task) h = h
-  same_here (Stands t) (Replace old new) Plain (Some task) h = h
-  same_here (Stands t) (Replace old new) (Cut cut) (Some task) h = h
-  same_here (Stands t) (Replace old new) (Looks looks) (Some task) h = h
-  same_here (Stands t) (Replace old new) (Begins now) (Some task) h = h
-  same_here (Stands t) (Replace old new) (Reaches now commit) (Some task) h = h
-  same_here (Stands t) (Replace old other) (Puts new) (Some task) h = h
-  same_here (Stands t) (Replace old new) (Commits commit tree) (Some task) h = h
-  same_here (Stands t) (Replace old other) (Asks new) (Some task) h = h
-  same_here (Stands t) (Replace old new) (Opened policy) (Some task) h = h
-  same_here (Stands t) (Read extent) chosen (Some task) h = h
-  same_here (Stands t) (Write extent content) chosen (Some task) h = h
-  same_here (Stands t) Flush chosen (Some task) h = h
-  same_here (Stands t) Suspend chosen (Some task) h = h
-  same_here (Stands t) (Invalidate block) chosen (Some task) h = h
-  same_here (Stands t) (Open mode second) chosen (Some task) h = h
-  same_here Gone job chosen (Some task) h = h
-  same_here (Opens mode reading) job chosen (Some task) h = h
+  same_here phase job chosen t h = given_keeps (λ (q : Phase P A). TaskHere q t) (by_task t) phase job chosen h
+    where
+      by_task : (task : Option (Job × Plan)) → (t : Target P) (desk : DeskState P) → TaskHere {P = P} {A = A} (Stands t) task → TaskHere {P = P} {A = A} (Stands (record { words = t.words; desk = desk })) task
+      by_task None t desk h = tt
+      by_task (Some task) t desk h = h
 
   same_alone : (t : _) (job : Job) (chosen : Chosen P A) (actors : List Actor) → AtPhase (phase_given {P = P} {A = A} (Stands t) job chosen) actors
-  same_alone t (Migrate migration block) (Orders cut cache) actors = tt
-  same_alone t (Migrate migration block) Plain actors = tt
-  same_alone t (Migrate migration block) (Cut cut) actors = tt
-  same_alone t (Migrate migration block) (Looks looks) actors = tt
-  same_alone t (Migrate migration block) (Begins now) actors = tt
-  same_alone t (Migrate migration block) (Reaches now commit) actors = tt
-  same_alone t (Migrate migration block) (Puts new) actors = tt
-  same_alone t (Migrate migration block) (Commits commit tree) actors = tt
-  same_alone t (Migrate migration block) (Asks new) actors = tt
-  same_alone t (Migrate migration block) (Opened policy) actors = tt
-  same_alone t (Replace old new) (Orders cut cache) actors = tt
-  same_alone t (Replace old new) Plain actors = tt
-  same_alone t (Replace old new) (Cut cut) actors = tt
-  same_alone t (Replace old new) (Looks looks) actors = tt
-  same_alone t (Replace old new) (Begins now) actors = tt
-  same_alone t (Replace old new) (Reaches now commit) actors = tt
-  same_alone t (Replace old other) (Puts new) actors = tt
-  same_alone t (Replace old new) (Commits commit tree) actors = tt
-  same_alone t (Replace old other) (Asks new) actors = tt
-  same_alone t (Replace old new) (Opened policy) actors = tt
-  same_alone t (Read extent) chosen actors = tt
-  same_alone t (Write extent content) chosen actors = tt
-  same_alone t Flush chosen actors = tt
-  same_alone t Suspend chosen actors = tt
-  same_alone t (Invalidate block) chosen actors = tt
-  same_alone t (Open mode second) chosen actors = tt
+  same_alone t job chosen actors = given_keeps (λ (q : Phase P A). AtPhase q actors) (λ t desk k. k) (Stands t) job chosen tt
 
   abbrev Started_so : List Bytes → State P A → Notes → ℕ → Job → Chosen P A → Option Actor → Type 0
   Started_so shown w n a job chosen o = LinkedTo (with_actor (cleared w job) o (λ x. record (cleared w job) { phase = phase_given (cleared w job).phase job chosen; actors = slice_set (cleared w job).actors a (given shape (mode_of (cleared w job).phase) x job chosen) })) (noted_what shape (mode_of w.phase) shown n (Start a job) Started [])

@@ -77,14 +77,7 @@ module _ (P A : Type 0) (shape : Shape) where
   ordered i (Stands t) commit m actor (Replace old new) (Orders cut cache) k g = reserved_stands P shape.geometry i t.desk commit m cache (ReplaceOrder old new cache) k g.1
   ordered i (Stands t) commit m actor (Replace old new) (Cut cut) k g = k
   ordered i (Stands t) commit m actor (Replace old new) chosen k g = absurd g
-  ordered i (Stands t) commit m actor (Read extent) chosen k g = k
-  ordered i (Stands t) commit m actor (Write extent content) chosen k g = k
-  ordered i (Stands t) commit m actor Flush chosen k g = k
-  ordered i (Stands t) commit m actor Suspend chosen k g = k
-  ordered i (Stands t) commit m actor (Invalidate block) chosen k g = k
-  ordered i (Stands t) commit m actor (Open mode second) chosen k g = k
-  ordered i Gone commit m actor job chosen k g = k
-  ordered i (Opens mode reading) commit m actor job chosen k g = k
+  ordered i phase commit m actor job chosen k g = k
 
   suspend_ordered : (i : Images) (phase : Phase P A) (commit : Option RunningCommit) (m : List History) (chosen : Chosen P A) → MetadataKept shape.geometry i phase commit m → MetadataKept shape.geometry i (phase_given phase Suspend chosen) commit m
   suspend_ordered i (Stands t) commit m chosen k = k

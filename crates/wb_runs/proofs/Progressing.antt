@@ -27,6 +27,7 @@ use Rattle.wb_promise.specs.declared.event.Event.{Event}
 use Rattle.wb_promise.specs.declared.event.Event.TheVariants.{Start, Step, FaultStep, Stop}
 use Rattle.wb_promise.specs.declared.event.What.{What}
 use Rattle.wb_promise.specs.declared.event.What.TheVariants.{Skipped, Refused, Started, Stepped, Stopped}
+use Rattle.wb_runs.proofs.Given.{given_keeps}
 use Rattle.wb_promise.specs.States.{Shape, State, Actor, Target, Phase, Stands, Gone, Opens, OfTarget, mode_of, resting, start}
 use Rattle.wb_promise.specs.Happenings.{Chosen, Plain, Cut, Orders, Begins, Reaches, Puts, Commits, Asks, Opened, Happening, OfSome, Gives, Falters, MayFailAt, DoesNotApply, MayBe, block_range, invalidated_range, migrated_range, blocks_left, task_job, begun_as, most_for, Looks, write_job}
 use Rattle.wb_promise.specs.Effects.{device_done, device_failed, commit_then, reading_then, task_then, phase_then, phase_opened, phase_given, actor_then, stepped, with_actor, cleared, given, started, job_of, cut_of, after_what, after_happening, after_all, IsRun, looks_of}
@@ -114,51 +115,11 @@ module _ (P A : Type 0) (shape : Shape) where
   same_commit t commit job (Desk (Map b c)) got chosen i = refl
   same_commit t commit job (Desk (Unmap b)) got chosen i = refl
   same_commit t commit job (Desk (ReleaseOrder b)) got chosen i = refl
-  same_commit t commit (Reading part) (Device (Sync d)) got chosen i = absurd i
-  same_commit t commit (Writing part) (Device (Sync d)) got chosen i = absurd i
-  same_commit t commit (Displacing part) (Device (Sync d)) got chosen i = absurd i
-  same_commit t commit (Invalidating part) (Device (Sync d)) got chosen i = absurd i
-  same_commit t commit (Migrating m part) (Device (Sync d)) got chosen i = absurd i
-  same_commit t commit (Reading part) (Device (ReadMetadata k)) got chosen i = absurd i
-  same_commit t commit (Writing part) (Device (ReadMetadata k)) got chosen i = absurd i
-  same_commit t commit (Displacing part) (Device (ReadMetadata k)) got chosen i = absurd i
-  same_commit t commit (Invalidating part) (Device (ReadMetadata k)) got chosen i = absurd i
-  same_commit t commit (Migrating m part) (Device (ReadMetadata k)) got chosen i = absurd i
-  same_commit t commit (Reading part) (Device (WriteNode k)) got chosen i = absurd i
-  same_commit t commit (Writing part) (Device (WriteNode k)) got chosen i = absurd i
-  same_commit t commit (Displacing part) (Device (WriteNode k)) got chosen i = absurd i
-  same_commit t commit (Invalidating part) (Device (WriteNode k)) got chosen i = absurd i
-  same_commit t commit (Migrating m part) (Device (WriteNode k)) got chosen i = absurd i
-  same_commit t commit (Reading part) (Device WriteRoot) got chosen i = absurd i
-  same_commit t commit (Writing part) (Device WriteRoot) got chosen i = absurd i
-  same_commit t commit (Displacing part) (Device WriteRoot) got chosen i = absurd i
-  same_commit t commit (Invalidating part) (Device WriteRoot) got chosen i = absurd i
-  same_commit t commit (Migrating m part) (Device WriteRoot) got chosen i = absurd i
-  same_commit t commit (Reading part) (Desk (Arrive most)) got chosen i = absurd i
-  same_commit t commit (Reading part) (Desk (Ask most)) got chosen i = absurd i
-  same_commit t commit (Reading part) (Desk (BeginCommit most)) got chosen i = absurd i
-  same_commit t commit (Writing part) (Desk (Arrive most)) got chosen i = absurd i
-  same_commit t commit (Writing part) (Desk (Ask most)) got chosen i = absurd i
-  same_commit t commit (Writing part) (Desk (BeginCommit most)) got chosen i = absurd i
-  same_commit t commit (Displacing part) (Desk (Arrive most)) got chosen i = absurd i
-  same_commit t commit (Displacing part) (Desk (Ask most)) got chosen i = absurd i
-  same_commit t commit (Displacing part) (Desk (BeginCommit most)) got chosen i = absurd i
-  same_commit t commit (Invalidating part) (Desk (Arrive most)) got chosen i = absurd i
-  same_commit t commit (Invalidating part) (Desk (Ask most)) got chosen i = absurd i
-  same_commit t commit (Invalidating part) (Desk (BeginCommit most)) got chosen i = absurd i
-  same_commit t commit (Migrating m part) (Desk (Arrive most)) got chosen i = absurd i
-  same_commit t commit (Migrating m part) (Desk (Ask most)) got chosen i = absurd i
-  same_commit t commit (Migrating m part) (Desk (BeginCommit most)) got chosen i = absurd i
-  same_commit t commit (Reading part) (Desk EndCommit) got chosen i = absurd i
-  same_commit t commit (Reading part) (Desk BreakCommit) got chosen i = absurd i
-  same_commit t commit (Writing part) (Desk EndCommit) got chosen i = absurd i
-  same_commit t commit (Writing part) (Desk BreakCommit) got chosen i = absurd i
-  same_commit t commit (Displacing part) (Desk EndCommit) got chosen i = absurd i
-  same_commit t commit (Displacing part) (Desk BreakCommit) got chosen i = absurd i
-  same_commit t commit (Invalidating part) (Desk EndCommit) got chosen i = absurd i
-  same_commit t commit (Invalidating part) (Desk BreakCommit) got chosen i = absurd i
-  same_commit t commit (Migrating m part) (Desk EndCommit) got chosen i = absurd i
-  same_commit t commit (Migrating m part) (Desk BreakCommit) got chosen i = absurd i
+  same_commit t commit (Reading part) next got chosen i = absurd i
+  same_commit t commit (Writing part) next got chosen i = absurd i
+  same_commit t commit (Displacing part) next got chosen i = absurd i
+  same_commit t commit (Invalidating part) next got chosen i = absurd i
+  same_commit t commit (Migrating m part) next got chosen i = absurd i
 
   -- a task of a block is at its own step
   pub own_step : (card : Card) (plan : Plan) (job : BlockJob) → plan.job ≡ OnBlock job → Suits shape.geometry.origin_blocks plan card → IsOwnStep (OnBlock job) (want plan)
@@ -199,28 +160,13 @@ module _ (P A : Type 0) (shape : Shape) where
     -- what is left of it
     block_task : (job : Job) (plan : Plan) (next : Want) (got : Got) → OnSome plan → FlushJob commit (a ≡ leader) job plan → IsOther job → FlushTask commit (a ≡ leader) (task_then (Some (job, plan)) next got)
     block_task job plan (End answer) got o k f = tt
-    block_task (Read extent) plan (Cell step) got o k f = tt
-    block_task (Read extent) plan (Device step) got o k f = tt
-    block_task (Read extent) plan (Desk step) got o k f = tt
-    block_task (Write extent content) plan (Cell step) got o k f = tt
-    block_task (Write extent content) plan (Device step) got o k f = tt
-    block_task (Write extent content) plan (Desk step) got o k f = tt
-    block_task (Open mode second) plan (Cell step) got o k f = tt
-    block_task (Open mode second) plan (Device step) got o k f = tt
-    block_task (Open mode second) plan (Desk step) got o k f = tt
-    block_task (Invalidate block) plan (Cell step) got o k f = (k.0, job_stays plan got ∙ k.1)
-    block_task (Invalidate block) plan (Device step) got o k f = (k.0, job_stays plan got ∙ k.1)
-    block_task (Invalidate block) plan (Desk step) got o k f = (k.0, job_stays plan got ∙ k.1)
-    block_task (Migrate migration block) plan (Cell step) got o k f = (k.0, job_stays plan got ∙ k.1)
-    block_task (Migrate migration block) plan (Device step) got o k f = (k.0, job_stays plan got ∙ k.1)
-    block_task (Migrate migration block) plan (Desk step) got o k f = (k.0, job_stays plan got ∙ k.1)
+    block_task (Read extent) plan next got o k f = tt
+    block_task (Write extent content) plan next got o k f = tt
+    block_task (Open mode second) plan next got o k f = tt
+    block_task (Invalidate block) plan next got o k f = (k.0, job_stays plan got ∙ k.1)
+    block_task (Migrate migration block) plan next got o k f = (k.0, job_stays plan got ∙ k.1)
     block_task (Replace old new) plan next got o k f = absurd k
-    block_task Flush plan (Cell step) got o k f = absurd f
-    block_task Suspend plan (Cell step) got o k f = absurd f
-    block_task Flush plan (Device step) got o k f = absurd f
-    block_task Suspend plan (Device step) got o k f = absurd f
-    block_task Flush plan (Desk step) got o k f = absurd f
-    block_task Suspend plan (Desk step) got o k f = absurd f
+    block_task job plan next got o k f = absurd f
 
     -- whatever a step of a job of a block gave
     block_goes : (job : Job) (plan : Plan) (next : Want) (got : Got) (chosen : Chosen P A) → OnSome plan → IsOther job → x.task ≡ Some (job, plan) → next ≡ want plan → Then next got chosen
@@ -404,34 +350,7 @@ module _ (P A : Type 0) (shape : Shape) where
 
   -- an order that is given leaves where everybody stands
   given_goes : (phase : Phase P A) (commit : Option RunningCommit) (actors : List Actor) (job : Job) (chosen : Chosen P A) → Going phase commit actors → Going (phase_given phase job chosen) commit actors
-  given_goes (Stands t) commit actors (Migrate migration block) (Orders cut cache) k = k
-  given_goes (Stands t) commit actors (Migrate migration block) Plain k = k
-  given_goes (Stands t) commit actors (Migrate migration block) (Cut cut) k = k
-  given_goes (Stands t) commit actors (Migrate migration block) (Looks looks) k = k
-  given_goes (Stands t) commit actors (Migrate migration block) (Begins now) k = k
-  given_goes (Stands t) commit actors (Migrate migration block) (Reaches now c) k = k
-  given_goes (Stands t) commit actors (Migrate migration block) (Puts new) k = k
-  given_goes (Stands t) commit actors (Migrate migration block) (Commits c tree) k = k
-  given_goes (Stands t) commit actors (Migrate migration block) (Asks new) k = k
-  given_goes (Stands t) commit actors (Migrate migration block) (Opened policy) k = k
-  given_goes (Stands t) commit actors (Replace old new) (Orders cut cache) k = k
-  given_goes (Stands t) commit actors (Replace old new) Plain k = k
-  given_goes (Stands t) commit actors (Replace old new) (Cut cut) k = k
-  given_goes (Stands t) commit actors (Replace old new) (Looks looks) k = k
-  given_goes (Stands t) commit actors (Replace old new) (Begins now) k = k
-  given_goes (Stands t) commit actors (Replace old new) (Reaches now c) k = k
-  given_goes (Stands t) commit actors (Replace old new) (Puts now) k = k
-  given_goes (Stands t) commit actors (Replace old new) (Commits c tree) k = k
-  given_goes (Stands t) commit actors (Replace old new) (Asks now) k = k
-  given_goes (Stands t) commit actors (Replace old new) (Opened policy) k = k
-  given_goes (Stands t) commit actors (Read extent) chosen k = k
-  given_goes (Stands t) commit actors (Write extent content) chosen k = k
-  given_goes (Stands t) commit actors Flush chosen k = k
-  given_goes (Stands t) commit actors Suspend chosen k = k
-  given_goes (Stands t) commit actors (Invalidate block) chosen k = k
-  given_goes (Stands t) commit actors (Open mode second) chosen k = k
-  given_goes Gone commit actors job chosen k = k
-  given_goes (Opens mode reading) commit actors job chosen k = k
+  given_goes phase commit actors job chosen = given_keeps (λ (q : Phase P A). Going q commit actors) (λ t desk k. k) phase job chosen
 
   -- a task starts where a target stands
   task_by_phase : (phase : Phase P A) (commit : Option RunningCommit) (actors : List Actor) (a : ℕ) (x : Actor) (job : Job) (chosen : Chosen P A) → slice_get actors a ≡ Some x → (¬ (¬ OfTarget phase (λ t. Unit {0}))) → Going phase commit actors →

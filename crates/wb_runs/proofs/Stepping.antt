@@ -73,22 +73,13 @@ module _ (P A : Type 0) (shape : Shape) where
   IsData step = ⊥
 
   pub data_same : (i : Images) (phase : Phase P A) (commit : Option RunningCommit) (m : List History) (step : DeviceStep) (got : Got) (chosen : Chosen P A) → IsData step → K i phase commit m → T i (phase_then shape phase (Device step) got chosen) (commit_then phase commit (Device step) got chosen) m
-  data_same i (Stands t) commit m (ReadExtent d e) got chosen x k = same i (Stands t) commit m k
-  data_same i Gone commit m (ReadExtent d e) got chosen x k = same i Gone commit m k
-  data_same i (Opens mode reading) commit m (ReadExtent d e) got chosen x k = same i (Opens mode reading) commit m k
-  data_same i (Stands t) commit m (WriteExtent d e) got chosen x k = same i (Stands t) commit m k
-  data_same i Gone commit m (WriteExtent d e) got chosen x k = same i Gone commit m k
-  data_same i (Opens mode reading) commit m (WriteExtent d e) got chosen x k = same i (Opens mode reading) commit m k
-  data_same i (Stands t) commit m (Sync Cache) got chosen x k = same i (Stands t) commit m k
-  data_same i Gone commit m (Sync Cache) got chosen x k = same i Gone commit m k
-  data_same i (Opens mode reading) commit m (Sync Cache) got chosen x k = same i (Opens mode reading) commit m k
-  data_same i (Stands t) commit m (Sync Origin) got chosen x k = same i (Stands t) commit m k
-  data_same i Gone commit m (Sync Origin) got chosen x k = same i Gone commit m k
-  data_same i (Opens mode reading) commit m (Sync Origin) got chosen x k = same i (Opens mode reading) commit m k
   data_same i phase commit m (Sync Metadata) got chosen x k = absurd x
   data_same i phase commit m (ReadMetadata left) got chosen x k = absurd x
   data_same i phase commit m (WriteNode number) got chosen x k = absurd x
   data_same i phase commit m WriteRoot got chosen x k = absurd x
+  data_same i (Stands t) commit m step got chosen x k = same i (Stands t) commit m k
+  data_same i Gone commit m step got chosen x k = same i Gone commit m k
+  data_same i (Opens mode reading) commit m step got chosen x k = same i (Opens mode reading) commit m k
 
   -- ---- steps of a commit
 
