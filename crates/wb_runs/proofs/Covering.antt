@@ -151,10 +151,8 @@ seen : (job : BlockJob) (seal : ℕ) (answer : Answer) → answer_seeing (OnBloc
 seen (Writing part) seal answer f = by_mode part.mode (place_in seal) f
   where
     by_mode : (mode : Mode) (place : Option CBlock) → deferring mode place answer ≡ Finished → deferring mode place Finished ≡ Finished
-    by_mode Writeback place f = refl
-    by_mode Writethrough place f = refl
-    by_mode Passthrough None f = refl
     by_mode Passthrough (Some c) f = f
+    by_mode mode place f = refl
 seen job seal answer f = refl
 
 module _ (shape : Shape) (mode : Mode) (whole : Extent) (part : BlockRange) (cut : IsCutInto whole part.extents) (words : Words) (card : Card) (moved : List ℕ) where

@@ -242,13 +242,11 @@ module _ (P A : Type 0) where
 -- blocks stand where a migration copies from, and where it copies to
 source_holds : (migration : Migration) → HoldsBlocks (source_of migration)
 source_holds (Promote c) = tt
-source_holds Demote = tt
-source_holds Clean = tt
+source_holds migration = tt
 
 target_holds : (migration : Migration) → HoldsBlocks (target_of migration)
 target_holds (Promote c) = tt
-target_holds Demote = tt
-target_holds Clean = tt
+target_holds migration = tt
 
 -- an order can be given up, whether it lives or not
 gives_up : {P : Type 0} (desk : DeskState P) (order : Order) → DeskInvariant unknowing desk → (new : DeskState P) × IsGivenUp (Some order) desk new

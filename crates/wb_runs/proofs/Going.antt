@@ -386,13 +386,9 @@ module _ (P A : Type 0) (shape : Shape) (mode m' : Mode) (second : Bool) (readin
 
   pub open_fails : (choice : Choice) (chosen : Chosen P A) (point : OpenPoint) → Falters here choice (want (O point)) chosen →
       Rattle.wb_runs.proofs.Points.OpenTask (reading_then reading (want (O point)) Fault chosen) (commit_then {P = P} {A = A} (Opens mode reading) commit (want (O point)) Fault chosen) (task_then (Some (Open m' second, O point)) (want (O point)) Fault)
-  open_fails choice chosen AtFirst g = refuses _ _ (Io Metadata) _ refl
   open_fails choice chosen AtCache g = refuses _ _ (Io Cache) _ refl
   open_fails choice chosen AtOrigin g = refuses _ _ (Io Origin) _ refl
-  open_fails choice chosen (AtRead left) g = refuses _ _ (Io Metadata) _ refl
-  open_fails choice chosen (AtNodes zero from) g = refuses _ _ (Io Metadata) _ refl
   open_fails choice chosen (AtNodes (suc left) from) g = refuses _ _ (Io Metadata) _ refl
-  open_fails choice chosen AtRoot g = refuses _ _ (Io Metadata) _ refl
-  open_fails choice chosen AtRootSync g = refuses _ _ (Io Metadata) _ refl
   open_fails choice chosen AtEnd g = absurd g
   open_fails choice chosen (AtRefusal refusal) g = absurd g
+  open_fails choice chosen point g = refuses _ _ (Io Metadata) _ refl

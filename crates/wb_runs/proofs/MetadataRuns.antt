@@ -81,8 +81,7 @@ module _ (P A : Type 0) (shape : Shape) where
 
   suspend_ordered : (i : Images) (phase : Phase P A) (commit : Option RunningCommit) (m : List History) (chosen : Chosen P A) → MetadataKept shape.geometry i phase commit m → MetadataKept shape.geometry i (phase_given phase Suspend chosen) commit m
   suspend_ordered i (Stands t) commit m chosen k = k
-  suspend_ordered i Gone commit m chosen k = k
-  suspend_ordered i (Opens mode reading) commit m chosen k = k
+  suspend_ordered i phase commit m chosen k = k
 
   by_start : (i : Images) (w : State P A) (a : ℕ) (job : Job) (chosen : Chosen P A) → Known i w → StartsAs shape w a job Started chosen → Knows i (started shape w a job chosen)
   by_start i w a (Open mode second) chosen k g = by_actor (slice_get (cleared w (Open mode second)).actors a)

@@ -112,11 +112,7 @@ open_on plan doing doing' step got c e comes grows why = by_steps plan.steps ref
 
     more : (ws : List Want) → OpensOnly (Device step ∷ ws) → (s : DeviceStep) → step ≡ s → OpenClaim (after (plan_of (Opening c.left) (Device s ∷ ws) plan.answer) More) doing'
     more ws f (ReadMetadata k) q = record { left = c.left; job_is = refl; fine = later (Device step) ws f; cause = λ r a. grows r (c.cause r a) }
-    more ws f (Sync d) q = record { left = c.left; job_is = refl; fine = later (Device step) ws f; cause = λ r a. grows r (c.cause r a) }
-    more ws f WriteRoot q = record { left = c.left; job_is = refl; fine = later (Device step) ws f; cause = λ r a. grows r (c.cause r a) }
-    more ws f (WriteNode k) q = record { left = c.left; job_is = refl; fine = later (Device step) ws f; cause = λ r a. grows r (c.cause r a) }
-    more ws f (ReadExtent d x) q = record { left = c.left; job_is = refl; fine = later (Device step) ws f; cause = λ r a. grows r (c.cause r a) }
-    more ws f (WriteExtent d x) q = record { left = c.left; job_is = refl; fine = later (Device step) ws f; cause = λ r a. grows r (c.cause r a) }
+    more ws f s q = record { left = c.left; job_is = refl; fine = later (Device step) ws f; cause = λ r a. grows r (c.cause r a) }
 
     by_got : (ws : List Want) → OpensOnly (Device step ∷ ws) → (got : Got) → Comes got → ((refusal : Refusal) → Causes step got refusal → MayRefuse doing' refusal) → OpenClaim (after (plan_of (Opening c.left) (Device step ∷ ws) plan.answer) got) doing'
     by_got ws f Done k why = record { left = c.left; job_is = refl; fine = later (Device step) ws f; cause = λ r a. grows r (c.cause r a) }
@@ -211,7 +207,5 @@ module _ (P A : Type 0) (shape : Shape) (images : Images) (device : List History
       by_got : (got : Got) → DoesRead mode shape.geometry second left was device None got chosen → Causes (ReadMetadata left) got refusal → MayRefuse (failing doing (ReadMetadata left) got) refusal
       by_got (GotRefused because) d c = subst (λ (x : Refusal). MayRefuse doing x) (sym c) (by_cause because (refused_for P A shape.geometry images device was mode second left because chosen reached d))
       by_got Fault d c = absurd (no_fault mode was chosen d)
-      by_got Done d c = absurd c
-      by_got More d c = absurd c
       by_got got d c = absurd c
   reading_why phase commit got chosen known e g at refusal c = absurd g

@@ -39,10 +39,8 @@ seeing_was : (job : TaskJob) (seal : ℕ) (answer : Answer) → answer_seeing jo
 seeing_was (OnBlock (Writing part)) seal answer f = by_mode part.mode (place_in seal) f
   where
     by_mode : (mode : Mode) (place : Option CBlock) → deferring mode place answer ≡ Finished → answer ≡ Finished
-    by_mode Writeback place f = f
-    by_mode Writethrough place f = f
-    by_mode Passthrough None f = f
     by_mode Passthrough (Some c) f = absurd (cc)
+    by_mode mode place f = f
 seeing_was job seal answer f = f
 
 look_was : (s : Plan) (v : Want) (x : ℕ) → (after_look s v x).answer ≡ Finished → s.answer ≡ Finished

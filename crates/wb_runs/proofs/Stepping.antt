@@ -135,9 +135,7 @@ module _ (P A : Type 0) (shape : Shape) where
 
       begun : (now : ReadSteps A) → sectors_read now ≡ 0 → Turns (λ j. HasReached shape.geometry j now (synced m)) i
       begun (Begun alloc global) e = by (Begun alloc global) (record { found = base.kept; come = tt; on = tt })
-      begun (FirstSlotRead alloc global first) e = absurd (omega (arith, e))
-      begun (RootFound global root loader nodes) e = absurd (omega (arith, e))
-      begun (AllRead state) e = absurd (omega (arith, e))
+      begun now e = absurd (omega (arith, e))
   sync_metadata i phase None m chosen k s = absurd s
 
   put_node : (i : Images) (phase : Phase P A) (commit : Option RunningCommit) (m : List History) (number : ℕ) (job : Job) (buffer : List Bytes) (chosen : Chosen P A) → K i phase commit m → DoesPut commit (WriteNode number) m chosen →
@@ -316,94 +314,40 @@ module _ (P A : Type 0) (shape : Shape) where
 
     pub sync_fact : (job : Job) → G job (Device (Sync Metadata)) → (got ≡ Done) × DoesSync w.phase w.commit m chosen
     sync_fact (Read x) g = (g.1, g.2)
-    sync_fact (Write x c) g = (g.1, g.2)
-    sync_fact Flush g = (g.1, g.2)
-    sync_fact Suspend g = (g.1, g.2)
-    sync_fact (Invalidate block) g = (g.1, g.2)
-    sync_fact (Open mode second) g = (g.1, g.2)
-    sync_fact (Migrate migration block) g = (g.1, g.2)
-    sync_fact (Replace old new) g = (g.1, g.2)
+    sync_fact job g = (g.1, g.2)
 
     pub node_fact : (job : Job) (number : ℕ) → G job (Device (WriteNode number)) → (got ≡ Done) × DoesPut w.commit (WriteNode number) m chosen
     node_fact (Read x) number g = (g.1, g.2)
-    node_fact (Write x c) number g = (g.1, g.2)
-    node_fact Flush number g = (g.1, g.2)
-    node_fact Suspend number g = (g.1, g.2)
-    node_fact (Invalidate block) number g = (g.1, g.2)
-    node_fact (Open mode second) number g = (g.1, g.2)
-    node_fact (Migrate migration block) number g = (g.1, g.2)
-    node_fact (Replace old new) number g = (g.1, g.2)
+    node_fact job number g = (g.1, g.2)
 
     pub root_fact : (job : Job) → G job (Device WriteRoot) → (got ≡ Done) × DoesPut w.commit WriteRoot m chosen
     root_fact (Read x) g = (g.1, g.2)
-    root_fact (Write x c) g = (g.1, g.2)
-    root_fact Flush g = (g.1, g.2)
-    root_fact Suspend g = (g.1, g.2)
-    root_fact (Invalidate block) g = (g.1, g.2)
-    root_fact (Open mode second) g = (g.1, g.2)
-    root_fact (Migrate migration block) g = (g.1, g.2)
-    root_fact (Replace old new) g = (g.1, g.2)
+    root_fact job g = (g.1, g.2)
 
     pub metadata_fact : (job : Job) (left : ℕ) → G job (Device (ReadMetadata left)) → (w.commit ≡ None) × OfReading w.phase (λ mode was. DoesRead mode shape.geometry (asks_second job) left was m w.commit got chosen)
     metadata_fact (Read x) left g = (g.1, g.2)
-    metadata_fact (Write x c) left g = (g.1, g.2)
-    metadata_fact Flush left g = (g.1, g.2)
-    metadata_fact Suspend left g = (g.1, g.2)
-    metadata_fact (Invalidate block) left g = (g.1, g.2)
-    metadata_fact (Open mode second) left g = (g.1, g.2)
-    metadata_fact (Migrate migration block) left g = (g.1, g.2)
-    metadata_fact (Replace old new) left g = (g.1, g.2)
+    metadata_fact job left g = (g.1, g.2)
 
     -- asked for a commit
     pub begin_fact : (job : Job) (most : ℕ) → G job (Desk (BeginCommit most)) → OfTarget w.phase (λ t. DoesBegin (Some actor.seen) most t.desk got chosen)
     begin_fact (Read x) most g = g.1
-    begin_fact (Write x c) most g = g.1
-    begin_fact Flush most g = g.1
-    begin_fact Suspend most g = g.1
-    begin_fact (Invalidate block) most g = g.1
-    begin_fact (Open mode second) most g = g.1
-    begin_fact (Migrate migration block) most g = g.1
-    begin_fact (Replace old new) most g = g.1
+    begin_fact job most g = g.1
 
     pub arrive_fact : (job : Job) (most : ℕ) → G job (Desk (Arrive most)) → OfTarget w.phase (λ t. DoesArrive most t.desk got chosen)
     arrive_fact (Read x) most g = g.1
-    arrive_fact (Write x c) most g = g.1
-    arrive_fact Flush most g = g.1
-    arrive_fact Suspend most g = g.1
-    arrive_fact (Invalidate block) most g = g.1
-    arrive_fact (Open mode second) most g = g.1
-    arrive_fact (Migrate migration block) most g = g.1
-    arrive_fact (Replace old new) most g = g.1
+    arrive_fact job most g = g.1
 
     pub ask_fact : (job : Job) (most : ℕ) → G job (Desk (Ask most)) → OfTarget w.phase (λ t. DoesAsk actor.share most t.desk got chosen)
     ask_fact (Read x) most g = g.1
-    ask_fact (Write x c) most g = g.1
-    ask_fact Flush most g = g.1
-    ask_fact Suspend most g = g.1
-    ask_fact (Invalidate block) most g = g.1
-    ask_fact (Open mode second) most g = g.1
-    ask_fact (Migrate migration block) most g = g.1
-    ask_fact (Replace old new) most g = g.1
+    ask_fact job most g = g.1
 
     pub break_fact : (job : Job) → G job (Desk BreakCommit) → OfTarget w.phase (λ t. Unit {0})
     break_fact (Read x) g = g.2
-    break_fact (Write x c) g = g.2
-    break_fact Flush g = g.2
-    break_fact Suspend g = g.2
-    break_fact (Invalidate block) g = g.2
-    break_fact (Open mode second) g = g.2
-    break_fact (Migrate migration block) g = g.2
-    break_fact (Replace old new) g = g.2
+    break_fact job g = g.2
 
     pub end_fact : (job : Job) → G job (Desk EndCommit) → OfTarget w.phase (λ t. is_all_done w.commit ≡ true)
     end_fact (Read x) g = g.2
-    end_fact (Write x c) g = g.2
-    end_fact Flush g = g.2
-    end_fact Suspend g = g.2
-    end_fact (Invalidate block) g = g.2
-    end_fact (Open mode second) g = g.2
-    end_fact (Migrate migration block) g = g.2
-    end_fact (Replace old new) g = g.2
+    end_fact job g = g.2
 
     pub map_fact : (job : Job) (b c : _) → G job (Desk (Map b c)) → OfTarget w.phase (λ t. DoesMap b c t.desk got chosen)
     map_fact (Migrate migration block) b c g = g.1
@@ -452,10 +396,8 @@ module _ (P A : Type 0) (shape : Shape) where
             by_chosen (Puts new) h = by_phase w.phase h
               where
                 by_phase : (p : Phase P A) → OfReading p (λ mode was. ⊥) → new ≡ m
-                by_phase (Stands t) h = absurd h
-                by_phase Gone h = absurd h
-                by_phase (Opens mode None) h = absurd h
                 by_phase (Opens mode (Some was)) h = absurd h
+                by_phase p h = absurd h
             by_chosen ch h = refl
 
         by_commit : (commit : Option RunningCommit) → commit ≡ None → K i w.phase commit m → OfReading w.phase (λ mode was. DoesRead mode shape.geometry (asks_second job) left was m commit got chosen) →

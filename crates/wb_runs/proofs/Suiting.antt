@@ -164,23 +164,11 @@ module _ (P A : Type 0) (shape : Shape) (w : State P A) (actor : Actor) (got : G
 
   pub end_given : (job : Job) → Gives shape w actor job (Desk EndCommit) got read chosen → got ≡ Done
   end_given (Read x) g = g.1
-  end_given (Write x c) g = g.1
-  end_given Flush g = g.1
-  end_given Suspend g = g.1
-  end_given (Invalidate block) g = g.1
-  end_given (Open mode second) g = g.1
-  end_given (Migrate migration block) g = g.1
-  end_given (Replace old new) g = g.1
+  end_given job g = g.1
 
   pub break_given : (job : Job) → Gives shape w actor job (Desk BreakCommit) got read chosen → got ≡ Done
   break_given (Read x) g = g.1
-  break_given (Write x c) g = g.1
-  break_given Flush g = g.1
-  break_given Suspend g = g.1
-  break_given (Invalidate block) g = g.1
-  break_given (Open mode second) g = g.1
-  break_given (Migrate migration block) g = g.1
-  break_given (Replace old new) g = g.1
+  break_given job g = g.1
 
   map_fits : (desk : DeskState P) (b c : _) (got : Got) (ch : Chosen P A) → DoesMap b c desk got ch → Fits (Desk (Map b c)) got
   map_fits desk b c Done (Asks new) d = tt

@@ -76,8 +76,7 @@ AllOpen actors = (a : ℕ) (x : Actor) → slice_get actors a ≡ Some x → Ope
 -- a write's first steps suit whoever has nothing
 write_suits : (mode : Mode) (part : BlockRange) (card : Card) {blocks : ℕ} → part.block.0 < blocks → card.hold ≡ Nothing → Suits blocks (table (OnBlock (write_job mode part))) card
 write_suits Writeback part card b h = (b, (h, refl))
-write_suits Writethrough part card b h = (b, (h, refl))
-write_suits Passthrough part card b h = (b, (h, refl))
+write_suits mode part card b h = (b, (h, refl))
 
 -- a request starts on a block of the origin
 starts_inside : (shape : Shape) (extent : Extent) → MayStart shape extent → extent.first / shape.geometry.block < shape.geometry.origin_blocks
@@ -239,13 +238,7 @@ module _ (P A : Type 0) (shape : Shape) where
       where
         plain : (j : Job) → Gives shape w x j (End (Refuses refusal)) got read chosen → chosen ≡ Plain
         plain (Read extent) g = g.0.1
-        plain (Write extent content) g = g.0.1
-        plain Flush g = g.0.1
-        plain Suspend g = g.0.1
-        plain (Invalidate block) g = g.0.1
-        plain (Open m second) g = g.0.1
-        plain (Migrate migration block) g = g.0.1
-        plain (Replace old new) g = g.0.1
+        plain j g = g.0.1
     opens mode reading Finished p all ords i h g =
         let o = is_open w.devices w.actors a x e job plan xt all ords i.1 in
         let done : Gives shape w x (Open o.0 o.1) (End Finished) got read chosen = subst (λ (j : Job). Gives shape w x j (End Finished) got read chosen) o.2 g in
