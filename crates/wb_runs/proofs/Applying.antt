@@ -19,7 +19,7 @@ use Rattle.wb_policy.specs.declared.order.Order.{Order}
 use Rattle.wb_policy.specs.declared.order.Order.TheVariants.{Promote as PromoteOrder, Replace as ReplaceOrder, Demote as DemoteOrder, Clean as CleanOrder}
 use Rattle.wb_policy.specs.Law.{Holdings, IsUnmapped, IsMappedAt}
 use Rattle.wb_space.specs.declared.block.Block.{Block}
-use Rattle.wb_space.specs.declared.block.Block.TheVariants.{Free, Mapped, Reserved, Quarantined}
+use Rattle.wb_space.specs.declared.block.Block.TheVariants.{Free, Reserved}
 use Rattle.wb_orders.specs.declared.live_order.LiveOrder.{LiveOrder}
 use Rattle.wb_orders.specs.Named.{first_of, second_of}
 use Rattle.wb_orders.specs.Orders.{cost_of, MayGive}
@@ -27,11 +27,11 @@ use Rattle.wb_desk.specs.Desks.{DeskState, holdings, sectors_asked, IsGivenLawfu
 use Rattle.wb_tasks.specs.declared.step.Migration.TheVariants.{Promote, Demote, Clean}
 use Rattle.wb_tasks.specs.Plan.{device_of}
 use Rattle.wb_tasks.specs.declared.step.Want.{Want}
-use Rattle.wb_tasks.specs.declared.step.Want.TheVariants.{Cell, Device, Desk, End}
+use Rattle.wb_tasks.specs.declared.step.Want.TheVariants.{Device}
 use Rattle.wb_devices.specs.declared.devices.Devices.{Devices}
 use Rattle.wb_devices.specs.Moving.{device_in}
 use Rattle.wb_promise.specs.declared.job.Job.{Job}
-use Rattle.wb_promise.specs.declared.job.Job.TheVariants.{Read, Write, Flush, Suspend, Open, Invalidate, Migrate, Replace}
+use Rattle.wb_promise.specs.declared.job.Job.TheVariants.{Open, Invalidate}
 use Rattle.wb_promise.specs.States.{Phase, Stands, Gone, Opens}
 use Rattle.wb_promise.specs.Happenings.{MayFailAt, MayStop, MayOrder, MayFollow, KeepsMigration, KeepsReplacement, IsOutOfPlace, order_for}
 use Rattle.wb_runs.proofs.Spelling.{Decided, two_of, at_most}

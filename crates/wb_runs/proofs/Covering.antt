@@ -17,7 +17,7 @@ use Rattle.wb_words.specs.declared.step.CellResult.TheVariants.{Done as Won, Los
 use Rattle.wb_words.specs.declared.card.Card.{Card}
 use Rattle.wb_words.specs.SharedWords.{Words, word_at}
 use Rattle.wb_words.specs.Effects.{result_of}
-use Rattle.wb_tasks.specs.Tables.{BlockJob, BlockRange, Reading, Writing, Displacing, Invalidating, Migrating, OnBlock, cache_extent, place_read, places_written, read_step, read_count, write_count, writes, work}
+use Rattle.wb_tasks.specs.Tables.{BlockJob, BlockRange, Reading, Writing, OnBlock, cache_extent, place_read, places_written, read_step, read_count, write_count, writes, work}
 use Rattle.wb_tasks.specs.Plan.{Plan, after, may_take, is_worn, exchange, gives_back, work_of, deferring, answer_seeing, got_of}
 use Rattle.wb_tasks.specs.Ready.{Has, IsRest, IsParting}
 use Rattle.wb_tasks.specs.declared.step.Answer.{Answer}
@@ -25,7 +25,7 @@ use Rattle.wb_tasks.specs.declared.step.Answer.TheVariants.{Done as Finished, Re
 use Rattle.wb_tasks.specs.declared.step.DeviceStep.TheVariants.{Read as ReadExtent, Write as WriteExtent}
 use Rattle.wb_tasks.specs.declared.step.Want.{Want}
 use Rattle.wb_tasks.specs.declared.step.DeskStep.TheVariants.{Unmap}
-use Rattle.wb_tasks.specs.declared.step.Want.TheVariants.{Cell, Device, Desk, End}
+use Rattle.wb_tasks.specs.declared.step.Want.TheVariants.{Cell, Device, Desk}
 use Rattle.std.proofs.Math.Nat.{mul-add-mod_self_right, mod-mod}
 use Rattle.wb_types.proofs.Lists.{Contains-first, Contains-behind}
 use Rattle.wb_types.specs.declared.number.CBlock.{CBlock}

@@ -14,6 +14,9 @@ use Rattle.wb_tree.specs.Mapping.{Mapping, IsSound}
 use Rattle.wb_tree.specs.Edits.{IsChangedAt, IsEdited}
 use Rattle.wb_tree.proofs.Stored.Edited.{edited-more}
 use Rattle.wb_space.specs.Places.{noted, unused, place_count}
+use Rattle.wb_meta.specs.Imaging.{DeviceStores}
+use Rattle.wb_meta.specs.Representing.{Stored}
+use Rattle.wb_types.specs.declared.number.Place.{Place}
 use Rattle.wb_meta.proofs.Round.{stored_edited}
 use Rattle.wb_policy.specs.declared.order.Order.{Order}
 use Rattle.wb_policy.specs.declared.order.Order.TheVariants.{Promote, Replace, Demote, Clean}
@@ -158,16 +161,17 @@ can_unmap {P} desk b kept sound = elim (is_unmappable desk b) [
 ]
 
 module _ (P : Type 0) (g : Geometry) (images : Images) (desk : DeskState P) (commit : Option RunningCommit) (device : List History) where
-  -- the same metadata, of another desk with the same tree, space and generation
-  same_standing : (desk' : DeskState P) → desk'.tree ≡ desk.tree → desk'.space.places ≡ desk.space.places → desk'.space.committing ≡ desk.space.committing → desk'.generation ≡ desk.generation → desk'.geometry ≡ desk.geometry → Standing g images desk commit device → Standing g images desk' commit device
-  same_standing desk' tree places committing generation geometry s = by_commit commit s
+  -- the same metadata, of another desk with the same places and generation, whose tree they store too, and is an edit of the same trees
+  standing_on : (desk' : DeskState P) → ((stored : Stored) (used : List Place) → DeviceStores desk.tree device stored used → DeviceStores desk'.tree device stored used) → ((tree : Mapping) → IsEdited tree desk.tree → IsEdited tree desk'.tree) →
+      desk'.space.places ≡ desk.space.places → desk'.space.committing ≡ desk.space.committing → desk'.generation ≡ desk.generation → desk'.geometry ≡ desk.geometry → Standing g images desk commit device → Standing g images desk' commit device
+  standing_on desk' stores edited places committing generation geometry s = by_commit commit s
     where
       by_commit : (commit : Option RunningCommit) → Standing g images desk commit device → Standing g images desk' commit device
       by_commit None (inl q) = inl (record {
         stored = q.stored;
         are = q.are;
         used = q.used;
-        stores = subst (λ (m : Mapping). Rattle.wb_meta.specs.Imaging.DeviceStores m device q.stored q.used) (sym tree) q.stores;
+        stores = stores q.stored q.used q.stores;
         all_used = q.all_used;
         places = ap (λ (p : Rattle.wb_space.specs.Places.PlacesInUse). p.committed) places ∙ q.places ∙ ap (λ (x : Geometry). noted q.used (unused (place_count x))) (sym geometry);
         generation = generation ∙ q.generation;
@@ -178,39 +182,18 @@ module _ (P : Type 0) (g : Geometry) (images : Images) (desk : DeskState P) (com
       by_commit (Some c) l = record {
         of = l.of;
         under = l.under;
-        edited = subst (λ (m : Mapping). Rattle.wb_tree.specs.Edits.IsEdited l.of.tree m) (sym tree) l.edited;
+        edited = edited l.of.tree l.edited;
         places = ap (λ (p : Rattle.wb_space.specs.Places.PlacesInUse). p.running) places ∙ l.places ∙ ap (λ (x : Geometry). noted l.of.used (unused (place_count x))) (sym geometry);
         same = l.same ∙ sym geometry;
         generation = l.generation ∙ ap (λ (n : ℕ). n + 1) (sym generation);
         busy = committing ∙ l.busy;
       }
 
-  -- the same metadata, of another desk whose tree was edited, with the same places and generation
+  same_standing : (desk' : DeskState P) → desk'.tree ≡ desk.tree → desk'.space.places ≡ desk.space.places → desk'.space.committing ≡ desk.space.committing → desk'.generation ≡ desk.generation → desk'.geometry ≡ desk.geometry → Standing g images desk commit device → Standing g images desk' commit device
+  same_standing desk' tree = standing_on desk' (λ stored used. subst (λ (m : Mapping). DeviceStores m device stored used) (sym tree)) (λ of. subst (λ (m : Mapping). IsEdited of m) (sym tree))
+
   edited_stands : (desk' : DeskState P) → IsEdited desk.tree desk'.tree → IsSound desk'.tree → desk'.space.places ≡ desk.space.places → desk'.space.committing ≡ desk.space.committing → desk'.generation ≡ desk.generation → desk'.geometry ≡ desk.geometry → Standing g images desk commit device → Standing g images desk' commit device
-  edited_stands desk' edited sound places committing generation geometry s = by_commit commit s
-    where
-      by_commit : (commit : Option RunningCommit) → Standing g images desk commit device → Standing g images desk' commit device
-      by_commit None (inl q) = inl (record {
-        stored = q.stored;
-        are = q.are;
-        used = q.used;
-        stores = stored_edited desk.tree desk'.tree device q.stored q.used q.stores edited sound;
-        all_used = q.all_used;
-        places = ap (λ (p : Rattle.wb_space.specs.Places.PlacesInUse). p.committed) places ∙ q.places ∙ ap (λ (x : Geometry). noted q.used (unused (place_count x))) (sym geometry);
-        generation = generation ∙ q.generation;
-        same = q.same ∙ sym geometry;
-        idle = committing ∙ q.idle;
-      })
-      by_commit None (inr b) = inr (record { readable = b.readable; busy = committing ∙ b.busy })
-      by_commit (Some c) l = record {
-        of = l.of;
-        under = l.under;
-        edited = edited-more l.of.tree desk.tree desk'.tree l.edited edited;
-        places = ap (λ (p : Rattle.wb_space.specs.Places.PlacesInUse). p.running) places ∙ l.places ∙ ap (λ (x : Geometry). noted l.of.used (unused (place_count x))) (sym geometry);
-        same = l.same ∙ sym geometry;
-        generation = l.generation ∙ ap (λ (n : ℕ). n + 1) (sym generation);
-        busy = committing ∙ l.busy;
-      }
+  edited_stands desk' edited sound = standing_on desk' (λ stored used s. stored_edited desk.tree desk'.tree device stored used s edited sound) (λ of e. edited-more of desk.tree desk'.tree e edited)
 
   pub mapped_stands : (b : OBlock) (c : CBlock) (tree : Mapping) (policy : P) → AtDesk g images desk commit device → MayMap desk b c → IsChangedAt desk.tree tree c.0 (Some (entry_of b)) → AtDesk g images (mapped desk c tree policy) commit device
   mapped_stands b c tree policy k may changed = record {

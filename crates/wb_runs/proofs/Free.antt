@@ -1,7 +1,7 @@
 -- After every run every event has a happening, and whoever has a task may do its next step.
 use Rattle.std.proofs.lemmas.Bool.{cases_Bool}
-use Rattle.wb_tasks.specs.declared.step.DeskStep.TheVariants.{Map, Unmap, ReleaseOrder, Arrive, Ask, BeginCommit, EndCommit, BreakCommit}
-use Rattle.wb_tasks.specs.declared.step.Want.TheVariants.{Cell, Device, Desk, End}
+use Rattle.wb_tasks.specs.declared.step.DeskStep.TheVariants.{Ask}
+use Rattle.wb_tasks.specs.declared.step.Want.TheVariants.{Desk}
 use Rattle.wb_tasks.specs.declared.step.Want.{Want}
 use Rattle.wb_stage.specs.declared.share.Share.{Share}
 use Rattle.std.proofs.Common.{Global, ◌≡◌, ◌∙◌, ◌⊎◌, inl, inr, ℕ, List, [], Option, Some, None, refl, sym, subst, arith, length, slice_get, ◌∷◌, zero, suc, ap, Contains}

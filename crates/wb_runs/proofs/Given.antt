@@ -4,9 +4,9 @@ use Rattle.wb_policy.specs.declared.order.Order.TheVariants.{Replace as ReplaceO
 use Rattle.wb_desk.specs.Desks.{DeskState}
 use Rattle.wb_desk.specs.Calls.{reserved}
 use Rattle.wb_promise.specs.declared.job.Job.{Job}
-use Rattle.wb_promise.specs.declared.job.Job.TheVariants.{Read, Write, Flush, Suspend, Open, Migrate, Replace, Invalidate}
-use Rattle.wb_promise.specs.States.{Phase, Target, Stands, Gone, Opens}
-use Rattle.wb_promise.specs.Happenings.{Chosen, Plain, Cut, Looks, Orders, Begins, Reaches, Puts, Commits, Asks, Opened, order_for}
+use Rattle.wb_promise.specs.declared.job.Job.TheVariants.{Migrate, Replace}
+use Rattle.wb_promise.specs.States.{Phase, Target, Stands}
+use Rattle.wb_promise.specs.Happenings.{Chosen, Orders, order_for}
 use Rattle.wb_promise.specs.Effects.{phase_given}
 
 -- so what does not look at its desk holds then too

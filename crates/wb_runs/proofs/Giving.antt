@@ -41,11 +41,11 @@ use Rattle.wb_tasks.specs.Ready.{HoldsBlocks, IsOwnStep, source_of, target_of}
 use Rattle.wb_tasks.specs.Tables.{BlockRange, BlockJob, Reading, Writing, Displacing, Invalidating, Migrating, OnBlock, Opening}
 use Rattle.wb_tasks.specs.Plan.{Plan, want, got_of}
 use Rattle.wb_tasks.specs.declared.step.Answer.{Answer}
-use Rattle.wb_tasks.specs.declared.step.DeskStep.TheVariants.{Map, Unmap, ReleaseOrder, Arrive, Ask, BeginCommit, EndCommit, BreakCommit}
+use Rattle.wb_tasks.specs.declared.step.DeskStep.TheVariants.{Map, Unmap, ReleaseOrder, EndCommit, BreakCommit}
 use Rattle.wb_tasks.specs.declared.step.DeviceStep.{DeviceStep}
 use Rattle.wb_tasks.specs.declared.step.DeviceStep.TheVariants.{Read as ReadExtent, Write as WriteExtent, Sync, ReadMetadata, WriteNode, WriteRoot}
 use Rattle.wb_tasks.specs.declared.step.Migration.{Migration}
-use Rattle.wb_tasks.specs.declared.step.Migration.TheVariants.{Promote, Demote, Clean}
+use Rattle.wb_tasks.specs.declared.step.Migration.TheVariants.{Promote}
 use Rattle.wb_tasks.specs.declared.step.Want.{Want}
 use Rattle.wb_tasks.specs.declared.step.Want.TheVariants.{Cell, Device, Desk, End}
 use Rattle.wb_tasks.specs.declared.step.Got.{Got}

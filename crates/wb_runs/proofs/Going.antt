@@ -16,7 +16,7 @@ use Rattle.wb_meta.specs.Reads.{sectors_read}
 use Rattle.wb_meta.specs.declared.read_steps.ReadSteps.{ReadSteps}
 use Rattle.wb_meta.specs.declared.commit_steps.CommitSteps.{CommitSteps}
 use Rattle.wb_meta.specs.declared.commit_steps.CommitSteps.TheVariants.{NodesWritten, NodesSynced, RootWritten, Done as Committed}
-use Rattle.wb_tasks.specs.Tables.{Opening, Flushing}
+use Rattle.wb_tasks.specs.Tables.{Opening}
 use Rattle.wb_tasks.specs.Plan.{Plan, want, after, release_orders, begun_steps, root_steps, node_writes, after_fault_of, failed_commit, first_step}
 use Rattle.wb_tasks.specs.declared.step.Answer.{Answer}
 use Rattle.wb_tasks.specs.declared.step.Answer.TheVariants.{Refused as Refuses, Done as Finished}
@@ -150,8 +150,18 @@ module _ (P A : Type 0) (shape : Shape) (t : Target P) (commit : Option RunningC
   abbrev begun_from : List Want → Type 0
   begun_from ws = (nodes : ℕ) → after (F ws) (Began nodes) ≡ plan_of (task_of job) (begun_steps (task_of job) nodes) answer
 
+  abbrev refused_of : CommitJob → List Want → Type 0
+  refused_of job ws = (refusal : Refusal) → after (plan_of (task_of job) ws answer) (GotRefused refusal) ≡ plan_of (task_of job) (release_orders (let_go job refusal)) (Refuses refusal)
+
   abbrev refused_from : List Want → Type 0
-  refused_from ws = (refusal : Refusal) → after (F ws) (GotRefused refusal) ≡ plan_of (task_of job) (release_orders (let_go job refusal)) (Refuses refusal)
+  refused_from ws = refused_of job ws
+
+  -- a flush that asks for a commit, when it arrives or with a ticket
+  flush_refused : (serves : _) (most : ℕ) (asks : Bool) → refused_of (Flushes serves most) (Desk (if asks then Ask most else Arrive most) ∷ [])
+  flush_refused serves most true Failed = refl
+  flush_refused serves most true refusal = refl
+  flush_refused serves most false Failed = refl
+  flush_refused serves most false refusal = refl
 
   begins : (seen : Option (List Bool)) (most : ℕ) (ws : List Want) (got : Got) (chosen : Chosen P A) → begun_from ws → refused_from ws → DoesBegin seen most t.desk got chosen → Then (Rattle.wb_promise.specs.Effects.begun_commit chosen commit) (after (F ws) got)
   begins seen most ws (Began nodes) (Commits c tree) from none s = record {
@@ -195,11 +205,7 @@ module _ (P A : Type 0) (shape : Shape) (t : Target P) (commit : Option RunningC
     begin_moves (Flushes serves most) e g = arrives got chosen g.1
       where
         none : refused_from (Desk (Arrive most) ∷ [])
-        none = subst (λ (j : CommitJob). (refusal : Refusal) → after (plan_of (task_of j) (Desk (Arrive most) ∷ []) answer) (GotRefused refusal) ≡ plan_of (task_of j) (release_orders (let_go j refusal)) (Refuses refusal)) (sym e) by_refusal
-          where
-            by_refusal : (refusal : Refusal) → after (plan_of (Flushing serves most) (Desk (Arrive most) ∷ []) answer) (GotRefused refusal) ≡ plan_of (Flushing serves most) (release_orders (let_go (Flushes serves most) refusal)) (Refuses refusal)
-            by_refusal Failed = refl
-            by_refusal refusal = refl
+        none = subst (λ (j : CommitJob). refused_of j (Desk (Arrive most) ∷ [])) (sym e) (flush_refused serves most false)
 
         arrives : (got : Got) (chosen : Chosen P A) → DoesArrive most t.desk got chosen → Then (Rattle.wb_promise.specs.Effects.begun_commit chosen commit) (after (F (Desk (Arrive most) ∷ [])) got)
         arrives Ticket Plain d = quietly answer ToAsk _ (subst (λ (j : CommitJob). IsOf ToAsk j) (sym e) tt) (ap (λ (ws : List Want). F ws) (subst (λ (j : CommitJob). Desk (Ask most) ∷ [] ≡ ask_of j) (sym e) refl)) tt (λ i. absurd i)
@@ -210,18 +216,14 @@ module _ (P A : Type 0) (shape : Shape) (t : Target P) (commit : Option RunningC
     begin_moves (Suspends looks most) e g = begins (Some x.seen) most (Desk (BeginCommit most) ∷ []) got chosen (λ nodes. refl) none g.1
       where
         none : refused_from (Desk (BeginCommit most) ∷ [])
-        none = subst (λ (j : CommitJob). (refusal : Refusal) → after (plan_of (task_of j) (Desk (BeginCommit most) ∷ []) answer) (GotRefused refusal) ≡ plan_of (task_of j) (release_orders (let_go j refusal)) (Refuses refusal)) (sym e) (λ refusal. refl)
+        none = subst (λ (j : CommitJob). refused_of j (Desk (BeginCommit most) ∷ [])) (sym e) (λ refusal. refl)
 
     -- with a ticket
     ask_moves : (job' : CommitJob) → job ≡ job' → IsOf ToAsk job' → Gives shape v x (doing_of job') (first_step (ask_of job') answer) got read chosen → After (first_step (ask_of job') answer) (F (ask_of job'))
     ask_moves (Flushes serves most) e of g = asks got chosen g.1
       where
         none : refused_from (Desk (Ask most) ∷ [])
-        none = subst (λ (j : CommitJob). (refusal : Refusal) → after (plan_of (task_of j) (Desk (Ask most) ∷ []) answer) (GotRefused refusal) ≡ plan_of (task_of j) (release_orders (let_go j refusal)) (Refuses refusal)) (sym e) by_refusal
-          where
-            by_refusal : (refusal : Refusal) → after (plan_of (Flushing serves most) (Desk (Ask most) ∷ []) answer) (GotRefused refusal) ≡ plan_of (Flushing serves most) (release_orders (let_go (Flushes serves most) refusal)) (Refuses refusal)
-            by_refusal Failed = refl
-            by_refusal refusal = refl
+        none = subst (λ (j : CommitJob). refused_of j (Desk (Ask most) ∷ [])) (sym e) (flush_refused serves most true)
 
         asks : (got : Got) (chosen : Chosen P A) → DoesAsk x.share most t.desk got chosen → Then (Rattle.wb_promise.specs.Effects.begun_commit chosen commit) (after (F (Desk (Ask most) ∷ [])) got)
         asks Served Plain d = quietly Finished (ToRelease []) _ tt refl tt (λ i. absurd i)

@@ -10,7 +10,7 @@ use Rattle.wb_disk.specs.Crash.{Choice}
 use Rattle.wb_disk.specs.Failing.{lands}
 use Rattle.wb_meta.specs.Formats.{IsFormatted}
 use Rattle.wb_meta.specs.declared.read_steps.ReadSteps.{ReadSteps}
-use Rattle.wb_meta.specs.declared.read_steps.ReadSteps.TheVariants.{Begun, FirstSlotRead, RootFound, Done as AllRead}
+use Rattle.wb_meta.specs.declared.read_steps.ReadSteps.TheVariants.{Done as AllRead}
 use Rattle.wb_tasks.specs.Plan.{Plan, want, table, device_of}
 use Rattle.wb_tasks.specs.Ready.{Suits}
 use Rattle.wb_tasks.specs.declared.step.Answer.{Answer}
@@ -25,11 +25,11 @@ use Rattle.wb_promise.specs.declared.job.Job.TheVariants.{Read, Write, Flush, Su
 use Rattle.wb_promise.specs.declared.event.Event.{Event}
 use Rattle.wb_promise.specs.declared.event.Event.TheVariants.{Start, Step, FaultStep, Stop}
 use Rattle.wb_promise.specs.declared.event.What.{What}
-use Rattle.wb_promise.specs.declared.event.What.TheVariants.{Skipped, Refused, Started, Stepped, Stopped}
+use Rattle.wb_promise.specs.declared.event.What.TheVariants.{Skipped, Started, Stepped, Stopped}
 use Rattle.wb_desk.specs.Desks.{DeskState}
 use Rattle.wb_runs.proofs.Given.{given_keeps}
 use Rattle.wb_promise.specs.States.{Shape, State, Actor, Target, Phase, Stands, Gone, Opens, OfTarget, mode_of, resting, start}
-use Rattle.wb_promise.specs.Happenings.{Chosen, Plain, Cut, Orders, Begins, Reaches, Puts, Commits, Asks, Opened, Happening, OfSome, Gives, MayFailAt, Falters, DoesNotApply, MayBe, task_job, begun_as, StartsAs, Looks}
+use Rattle.wb_promise.specs.Happenings.{Chosen, Cut, Opened, Happening, OfSome, Gives, MayFailAt, Falters, DoesNotApply, MayBe, task_job, begun_as, StartsAs, Looks}
 use Rattle.wb_promise.specs.Effects.{phase_then, phase_opened, phase_given, task_then, actor_then, stepped, with_actor, cleared, given, job_of, cut_of, device_done, device_failed, all_resting, after_what, after_happening, after_all, IsRun, looks_of}
 use Rattle.wb_promise.specs.Clerk.{Notes, Doing, noted_step, noted_what, finished_note, begun, nobody, put, formatted}
 use Rattle.wb_promise.specs.Headline.{SkipsRightly, AllSkipRightly, note_happening, noted}
@@ -119,19 +119,9 @@ module _ (P A : Type 0) (shape : Shape) where
 
   opened_alone : (mode : Mode) (reading : Option (ReadSteps A)) (chosen : Chosen P A) (actors : List Actor) → AtPhase (phase_opened shape mode reading chosen) actors
   opened_alone mode (Some (AllRead stored)) (Opened policy) actors = tt
-  opened_alone mode (Some (Begun alloc global)) (Opened policy) actors = tt
-  opened_alone mode (Some (FirstSlotRead alloc global first)) (Opened policy) actors = tt
-  opened_alone mode (Some (RootFound global root loader nodes)) (Opened policy) actors = tt
+  opened_alone mode (Some reading) (Opened policy) actors = tt
   opened_alone mode None (Opened policy) actors = tt
-  opened_alone mode reading Plain actors = tt
-  opened_alone mode reading (Cut es) actors = tt
-  opened_alone mode reading (Orders es c) actors = tt
-  opened_alone mode reading (Looks bs) actors = tt
-  opened_alone mode reading (Begins now) actors = tt
-  opened_alone mode reading (Reaches now commit) actors = tt
-  opened_alone mode reading (Puts new) actors = tt
-  opened_alone mode reading (Commits commit tree) actors = tt
-  opened_alone mode reading (Asks new) actors = tt
+  opened_alone mode reading chosen actors = tt
 
   -- what is noted of others stays at an answer, but an opening's that is done
   answer_others : (mode : Mode) (shown : List Bytes) (n : Notes) (a : ℕ) (doing : Doing) (job : Job) (answer : Answer) (got : Got) (read : List Bytes) → IsServed job → doing.job ≡ job → (b : ℕ) → b ≢ a → slice_get (noted_step shape mode shown n a (Some (Some doing)) (End answer) got read).doings b ≡ slice_get n.doings b

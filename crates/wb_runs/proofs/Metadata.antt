@@ -17,12 +17,10 @@ use Rattle.wb_tree.proofs.Stored.Edited.{edited-none}
 use Rattle.wb_space.specs.Places.{noted, unused, place_count}
 use Rattle.wb_format.specs.declared.root.Root.{Root}
 use Rattle.wb_meta.specs.declared.read_steps.ReadSteps.{ReadSteps}
-use Rattle.wb_meta.specs.declared.read_steps.ReadSteps.TheVariants.{Begun, FirstSlotRead, RootFound, Done as AllRead}
+use Rattle.wb_meta.specs.declared.read_steps.ReadSteps.TheVariants.{Done as AllRead}
 use Rattle.wb_meta.specs.declared.read_steps.State.{State as Stored_there}
-use Rattle.wb_meta.specs.declared.commit_steps.CommitSteps.{CommitSteps}
-use Rattle.wb_meta.specs.declared.commit_steps.CommitSteps.TheVariants.{NodesWritten}
+use Rattle.wb_meta.specs.declared.commit_steps.CommitSteps.TheVariants.{NodesSynced, NodesWritten}
 use Rattle.wb_meta.specs.Representing.{Stored}
-use Rattle.wb_meta.specs.Commits.{CommitHasCome}
 use Rattle.wb_meta.specs.Reads.{HasRead, AreStepsOn, FitsDevice}
 use Rattle.wb_meta.proofs.Round.{stored_edited}
 use Rattle.wb_orders.specs.Orders.{AreOrders}
@@ -52,8 +50,8 @@ use Rattle.wb_meta.proofs.Deciding.{stored_is_read, read_is_committed}
 use Rattle.wb_promise.specs.States.{Phase, Stands, Gone, Opens}
 use Rattle.wb_runs.proofs.Sizes.{joined_sizes, read_by_sizes, sized_by}
 use Rattle.wb_runs.proofs.Imaged.{begun_desk, geometry_of_image, root_of_image, entries_read}
-use Rattle.wb_runs.proofs.Images.{Images, one_image, Begins, Ends, Turns}
-use Rattle.wb_runs.proofs.Underway.{Readable, Underway, Found, underway_readable, found_readable, all_done}
+use Rattle.wb_runs.proofs.Images.{Images, one_image, Ends, Turns}
+use Rattle.wb_runs.proofs.Underway.{Readable, Underway, Found, begins_under, underway_readable, found_readable, all_done}
 
 -- of the mapping a policy need know nothing here
 abbrev pub unknowing : {P : Type 0} → P → Holdings → Type 0
@@ -190,37 +188,26 @@ module _ (P : Type 0) (g : Geometry) (images : Images) (desk : DeskState P) (dev
       let both = commit_begins bits imaged tree plan image device q.stored q.used stores planned
       (record { sizes = alike_sizes q.stored.root.geometry desk.geometry q.same; next = ap (λ n. n + 1) q.generation; all_used = q.all_used }) in
       let of = commit_of bits image tree q.stored device in
-      record {
-        now = record { committed = of.old; running = Some of.new; written = false };
-        turn = Begins of.new;
-        turned = ap (λ (i : Images). record { committed = i.committed; running = Some of.new; written = false }) (sym q.are);
-        kept = (
-          record {
-            is = record {
-              sizes = k.sizes;
-              kept = kept;
-              orders = k.orders;
-              sound = planned.sound;
-            };
-            stands = record {
-              of = of;
-              under = record {
-                are = ap (λ (s : CommitSteps). Rattle.wb_runs.proofs.Underway.images_of of (Rattle.wb_runs.proofs.Underway.is_written s)) (sym steps);
-                can = both.0;
-                image = refl;
-                come = subst (λ (s : CommitSteps). CommitHasCome image device s device) (sym steps) both.1;
-                sizes = sized_by q.stored.root.geometry desk.geometry g q.same k.sizes;
-              };
-              edited = edited-none tree;
-              places = refl;
-              same = geometry_of_image bits imaged tree plan image planned.image_is;
-              generation = (root_of_image bits imaged tree plan image planned.image_is).0;
-              busy = refl;
-            };
-          },
-          (of.new, refl, entries_read bits image tree),
-        );
-      }
+      begins_under g images commit of (NodesWritten 0) device q.are steps refl both.0 refl both.1 (sized_by q.stored.root.geometry desk.geometry g q.same k.sizes) (λ under. (
+        record {
+          is = record {
+            sizes = k.sizes;
+            kept = kept;
+            orders = k.orders;
+            sound = planned.sound;
+          };
+          stands = record {
+            of = of;
+            under = under;
+            edited = edited-none tree;
+            places = refl;
+            same = geometry_of_image bits imaged tree plan image planned.image_is;
+            generation = (root_of_image bits imaged tree plan image planned.image_is).0;
+            busy = refl;
+          };
+        },
+        (of.new, refl, entries_read bits image tree),
+      ))
 
   -- One begins over a device that stores the desk's tree: its entries are read of it, marked where it is clean.
   pub begins_over : (hint_of : P → ℕ → ℕ) (seen : Option (List Bool)) (commit : RunningCommit) (tree : Mapping) → IsDesk g desk → Quiet g images desk device → commit.steps ≡ NodesWritten 0
@@ -281,31 +268,20 @@ module _ (A : Type 0) (g : Geometry) (images : Images) (device : List History) w
           let opens : IsOpening image k.found.committed.root = subst (λ (r : Root). IsOpening image r) (sym known ∙ committed.0) next.opens in
           let both = opening_begins stored.tree image device k.found.committed stored.used.items committed.3 opens in
           let of = opening_of image stored.tree stored.used.items k.found.committed device in
-          record {
-            now = record { committed = of.old; running = Some of.new; written = false };
-            turn = Begins of.new;
-            turned = ap (λ (i : Images). record { committed = i.committed; running = Some of.new; written = false }) (sym k.found.are);
-            kept = record {
-              stored = stored;
-              all = refl;
-              of = of;
-              under = record {
-                are = ap (λ (s : CommitSteps). Rattle.wb_runs.proofs.Underway.images_of of (Rattle.wb_runs.proofs.Underway.is_written s)) (sym next.steps);
-                can = both.0;
-                image = refl;
-                come = subst (λ (s : CommitSteps). CommitHasCome image device s device) (sym next.steps) both.1;
-                sizes = k.found.read.sizes;
-              };
-              tree = refl;
-              used = refl;
-              generation = ap (λ (r : Root). r.generation) opens.root_is ∙ ap (λ (r : Root). r.generation + 1) (sym committed.0);
-              entries = sym committed.2;
-              unmarked = ap (λ (r : Root). r.clean) opens.root_is;
-              fits = subst (λ (n : ℕ). FitsDevice n stored.root stored.tree stored.used.items) k.found.read.size k.on.0;
-              sizes = sized_by stored.root.geometry k.found.committed.root.geometry g (ap (λ (r : Root). r.geometry) committed.0) k.found.read.sizes;
-              same = ap (λ (r : Root). r.geometry) (opens.root_is) ∙ ap (λ (r : Root). r.geometry) (sym committed.0);
-            };
-          }
+          begins_under g images next.next of NodesSynced device k.found.are next.steps refl both.0 refl both.1 k.found.read.sizes (λ under. record {
+            stored = stored;
+            all = refl;
+            of = of;
+            under = under;
+            tree = refl;
+            used = refl;
+            generation = ap (λ (r : Root). r.generation) opens.root_is ∙ ap (λ (r : Root). r.generation + 1) (sym committed.0);
+            entries = sym committed.2;
+            unmarked = ap (λ (r : Root). r.clean) opens.root_is;
+            fits = subst (λ (n : ℕ). FitsDevice n stored.root stored.tree stored.used.items) k.found.read.size k.on.0;
+            sizes = sized_by stored.root.geometry k.found.committed.root.geometry g (ap (λ (r : Root). r.geometry) committed.0) k.found.read.sizes;
+            same = ap (λ (r : Root). r.geometry) (opens.root_is) ∙ ap (λ (r : Root). r.geometry) (sym committed.0);
+          })
 
       by_reading : (now : ReadSteps A) → HasReached g images now device → HasNextRoot now commit → Turns (λ i. AtOpening g i (Some now) commit device) images
       by_reading (AllRead stored) k next = subst (λ (c : Option RunningCommit). Turns (λ i. AtOpening g i (Some (AllRead stored)) c device) images) (sym next.commit_is) (over stored k next)
@@ -331,31 +307,20 @@ module _ (A : Type 0) (g : Geometry) (images : Images) (device : List History) w
           let alike : AreSameSizes k.found.committed.root.geometry asked = joined_sizes k.found.committed.root.geometry g asked k.found.read.sizes (swapped_sizes asked g sizes) in
           let both = conversion_begins old.tree c.new.tree (conversion_plan asked old) image device k.found.committed old.used.items committed.3 first to.planned alike (ap (λ (r : Root). r.generation + 1) committed.0) in
           let of = commit_of None image c.new.tree k.found.committed device in
-          record {
-            now = record { committed = of.old; running = Some of.new; written = false };
-            turn = Begins of.new;
-            turned = ap (λ (i : Images). record { committed = i.committed; running = Some of.new; written = false }) (sym k.found.are);
-            kept = record {
-              stored = c.new;
-              all = refl;
-              of = of;
-              under = record {
-                are = ap (λ (s : CommitSteps). Rattle.wb_runs.proofs.Underway.images_of of (Rattle.wb_runs.proofs.Underway.is_written s)) (sym c.steps);
-                can = both.0;
-                image = refl;
-                come = subst (λ (s : CommitSteps). CommitHasCome image device s device) (sym c.steps) both.1;
-                sizes = k.found.read.sizes;
-              };
-              tree = refl;
-              used = ap (λ (ps : List Place). used_places c.new.tree ++ ps) (alone_places (written_anew old.tree) c.new.tree (conversion_plan asked old) image to.planned.image_is) ∙ append-nil (used_places c.new.tree) ∙ sym to.used;
-              generation = ap (λ (r : Root). r.generation) to.root.next;
-              entries = refl;
-              unmarked = ap (λ (r : Root). r.clean) to.root.next;
-              fits = subst (λ (n : ℕ). FitsDevice n c.new.root c.new.tree c.new.used.items) sizes.meta_sectors to.fits;
-              sizes = sized_by c.new.root.geometry asked g to.root.geometry sizes;
-              same = ap (λ (r : Root). r.geometry) to.root.next;
-            };
-          }
+          begins_under g images c.next of (NodesWritten 0) device k.found.are c.steps refl both.0 refl both.1 k.found.read.sizes (λ under. record {
+            stored = c.new;
+            all = refl;
+            of = of;
+            under = under;
+            tree = refl;
+            used = ap (λ (ps : List Place). used_places c.new.tree ++ ps) (alone_places (written_anew old.tree) c.new.tree (conversion_plan asked old) image to.planned.image_is) ∙ append-nil (used_places c.new.tree) ∙ sym to.used;
+            generation = ap (λ (r : Root). r.generation) to.root.next;
+            entries = refl;
+            unmarked = ap (λ (r : Root). r.clean) to.root.next;
+            fits = subst (λ (n : ℕ). FitsDevice n c.new.root c.new.tree c.new.used.items) sizes.meta_sectors to.fits;
+            sizes = sized_by c.new.root.geometry asked g to.root.geometry sizes;
+            same = ap (λ (r : Root). r.geometry) to.root.next;
+          })
 
   -- the images after it, whose committed state has the desk's entries, and is not marked clean
   pub target_stands : (P : Type 0) (mode : Mode) (policy : P) (threshold : ℕ) (stored : Stored_there A) (commit : RunningCommit) → Rooting g images (AllRead stored) commit device → is_committed commit.steps ≡ true

@@ -11,7 +11,7 @@ use Rattle.wb_types.specs.declared.mode.Dev.TheVariants.{Metadata}
 use Rattle.wb_tasks.specs.Plan.{Plan, want, after, device_of, node_writes, opening_root}
 use Rattle.wb_tasks.specs.declared.step.Answer.TheVariants.{Refused as Refuses}
 use Rattle.wb_tasks.specs.declared.step.DeviceStep.{DeviceStep}
-use Rattle.wb_tasks.specs.declared.step.DeviceStep.TheVariants.{Read as ReadExtent, Write as WriteExtent, Sync, ReadMetadata, WriteNode, WriteRoot}
+use Rattle.wb_tasks.specs.declared.step.DeviceStep.TheVariants.{Sync, ReadMetadata, WriteNode, WriteRoot}
 use Rattle.wb_tasks.specs.declared.step.Want.{Want}
 use Rattle.wb_tasks.specs.declared.step.Want.TheVariants.{Device, End}
 use Rattle.wb_tasks.specs.declared.step.Got.{Got}
@@ -19,7 +19,7 @@ use Rattle.wb_tasks.specs.declared.step.Got.TheVariants.{Done, Fault, Refused as
 use Rattle.wb_devices.specs.declared.running.RunningCommit.{RunningCommit}
 use Rattle.wb_devices.specs.Opened.{HasCome, got_of_refusal}
 use Rattle.wb_promise.specs.declared.job.Job.{Job}
-use Rattle.wb_promise.specs.declared.job.Job.TheVariants.{Read, Write, Flush, Suspend, Open, Invalidate, Migrate, Replace}
+use Rattle.wb_promise.specs.declared.job.Job.TheVariants.{Open}
 use Rattle.wb_promise.specs.States.{Shape, Phase, Stands, Gone, Opens, OfReading}
 use Rattle.wb_promise.specs.Happenings.{Chosen, Reaches, DoesRead}
 use Rattle.wb_promise.specs.Clerk.{Doing, failing}
@@ -67,6 +67,14 @@ IsOpenNext (Device WriteRoot) = Unit {0}
 IsOpenNext (End answer) = Unit {0}
 IsOpenNext w = ⊥
 
+-- its first step is such a one, and so are those behind it
+opens_by : (w : Want) (ws : List Want) → OpensOnly (w ∷ ws) → IsOpenNext w × OpensOnly ws
+opens_by (Device (Sync d)) ws f = (tt, f)
+opens_by (Device (ReadMetadata m)) ws f = (tt, f)
+opens_by (Device (WriteNode number)) ws f = (tt, f)
+opens_by (Device WriteRoot) ws f = (tt, f)
+opens_by w ws f = absurd f
+
 -- so are the nodes, their sync and the root
 nodes_open : (left from : ℕ) → OpensOnly (node_writes left from ++ Device (Sync Metadata) ∷ opening_root)
 nodes_open zero from = tt
@@ -79,16 +87,9 @@ parts plan n steps j s = λ k. record { job = j k; steps = s k; answer = plan.an
 pub open_next : (plan : Plan) (doing : Doing) → OpenClaim plan doing → IsOpenNext (want plan)
 open_next plan doing c = by_steps plan.steps refl c.fine
   where
-    first : (w : Want) (ws : List Want) → OpensOnly (w ∷ ws) → IsOpenNext w
-    first (Device (Sync d)) ws f = tt
-    first (Device (ReadMetadata m)) ws f = tt
-    first (Device (WriteNode number)) ws f = tt
-    first (Device WriteRoot) ws f = tt
-    first w ws f = absurd f
-
     by_steps : (steps : List Want) → plan.steps ≡ steps → OpensOnly steps → IsOpenNext (want plan)
     by_steps [] s f = subst (λ (p : Plan). IsOpenNext (want p)) (sym (parts plan c.left [] c.job_is s)) tt
-    by_steps (w ∷ ws) s f = subst (λ (p : Plan). IsOpenNext (want p)) (sym (parts plan c.left (w ∷ ws) c.job_is s)) (first w ws f)
+    by_steps (w ∷ ws) s f = subst (λ (p : Plan). IsOpenNext (want p)) (sym (parts plan c.left (w ∷ ws) c.job_is s)) (opens_by w ws f).0
 
 -- an opening that answers with a refusal has a cause
 pub open_refuses : (plan : Plan) (doing : Doing) (refusal : Refusal) → OpenClaim plan doing → End (Refuses refusal) ≡ want plan → MayRefuse doing refusal
@@ -103,19 +104,12 @@ pub open_on : (plan : Plan) (doing doing' : Doing) (step : DeviceStep) (got : Go
     ((refusal : Refusal) → Causes step got refusal → MayRefuse doing' refusal) → OpenClaim (after plan got) doing'
 open_on plan doing doing' step got c e comes grows why = by_steps plan.steps refl c.fine
   where
-    later : (w : Want) (ws : List Want) → OpensOnly (w ∷ ws) → OpensOnly ws
-    later (Device (Sync d)) ws f = f
-    later (Device (ReadMetadata m)) ws f = f
-    later (Device (WriteNode number)) ws f = f
-    later (Device WriteRoot) ws f = f
-    later w ws f = absurd f
-
     more : (ws : List Want) → OpensOnly (Device step ∷ ws) → (s : DeviceStep) → step ≡ s → OpenClaim (after (plan_of (Opening c.left) (Device s ∷ ws) plan.answer) More) doing'
-    more ws f (ReadMetadata k) q = record { left = c.left; job_is = refl; fine = later (Device step) ws f; cause = λ r a. grows r (c.cause r a) }
-    more ws f s q = record { left = c.left; job_is = refl; fine = later (Device step) ws f; cause = λ r a. grows r (c.cause r a) }
+    more ws f (ReadMetadata k) q = record { left = c.left; job_is = refl; fine = (opens_by (Device step) ws f).1; cause = λ r a. grows r (c.cause r a) }
+    more ws f s q = record { left = c.left; job_is = refl; fine = (opens_by (Device step) ws f).1; cause = λ r a. grows r (c.cause r a) }
 
     by_got : (ws : List Want) → OpensOnly (Device step ∷ ws) → (got : Got) → Comes got → ((refusal : Refusal) → Causes step got refusal → MayRefuse doing' refusal) → OpenClaim (after (plan_of (Opening c.left) (Device step ∷ ws) plan.answer) got) doing'
-    by_got ws f Done k why = record { left = c.left; job_is = refl; fine = later (Device step) ws f; cause = λ r a. grows r (c.cause r a) }
+    by_got ws f Done k why = record { left = c.left; job_is = refl; fine = (opens_by (Device step) ws f).1; cause = λ r a. grows r (c.cause r a) }
     by_got ws f More k why = more ws f step refl
     by_got ws f Fault k why = record { left = c.left; job_is = refl; fine = tt; cause = λ r a. why r (let same : Io (device_of step) ≡ r = cc in sym same) }
     by_got ws f (GotRefused because) k why = record { left = c.left; job_is = refl; fine = tt; cause = λ r a. why r (let same : because ≡ r = cc in sym same) }

@@ -6,7 +6,7 @@ use Rattle.wb_types.specs.declared.number.OBlock.{OBlock}
 use Rattle.wb_types.specs.declared.number.CBlock.{CBlock}
 use Rattle.wb_types.proofs.Lists.{Contains-first, Contains-behind}
 use Rattle.wb_policy.specs.declared.order.Order.{Order}
-use Rattle.wb_policy.specs.declared.order.Order.TheVariants.{Promote, Replace, Demote, Clean}
+use Rattle.wb_policy.specs.declared.order.Order.TheVariants.{Replace}
 use Rattle.wb_orders.specs.declared.live_order.LiveOrder.{LiveOrder}
 use Rattle.wb_orders.specs.Named.{first_of, IsNamed}
 use Rattle.wb_orders.specs.Orders.{AreOrders, order_at}

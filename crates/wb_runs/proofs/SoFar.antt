@@ -5,26 +5,26 @@ use Rattle.std.proofs.lemmas.List.{append_assoc, append-nil, map-append}
 use Rattle.wb_types.specs.declared.extent.Extent.{Extent}
 use Rattle.wb_types.specs.Extents.{rising, sectors_in, IsCutInto}
 use Rattle.wb_types.specs.declared.mode.Mode.{Mode}
-use Rattle.wb_types.specs.declared.mode.Mode.TheVariants.{Writeback, Writethrough, Passthrough}
+use Rattle.wb_types.specs.declared.mode.Mode.TheVariants.{Passthrough}
 use Rattle.wb_types.specs.declared.number.CBlock.{CBlock}
 use Rattle.wb_types.specs.declared.refusal.Refusal.TheVariants.{Failed, Busy, Worn}
 use Rattle.wb_disk.specs.Device.{Content as Bytes, History}
-use Rattle.wb_words.specs.declared.word.Word.TheVariants.{Cell as LockWord, Seal as SealWord, Number, Count as CountWord, Fail}
+use Rattle.wb_words.specs.declared.word.Word.TheVariants.{Cell as LockWord, Seal as SealWord, Number, Fail}
 use Rattle.wb_words.specs.declared.step.CellResult.{CellResult}
 use Rattle.wb_words.specs.declared.step.CellResult.TheVariants.{Done as CellDone, Word as Found, Lost as CellLost}
 use Rattle.wb_words.specs.declared.step.CellStep.{CellStep}
-use Rattle.wb_words.specs.declared.step.CellStep.TheVariants.{Look, Take, Release, Seal, Finish, Count, SetFailed, SetSuspended}
+use Rattle.wb_words.specs.declared.step.CellStep.TheVariants.{Look}
 use Rattle.wb_words.specs.declared.card.Card.{Card}
 use Rattle.wb_words.specs.SharedWords.{Words, place_in}
 use Rattle.wb_words.specs.Effects.{result_of}
-use Rattle.wb_tasks.specs.Tables.{BlockJob, BlockRange, TaskJob, OnBlock, Reading as ReadingPart, Writing, Displacing, Invalidating, Migrating, Flushing, Suspending, Opening}
+use Rattle.wb_tasks.specs.Tables.{BlockJob, BlockRange, TaskJob, OnBlock, Writing}
 use Rattle.wb_tasks.specs.Plan.{Plan, want, after, after_look, after_fault, first_step, may_take, exchange, is_worn, gives_back, IsStep, onward, refused, deferring, answer_seeing, got_of}
 use Rattle.wb_tasks.specs.Ready.{Has}
 use Rattle.wb_tasks.specs.declared.step.Answer.{Answer}
 use Rattle.wb_tasks.specs.declared.step.Answer.TheVariants.{Done as Finished}
 use Rattle.wb_tasks.specs.declared.step.DeviceStep.{DeviceStep}
 use Rattle.wb_tasks.specs.declared.step.Want.{Want}
-use Rattle.wb_tasks.specs.declared.step.Want.TheVariants.{Cell, Device, Desk, End}
+use Rattle.wb_tasks.specs.declared.step.Want.TheVariants.{Cell, Device, End}
 use Rattle.wb_tasks.specs.declared.step.Got.TheVariants.{Done, Fault}
 use Rattle.wb_promise.specs.States.{Shape}
 use Rattle.wb_promise.specs.Happenings.{block_range}

@@ -8,9 +8,9 @@ use Rattle.wb_disk.specs.Device.{Content as Bytes, History, newest, synced}
 use Rattle.wb_meta.specs.Steps.{DoesStep, steps_after}
 use Rattle.wb_meta.specs.Reads.{IsDone, sectors_read}
 use Rattle.wb_meta.specs.declared.read_steps.ReadSteps.{ReadSteps}
-use Rattle.wb_meta.specs.declared.read_steps.ReadSteps.TheVariants.{Begun, FirstSlotRead, RootFound, Done as AllRead}
+use Rattle.wb_meta.specs.declared.read_steps.ReadSteps.TheVariants.{Begun, Done as AllRead}
 use Rattle.wb_tasks.specs.declared.step.Answer.{Answer}
-use Rattle.wb_tasks.specs.declared.step.Answer.TheVariants.{Done as Finished, Refused as Refuses}
+use Rattle.wb_tasks.specs.declared.step.Answer.TheVariants.{Done as Finished}
 use Rattle.wb_tasks.specs.declared.step.DeviceStep.TheVariants.{Read as ReadExtent, Write as WriteExtent, Sync, ReadMetadata, WriteNode, WriteRoot}
 use Rattle.wb_tasks.specs.declared.step.DeskStep.TheVariants.{Map, Unmap, ReleaseOrder, BeginCommit, EndCommit, Arrive, Ask, BreakCommit}
 use Rattle.wb_tasks.specs.declared.step.Want.{Want}
@@ -27,9 +27,9 @@ use Rattle.wb_desk.specs.Desks.{DeskState}
 use Rattle.wb_stage.specs.Stages.{is_all_done}
 use Rattle.wb_devices.specs.Opened.{HasCome}
 use Rattle.wb_promise.specs.declared.job.Job.{Job}
-use Rattle.wb_promise.specs.declared.job.Job.TheVariants.{Read, Write, Flush, Suspend, Open, Migrate, Replace, Invalidate}
+use Rattle.wb_promise.specs.declared.job.Job.TheVariants.{Read, Write, Flush, Open, Migrate, Invalidate}
 use Rattle.wb_promise.specs.States.{Shape, State, Target, Phase, Stands, Gone, Opens, OfTarget, OfReading, with_device, Actor}
-use Rattle.wb_promise.specs.Happenings.{Chosen, Plain, Cut, Orders, Begins, Reaches, Puts, Commits, Asks, Opened, DoesPut, DoesSync, DoesRead, asks_second, DoesBegin, DoesMap, DoesRelease, DoesOpen, Gives, DoesUnmap, Looks, DoesLead, DoesArrive, DoesAsk}
+use Rattle.wb_promise.specs.Happenings.{Chosen, Plain, Begins, Reaches, Puts, Commits, Asks, Opened, DoesPut, DoesSync, DoesRead, asks_second, DoesBegin, DoesMap, DoesRelease, DoesOpen, Gives, DoesUnmap, DoesLead, DoesArrive, DoesAsk}
 use Rattle.wb_promise.specs.Effects.{device_done, devices_then, commit_then, phase_then, begun_desk, begun_commit}
 use Rattle.wb_runs.proofs.Images.{Images, Turns, stays}
 use Rattle.wb_runs.proofs.Desks.{mapped_stands, unmapped_stands, released_for}
@@ -47,22 +47,23 @@ data_device Cache h devices new = refl
 data_device Origin h devices new = refl
 
 module _ (P A : Type 0) (shape : Shape) where
-  abbrev K : Images → Phase P A → Option RunningCommit → List History → Type 0
-  K images phase commit device = MetadataKept shape.geometry images phase commit device
+  -- what is known of the metadata
+  abbrev pub Known : Images → Phase P A → Option RunningCommit → List History → Type 0
+  Known images phase commit device = MetadataKept shape.geometry images phase commit device
 
   -- what is known after a step
-  abbrev T : Images → Phase P A → Option RunningCommit → List History → Type 0
-  T images phase commit device = Turns (λ now. K now phase commit device) images
+  abbrev pub KnownNext : Images → Phase P A → Option RunningCommit → List History → Type 0
+  KnownNext images phase commit device = Turns (λ now. Known now phase commit device) images
 
-  same : (images : Images) (phase : Phase P A) (commit : Option RunningCommit) (device : List History) → K images phase commit device → T images phase commit device
-  same images phase commit device k = stays (λ now. K now phase commit device) images k
+  pub stays_known : (images : Images) (phase : Phase P A) (commit : Option RunningCommit) (device : List History) → Known images phase commit device → KnownNext images phase commit device
+  stays_known images phase commit device k = stays (λ now. Known now phase commit device) images k
 
   -- ---- steps that touch neither metadata nor desk nor reading
 
-  cell_same : (i : Images) (phase : Phase P A) (commit : Option RunningCommit) (m : List History) (step : _) (got : Got) (chosen : Chosen P A) → K i phase commit m → T i (phase_then shape phase (Cell step) got chosen) (commit_then phase commit (Cell step) got chosen) m
-  cell_same i (Stands t) commit m step got chosen k = same i (phase_then shape (Stands t) (Cell step) got chosen) commit m (record { is = k.is; stands = k.stands })
-  cell_same i Gone commit m step got chosen k = same i Gone commit m k
-  cell_same i (Opens mode reading) commit m step got chosen k = same i (Opens mode reading) commit m k
+  cell_same : (i : Images) (phase : Phase P A) (commit : Option RunningCommit) (m : List History) (step : _) (got : Got) (chosen : Chosen P A) → Known i phase commit m → KnownNext i (phase_then shape phase (Cell step) got chosen) (commit_then phase commit (Cell step) got chosen) m
+  cell_same i (Stands t) commit m step got chosen k = stays_known i (phase_then shape (Stands t) (Cell step) got chosen) commit m (record { is = k.is; stands = k.stands })
+  cell_same i Gone commit m step got chosen k = stays_known i Gone commit m k
+  cell_same i (Opens mode reading) commit m step got chosen k = stays_known i (Opens mode reading) commit m k
 
   -- on a device of data
   abbrev pub IsData : DeviceStep → Type 0
@@ -72,14 +73,14 @@ module _ (P A : Type 0) (shape : Shape) where
   IsData (Sync Origin) = Unit {0}
   IsData step = ⊥
 
-  pub data_same : (i : Images) (phase : Phase P A) (commit : Option RunningCommit) (m : List History) (step : DeviceStep) (got : Got) (chosen : Chosen P A) → IsData step → K i phase commit m → T i (phase_then shape phase (Device step) got chosen) (commit_then phase commit (Device step) got chosen) m
+  pub data_same : (i : Images) (phase : Phase P A) (commit : Option RunningCommit) (m : List History) (step : DeviceStep) (got : Got) (chosen : Chosen P A) → IsData step → Known i phase commit m → KnownNext i (phase_then shape phase (Device step) got chosen) (commit_then phase commit (Device step) got chosen) m
   data_same i phase commit m (Sync Metadata) got chosen x k = absurd x
   data_same i phase commit m (ReadMetadata left) got chosen x k = absurd x
   data_same i phase commit m (WriteNode number) got chosen x k = absurd x
   data_same i phase commit m WriteRoot got chosen x k = absurd x
-  data_same i (Stands t) commit m step got chosen x k = same i (Stands t) commit m k
-  data_same i Gone commit m step got chosen x k = same i Gone commit m k
-  data_same i (Opens mode reading) commit m step got chosen x k = same i (Opens mode reading) commit m k
+  data_same i (Stands t) commit m step got chosen x k = stays_known i (Stands t) commit m k
+  data_same i Gone commit m step got chosen x k = stays_known i Gone commit m k
+  data_same i (Opens mode reading) commit m step got chosen x k = stays_known i (Opens mode reading) commit m k
 
   -- ---- steps of a commit
 
@@ -117,13 +118,13 @@ module _ (P A : Type 0) (shape : Shape) where
 
   -- ---- done steps
 
-  sync_metadata : (i : Images) (phase : Phase P A) (commit : Option RunningCommit) (m : List History) (chosen : Chosen P A) → K i phase commit m → DoesSync phase commit m chosen →
-      T i (phase_then shape phase (Device (Sync Metadata)) Done chosen) (commit_then phase commit (Device (Sync Metadata)) Done chosen) (synced m)
+  sync_metadata : (i : Images) (phase : Phase P A) (commit : Option RunningCommit) (m : List History) (chosen : Chosen P A) → Known i phase commit m → DoesSync phase commit m chosen →
+      KnownNext i (phase_then shape phase (Device (Sync Metadata)) Done chosen) (commit_then phase commit (Device (Sync Metadata)) Done chosen) (synced m)
   sync_metadata i (Stands t) (Some c) m chosen k s = leading_on i t c m (synced m) k (sync_does c.image c.steps m s.0)
   sync_metadata i Gone (Some c) m chosen k s = absurd k
   sync_metadata i (Opens mode None) (Some c) m chosen k s = absurd k
   sync_metadata i (Opens mode (Some reading)) (Some c) m chosen k s =
-      subst (λ (ch : Chosen P A). T i (phase_then shape (Opens mode (Some reading)) (Device (Sync Metadata)) Done ch) (Some (record c { steps = steps_after c.image c.steps })) (synced m)) (sym s.1)
+      subst (λ (ch : Chosen P A). KnownNext i (phase_then shape (Opens mode (Some reading)) (Device (Sync Metadata)) Done ch) (Some (record c { steps = steps_after c.image c.steps })) (synced m)) (sym s.1)
       (rooting_on i reading c m (synced m) k (sync_does c.image c.steps m s.0))
   sync_metadata i (Opens mode reading) None m (Begins now) k s = begun now s
     where
@@ -138,8 +139,8 @@ module _ (P A : Type 0) (shape : Shape) where
       begun now e = absurd (omega (arith, e))
   sync_metadata i phase None m chosen k s = absurd s
 
-  put_node : (i : Images) (phase : Phase P A) (commit : Option RunningCommit) (m : List History) (number : ℕ) (job : Job) (buffer : List Bytes) (chosen : Chosen P A) → K i phase commit m → DoesPut commit (WriteNode number) m chosen →
-      T i (phase_then shape phase (Device (WriteNode number)) Done chosen) (commit_then phase commit (Device (WriteNode number)) Done chosen) (device_done job buffer (WriteNode number) chosen m)
+  put_node : (i : Images) (phase : Phase P A) (commit : Option RunningCommit) (m : List History) (number : ℕ) (job : Job) (buffer : List Bytes) (chosen : Chosen P A) → Known i phase commit m → DoesPut commit (WriteNode number) m chosen →
+      KnownNext i (phase_then shape phase (Device (WriteNode number)) Done chosen) (commit_then phase commit (Device (WriteNode number)) Done chosen) (device_done job buffer (WriteNode number) chosen m)
   put_node i (Stands t) (Some c) m number job buffer (Puts new) k s = leading_on i t c m new k s.1
   put_node i Gone (Some c) m number job buffer (Puts new) k s = absurd k
   put_node i (Opens mode None) (Some c) m number job buffer (Puts new) k s = absurd k
@@ -147,8 +148,8 @@ module _ (P A : Type 0) (shape : Shape) where
   put_node i phase None m number job buffer (Puts new) k s = absurd s
   put_node i phase commit m number job buffer chosen k s = absurd s
 
-  put_root : (i : Images) (phase : Phase P A) (commit : Option RunningCommit) (m : List History) (job : Job) (buffer : List Bytes) (chosen : Chosen P A) → K i phase commit m → DoesPut commit WriteRoot m chosen →
-      T i (phase_then shape phase (Device WriteRoot) Done chosen) (commit_then phase commit (Device WriteRoot) Done chosen) (device_done job buffer WriteRoot chosen m)
+  put_root : (i : Images) (phase : Phase P A) (commit : Option RunningCommit) (m : List History) (job : Job) (buffer : List Bytes) (chosen : Chosen P A) → Known i phase commit m → DoesPut commit WriteRoot m chosen →
+      KnownNext i (phase_then shape phase (Device WriteRoot) Done chosen) (commit_then phase commit (Device WriteRoot) Done chosen) (device_done job buffer WriteRoot chosen m)
   put_root i (Stands t) (Some c) m job buffer (Puts new) k s = leading_on i t c m new k s.1
   put_root i Gone (Some c) m job buffer (Puts new) k s = absurd k
   put_root i (Opens mode None) (Some c) m job buffer (Puts new) k s = absurd k
@@ -156,13 +157,13 @@ module _ (P A : Type 0) (shape : Shape) where
   put_root i phase None m job buffer (Puts new) k s = absurd s
   put_root i phase commit m job buffer chosen k s = absurd s
 
-  read_nothing : (i : Images) (mode : _) (m : List History) → Readable shape.geometry i m → (after : Option (ReadSteps A)) (commit : Option RunningCommit) → after ≡ None → commit ≡ None → T i (Opens mode after) commit m
-  read_nothing i mode m r None None e f = same i (Opens mode None) None m r
+  read_nothing : (i : Images) (mode : _) (m : List History) → Readable shape.geometry i m → (after : Option (ReadSteps A)) (commit : Option RunningCommit) → after ≡ None → commit ≡ None → KnownNext i (Opens mode after) commit m
+  read_nothing i mode m r None None e f = stays_known i (Opens mode None) None m r
   read_nothing i mode m r None (Some c) e f = absurd (cc)
   read_nothing i mode m r (Some x) commit e f = absurd (cc)
 
-  read_metadata : (i : Images) (phase : Phase P A) (m : List History) (second : Bool) (left : ℕ) (got : Got) (chosen : Chosen P A) → K i phase None m → OfReading phase (λ mode was. DoesRead mode shape.geometry second left was m None got chosen) →
-      T i (phase_then shape phase (Device (ReadMetadata left)) got chosen) (commit_then phase None (Device (ReadMetadata left)) got chosen) m
+  read_metadata : (i : Images) (phase : Phase P A) (m : List History) (second : Bool) (left : ℕ) (got : Got) (chosen : Chosen P A) → Known i phase None m → OfReading phase (λ mode was. DoesRead mode shape.geometry second left was m None got chosen) →
+      KnownNext i (phase_then shape phase (Device (ReadMetadata left)) got chosen) (commit_then phase None (Device (ReadMetadata left)) got chosen) m
   read_metadata i (Opens mode (Some was)) m second left got (Reaches after commit) k (no_fault, inr more) =
       read_nothing i mode m (found_readable shape.geometry i m k.found) after commit more.4 more.5
   read_metadata i (Opens mode (Some was)) m second left got (Reaches after commit) k (no_fault, inl more) = elim more.3.2 [
@@ -190,8 +191,8 @@ module _ (P A : Type 0) (shape : Shape) where
   read_metadata i phase m second left got chosen k s = absurd s
 
   -- a commit begins, where it does
-  begun : (i : Images) (t : Target P) (commit : Option RunningCommit) (m : List History) (seen : Option (List Bool)) (most : ℕ) (got : Got) (chosen : Chosen P A) → K i (Stands t) commit m → DoesBegin seen most t.desk got chosen →
-      T i (Stands (record { words = t.words; desk = begun_desk chosen t.desk })) (begun_commit chosen commit) m
+  begun : (i : Images) (t : Target P) (commit : Option RunningCommit) (m : List History) (seen : Option (List Bool)) (most : ℕ) (got : Got) (chosen : Chosen P A) → Known i (Stands t) commit m → DoesBegin seen most t.desk got chosen →
+      KnownNext i (Stands (record { words = t.words; desk = begun_desk chosen t.desk })) (begun_commit chosen commit) m
   begun i t commit m seen most (Began nodes) (Commits c tree) k s = by_commit commit k
     where
       idle : t.desk.space.committing ≡ false
@@ -203,31 +204,31 @@ module _ (P A : Type 0) (shape : Shape) where
         | inl q ↦ let b = begins_over P shape.geometry i t.desk m s.3.0 seen c tree k.is q s.2 s.3.1 in record { now = b.now; turn = b.turn; turned = b.turned; kept = b.kept.0 }
         | inr b ↦ absurd (let a = b.busy in let e = idle in cc)
       ]
-  begun i t commit m seen most (GotRefused refusal) Plain k s = same i (Stands t) commit m k
+  begun i t commit m seen most (GotRefused refusal) Plain k s = stays_known i (Stands t) commit m k
   begun i t commit m seen most got chosen k s = absurd s
 
-  begin_commit : (seen : Option (List Bool)) (i : Images) (phase : Phase P A) (commit : Option RunningCommit) (m : List History) (most : ℕ) (got : Got) (chosen : Chosen P A) → K i phase commit m → OfTarget phase (λ t. DoesBegin seen most t.desk got chosen) →
-      T i (phase_then shape phase (Desk (BeginCommit most)) got chosen) (commit_then phase commit (Desk (BeginCommit most)) got chosen) m
+  begin_commit : (seen : Option (List Bool)) (i : Images) (phase : Phase P A) (commit : Option RunningCommit) (m : List History) (most : ℕ) (got : Got) (chosen : Chosen P A) → Known i phase commit m → OfTarget phase (λ t. DoesBegin seen most t.desk got chosen) →
+      KnownNext i (phase_then shape phase (Desk (BeginCommit most)) got chosen) (commit_then phase commit (Desk (BeginCommit most)) got chosen) m
   begin_commit seen i (Stands t) commit m most got chosen k s = begun i t commit m seen most got chosen k s
   begin_commit seen i Gone commit m most got chosen k s = absurd s
   begin_commit seen i (Opens mode reading) commit m most got chosen k s = absurd s
 
   -- a flush leads one, or changes nothing
-  leads : (i : Images) (t : Target P) (commit : Option RunningCommit) (m : List History) (most : ℕ) (got : Got) (chosen : Chosen P A) → K i (Stands t) commit m → DoesLead most t.desk got chosen → T i (Stands (record { words = t.words; desk = begun_desk chosen t.desk })) (begun_commit chosen commit) m
+  leads : (i : Images) (t : Target P) (commit : Option RunningCommit) (m : List History) (most : ℕ) (got : Got) (chosen : Chosen P A) → Known i (Stands t) commit m → DoesLead most t.desk got chosen → KnownNext i (Stands (record { words = t.words; desk = begun_desk chosen t.desk })) (begun_commit chosen commit) m
   leads i t commit m most (Began nodes) (Commits c tree) k s = begun i t commit m None most (Began nodes) (Commits c tree) k s.1
-  leads i t commit m most (GotRefused refusal) Plain k s = same i (Stands t) commit m k
+  leads i t commit m most (GotRefused refusal) Plain k s = stays_known i (Stands t) commit m k
   leads i t commit m most got chosen k s = absurd s
 
-  arrives : (i : Images) (phase : Phase P A) (commit : Option RunningCommit) (m : List History) (most : ℕ) (got : Got) (chosen : Chosen P A) → K i phase commit m → OfTarget phase (λ t. DoesArrive most t.desk got chosen) →
-      T i (phase_then shape phase (Desk (Arrive most)) got chosen) (commit_then phase commit (Desk (Arrive most)) got chosen) m
-  arrives i (Stands t) commit m most Ticket Plain k s = same i (Stands t) commit m k
+  arrives : (i : Images) (phase : Phase P A) (commit : Option RunningCommit) (m : List History) (most : ℕ) (got : Got) (chosen : Chosen P A) → Known i phase commit m → OfTarget phase (λ t. DoesArrive most t.desk got chosen) →
+      KnownNext i (phase_then shape phase (Desk (Arrive most)) got chosen) (commit_then phase commit (Desk (Arrive most)) got chosen) m
+  arrives i (Stands t) commit m most Ticket Plain k s = stays_known i (Stands t) commit m k
   arrives i (Stands t) commit m most (Began nodes) chosen k s = leads i t commit m most (Began nodes) chosen k s
   arrives i (Stands t) commit m most (GotRefused refusal) chosen k s = leads i t commit m most (GotRefused refusal) chosen k s
   arrives i phase commit m most got chosen k s = absurd s
 
-  asks : (share : Share) (i : Images) (phase : Phase P A) (commit : Option RunningCommit) (m : List History) (most : ℕ) (got : Got) (chosen : Chosen P A) → K i phase commit m → OfTarget phase (λ t. DoesAsk share most t.desk got chosen) →
-      T i (phase_then shape phase (Desk (Ask most)) got chosen) (commit_then phase commit (Desk (Ask most)) got chosen) m
-  asks share i (Stands t) commit m most Served Plain k s = same i (Stands t) commit m k
+  asks : (share : Share) (i : Images) (phase : Phase P A) (commit : Option RunningCommit) (m : List History) (most : ℕ) (got : Got) (chosen : Chosen P A) → Known i phase commit m → OfTarget phase (λ t. DoesAsk share most t.desk got chosen) →
+      KnownNext i (phase_then shape phase (Desk (Ask most)) got chosen) (commit_then phase commit (Desk (Ask most)) got chosen) m
+  asks share i (Stands t) commit m most Served Plain k s = stays_known i (Stands t) commit m k
   asks share i (Stands t) commit m most Served chosen k s = absurd s.1
   asks share i (Stands t) commit m most (Began nodes) chosen k s = leads i t commit m most (Began nodes) chosen k s.1
   asks share i (Stands t) commit m most (GotRefused refusal) chosen k s = leads i t commit m most (GotRefused refusal) chosen k s.1
@@ -236,14 +237,14 @@ module _ (P A : Type 0) (shape : Shape) where
   asks share i (Opens mode reading) commit m most got chosen k s = absurd s
 
   -- commits are broken: what runs, and what is stored, stays
-  breaks : (i : Images) (phase : Phase P A) (commit : Option RunningCommit) (m : List History) (got : Got) (chosen : Chosen P A) → K i phase commit m → OfTarget phase (λ t. Unit {0}) →
-      T i (phase_then shape phase (Desk BreakCommit) got chosen) (commit_then phase commit (Desk BreakCommit) got chosen) m
-  breaks i (Stands t) commit m got chosen k s = same i (Stands (record { words = t.words; desk = commit_broken t.desk })) commit m (broken_over P shape.geometry i t.desk commit m k)
+  breaks : (i : Images) (phase : Phase P A) (commit : Option RunningCommit) (m : List History) (got : Got) (chosen : Chosen P A) → Known i phase commit m → OfTarget phase (λ t. Unit {0}) →
+      KnownNext i (phase_then shape phase (Desk BreakCommit) got chosen) (commit_then phase commit (Desk BreakCommit) got chosen) m
+  breaks i (Stands t) commit m got chosen k s = stays_known i (Stands (record { words = t.words; desk = commit_broken t.desk })) commit m (broken_over P shape.geometry i t.desk commit m k)
   breaks i Gone commit m got chosen k s = absurd s
   breaks i (Opens mode reading) commit m got chosen k s = absurd s
 
-  end_commit : (i : Images) (phase : Phase P A) (commit : Option RunningCommit) (m : List History) (got : Got) (chosen : Chosen P A) → K i phase commit m → OfTarget phase (λ t. is_all_done commit ≡ true) →
-      T i (phase_then shape phase (Desk EndCommit) got chosen) (commit_then phase commit (Desk EndCommit) got chosen) m
+  end_commit : (i : Images) (phase : Phase P A) (commit : Option RunningCommit) (m : List History) (got : Got) (chosen : Chosen P A) → Known i phase commit m → OfTarget phase (λ t. is_all_done commit ≡ true) →
+      KnownNext i (phase_then shape phase (Desk EndCommit) got chosen) (commit_then phase commit (Desk EndCommit) got chosen) m
   end_commit i (Stands t) (Some c) m got chosen k s = let e = ends_over P shape.geometry i t.desk m c k s in record { now = e.now; turn = e.turn; turned = e.turned; kept = e.kept.0 }
   end_commit i (Stands t) None m got chosen k s = absurd (cc)
   end_commit i Gone commit m got chosen k s = absurd s
@@ -251,36 +252,36 @@ module _ (P A : Type 0) (shape : Shape) where
 
   -- ---- a migration's steps on the desk
 
-  pub map_keeps : (i : Images) (phase : Phase P A) (commit : Option RunningCommit) (m : List History) (b : _) (c : _) (got : Got) (chosen : Chosen P A) → K i phase commit m → OfTarget phase (λ t. DoesMap b c t.desk got chosen) →
-      T i (phase_then shape phase (Desk (Map b c)) got chosen) (commit_then phase commit (Desk (Map b c)) got chosen) m
-  map_keeps i (Stands t) commit m b c Done (Asks new) k s = same i (phase_then shape (Stands t) (Desk (Map b c)) Done (Asks new)) commit m
+  pub map_keeps : (i : Images) (phase : Phase P A) (commit : Option RunningCommit) (m : List History) (b : _) (c : _) (got : Got) (chosen : Chosen P A) → Known i phase commit m → OfTarget phase (λ t. DoesMap b c t.desk got chosen) →
+      KnownNext i (phase_then shape phase (Desk (Map b c)) got chosen) (commit_then phase commit (Desk (Map b c)) got chosen) m
+  map_keeps i (Stands t) commit m b c Done (Asks new) k s = stays_known i (phase_then shape (Stands t) (Desk (Map b c)) Done (Asks new)) commit m
       (subst (λ (d : DeskState P). AtDesk shape.geometry i d commit m) (sym s.2) (mapped_stands P shape.geometry i t.desk commit m b c new.tree new.policy k s.0 s.1))
-  map_keeps i (Stands t) commit m b c (GotRefused refusal) Plain k s = same i (Stands t) commit m k
+  map_keeps i (Stands t) commit m b c (GotRefused refusal) Plain k s = stays_known i (Stands t) commit m k
   map_keeps i phase commit m b c got chosen k s = absurd s
 
-  pub unmap_keeps : (i : Images) (phase : Phase P A) (commit : Option RunningCommit) (m : List History) (b : _) (got : Got) (chosen : Chosen P A) → K i phase commit m → OfTarget phase (λ t. DoesUnmap b t.desk chosen) →
-      T i (phase_then shape phase (Desk (Unmap b)) got chosen) (commit_then phase commit (Desk (Unmap b)) got chosen) m
-  unmap_keeps i (Stands t) commit m b got (Asks new) k s = same i (phase_then shape (Stands t) (Desk (Unmap b)) got (Asks new)) commit m (unmapped_stands P shape.geometry i t.desk commit m b new k s)
+  pub unmap_keeps : (i : Images) (phase : Phase P A) (commit : Option RunningCommit) (m : List History) (b : _) (got : Got) (chosen : Chosen P A) → Known i phase commit m → OfTarget phase (λ t. DoesUnmap b t.desk chosen) →
+      KnownNext i (phase_then shape phase (Desk (Unmap b)) got chosen) (commit_then phase commit (Desk (Unmap b)) got chosen) m
+  unmap_keeps i (Stands t) commit m b got (Asks new) k s = stays_known i (phase_then shape (Stands t) (Desk (Unmap b)) got (Asks new)) commit m (unmapped_stands P shape.geometry i t.desk commit m b new k s)
   unmap_keeps i phase commit m b got chosen k s = absurd s
 
-  pub release_keeps : (i : Images) (phase : Phase P A) (commit : Option RunningCommit) (m : List History) (b : OBlock) (orders : List Order) (got : Got) (chosen : Chosen P A) → K i phase commit m → OfTarget phase (λ t. DoesRelease orders b t.desk chosen) →
-      T i (phase_then shape phase (Desk (ReleaseOrder b)) got chosen) (commit_then phase commit (Desk (ReleaseOrder b)) got chosen) m
-  release_keeps i (Stands t) commit m b orders got (Asks new) k s = same i (phase_then shape (Stands t) (Desk (ReleaseOrder b)) got (Asks new)) commit m (released_for P shape.geometry i t.desk commit m new (order_of b orders) k s)
+  pub release_keeps : (i : Images) (phase : Phase P A) (commit : Option RunningCommit) (m : List History) (b : OBlock) (orders : List Order) (got : Got) (chosen : Chosen P A) → Known i phase commit m → OfTarget phase (λ t. DoesRelease orders b t.desk chosen) →
+      KnownNext i (phase_then shape phase (Desk (ReleaseOrder b)) got chosen) (commit_then phase commit (Desk (ReleaseOrder b)) got chosen) m
+  release_keeps i (Stands t) commit m b orders got (Asks new) k s = stays_known i (phase_then shape (Stands t) (Desk (ReleaseOrder b)) got (Asks new)) commit m (released_for P shape.geometry i t.desk commit m new (order_of b orders) k s)
   release_keeps i phase commit m b orders got chosen k s = absurd s
 
   -- ---- answers
 
-  answer_plain : (i : Images) (phase : Phase P A) (commit : Option RunningCommit) (m : List History) (answer : Answer) (got : Got) → K i phase commit m →
-      T i (phase_then shape phase (End answer) got Plain) (commit_then phase commit (End answer) got Plain) m
-  answer_plain i (Stands t) commit m answer got k = same i (Stands t) commit m k
-  answer_plain i Gone commit m answer got k = same i Gone commit m k
-  answer_plain i (Opens mode reading) commit m answer got k = same i Gone None m (kept_readable shape.geometry i m P A (Opens mode reading) commit k)
+  answer_plain : (i : Images) (phase : Phase P A) (commit : Option RunningCommit) (m : List History) (answer : Answer) (got : Got) → Known i phase commit m →
+      KnownNext i (phase_then shape phase (End answer) got Plain) (commit_then phase commit (End answer) got Plain) m
+  answer_plain i (Stands t) commit m answer got k = stays_known i (Stands t) commit m k
+  answer_plain i Gone commit m answer got k = stays_known i Gone commit m k
+  answer_plain i (Opens mode reading) commit m answer got k = stays_known i Gone None m (kept_readable shape.geometry i m P A (Opens mode reading) commit k)
 
-  answer_opens : (i : Images) (phase : Phase P A) (commit : Option RunningCommit) (m : List History) (got : Got) (chosen : Chosen P A) → K i phase commit m → DoesOpen phase commit chosen →
-      T i (phase_then shape phase (End Finished) got chosen) (commit_then phase commit (End Finished) got chosen) m
+  answer_opens : (i : Images) (phase : Phase P A) (commit : Option RunningCommit) (m : List History) (got : Got) (chosen : Chosen P A) → Known i phase commit m → DoesOpen phase commit chosen →
+      KnownNext i (phase_then shape phase (End Finished) got chosen) (commit_then phase commit (End Finished) got chosen) m
   answer_opens i (Opens mode (Some reading)) (Some c) m got (Opened policy) k s = by_reading reading k s.0
     where
-      by_reading : (reading : ReadSteps A) → Rooting shape.geometry i reading c m → IsDone reading → T i (phase_then shape (Opens mode (Some reading)) (End Finished) got (Opened policy)) None m
+      by_reading : (reading : ReadSteps A) → Rooting shape.geometry i reading c m → IsDone reading → KnownNext i (phase_then shape (Opens mode (Some reading)) (End Finished) got (Opened policy)) None m
       by_reading (AllRead stored) k d = let t = target_stands A shape.geometry i m P mode policy shape.threshold stored c k s.1 in record { now = t.now; turn = t.turn; turned = t.turned; kept = t.kept.0 }
       by_reading reading k d = absurd d
   answer_opens i (Opens mode (Some reading)) None m got (Opened policy) k s = absurd (let e = s.1 in cc)
@@ -300,7 +301,7 @@ module _ (P A : Type 0) (shape : Shape) where
 
     -- what is known of the metadata after it
     abbrev After : Images → List Bytes → Job → Want → Type 0
-    After i buffer job next = T i (phase_then shape w.phase next got chosen) (commit_then w.phase w.commit next got chosen) (devices_then (λ step. device_done job buffer step chosen) w.devices next).metadata
+    After i buffer job next = KnownNext i (phase_then shape w.phase next got chosen) (commit_then w.phase w.commit next got chosen) (devices_then (λ step. device_done job buffer step chosen) w.devices next).metadata
 
     read_fact : (job : Job) (d : Dev) (e : _) → G job (Device (ReadExtent d e)) → HoldsBlocks d
     read_fact (Read x) d e g = g.0
@@ -369,24 +370,24 @@ module _ (P A : Type 0) (shape : Shape) where
     answer_fact job answer g = inl g.0.1
 
     -- its device is not that of the metadata
-    moves_data : (i : Images) (buffer : List Bytes) (job : Job) (step : DeviceStep) (d : Dev) → HoldsBlocks d → device_of step ≡ d → IsData step → K i w.phase w.commit m → After i buffer job (Device step)
+    moves_data : (i : Images) (buffer : List Bytes) (job : Job) (step : DeviceStep) (d : Dev) → HoldsBlocks d → device_of step ≡ d → IsData step → Known i w.phase w.commit m → After i buffer job (Device step)
     moves_data i buffer job step d h e x k =
-        subst (λ (n : List History). T i (phase_then shape w.phase (Device step) got chosen) (commit_then w.phase w.commit (Device step) got chosen) n)
+        subst (λ (n : List History). KnownNext i (phase_then shape w.phase (Device step) got chosen) (commit_then w.phase w.commit (Device step) got chosen) n)
         (sym (data_device (device_of step) (subst (λ (v : Dev). HoldsBlocks v) (sym e) h) w.devices _)) (data_same i w.phase w.commit m step got chosen x k)
 
-    pub done_kept : (i : Images) (buffer : List Bytes) (job : Job) (next : Want) → K i w.phase w.commit m → G job next → After i buffer job next
+    pub done_kept : (i : Images) (buffer : List Bytes) (job : Job) (next : Want) → Known i w.phase w.commit m → G job next → After i buffer job next
     done_kept i buffer job (Cell step) k g = cell_same i w.phase w.commit m step got chosen k
     done_kept i buffer job (Device (ReadExtent d e)) k g = moves_data i buffer job (ReadExtent d e) d (read_fact job d e g) refl tt k
     done_kept i buffer job (Device (WriteExtent d e)) k g = moves_data i buffer job (WriteExtent d e) d (write_fact job d e g) refl tt k
     done_kept i buffer job (Device (Sync Cache)) k g = moves_data i buffer job (Sync Cache) Cache tt refl tt k
     done_kept i buffer job (Device (Sync Origin)) k g = moves_data i buffer job (Sync Origin) Origin tt refl tt k
     done_kept i buffer job (Device (Sync Metadata)) k g = let f = sync_fact job g in
-        subst (λ (x : Got). T i (phase_then shape w.phase (Device (Sync Metadata)) x chosen) (commit_then w.phase w.commit (Device (Sync Metadata)) x chosen) (synced m)) (sym f.0) (sync_metadata i w.phase w.commit m chosen k f.1)
+        subst (λ (x : Got). KnownNext i (phase_then shape w.phase (Device (Sync Metadata)) x chosen) (commit_then w.phase w.commit (Device (Sync Metadata)) x chosen) (synced m)) (sym f.0) (sync_metadata i w.phase w.commit m chosen k f.1)
     done_kept i buffer job (Device (WriteNode number)) k g = let f = node_fact job number g in
-        subst (λ (x : Got). T i (phase_then shape w.phase (Device (WriteNode number)) x chosen) (commit_then w.phase w.commit (Device (WriteNode number)) x chosen) (device_done job buffer (WriteNode number) chosen m)) (sym f.0)
+        subst (λ (x : Got). KnownNext i (phase_then shape w.phase (Device (WriteNode number)) x chosen) (commit_then w.phase w.commit (Device (WriteNode number)) x chosen) (device_done job buffer (WriteNode number) chosen m)) (sym f.0)
         (put_node i w.phase w.commit m number job buffer chosen k f.1)
     done_kept i buffer job (Device WriteRoot) k g = let f = root_fact job g in
-        subst (λ (x : Got). T i (phase_then shape w.phase (Device WriteRoot) x chosen) (commit_then w.phase w.commit (Device WriteRoot) x chosen) (device_done job buffer WriteRoot chosen m)) (sym f.0) (put_root i w.phase w.commit m job buffer chosen k f.1)
+        subst (λ (x : Got). KnownNext i (phase_then shape w.phase (Device WriteRoot) x chosen) (commit_then w.phase w.commit (Device WriteRoot) x chosen) (device_done job buffer WriteRoot chosen m)) (sym f.0) (put_root i w.phase w.commit m job buffer chosen k f.1)
     done_kept i buffer job (Device (ReadMetadata left)) k g = let f = metadata_fact job left g in by_commit w.commit f.0 k f.1
       where
         still : device_done job buffer (ReadMetadata left) chosen m ≡ m
@@ -400,9 +401,9 @@ module _ (P A : Type 0) (shape : Shape) where
                 by_phase p h = absurd h
             by_chosen ch h = refl
 
-        by_commit : (commit : Option RunningCommit) → commit ≡ None → K i w.phase commit m → OfReading w.phase (λ mode was. DoesRead mode shape.geometry (asks_second job) left was m commit got chosen) →
-            T i (phase_then shape w.phase (Device (ReadMetadata left)) got chosen) (commit_then w.phase commit (Device (ReadMetadata left)) got chosen) (device_done job buffer (ReadMetadata left) chosen m)
-        by_commit None e k h = subst (λ (n : List History). T i (phase_then shape w.phase (Device (ReadMetadata left)) got chosen) (commit_then w.phase None (Device (ReadMetadata left)) got chosen) n) (sym still)
+        by_commit : (commit : Option RunningCommit) → commit ≡ None → Known i w.phase commit m → OfReading w.phase (λ mode was. DoesRead mode shape.geometry (asks_second job) left was m commit got chosen) →
+            KnownNext i (phase_then shape w.phase (Device (ReadMetadata left)) got chosen) (commit_then w.phase commit (Device (ReadMetadata left)) got chosen) (device_done job buffer (ReadMetadata left) chosen m)
+        by_commit None e k h = subst (λ (n : List History). KnownNext i (phase_then shape w.phase (Device (ReadMetadata left)) got chosen) (commit_then w.phase None (Device (ReadMetadata left)) got chosen) n) (sym still)
             (read_metadata i w.phase m (asks_second job) left got chosen k h)
         by_commit (Some c) e k h = absurd (cc)
     done_kept i buffer job (Desk (Arrive most)) k g = arrives i w.phase w.commit m most got chosen k (arrive_fact job most g)
@@ -414,6 +415,6 @@ module _ (P A : Type 0) (shape : Shape) where
     done_kept i buffer job (Desk (Unmap b)) k g = unmap_keeps i w.phase w.commit m b got chosen k (unmap_fact job b g)
     done_kept i buffer job (Desk (ReleaseOrder b)) k g = let f = release_fact job b g in release_keeps i w.phase w.commit m b f.0 got chosen k f.1
     done_kept i buffer job (End answer) k g = elim (answer_fact job answer g) [
-      | inl e ↦ subst (λ (ch : Chosen P A). T i (phase_then shape w.phase (End answer) got ch) (commit_then w.phase w.commit (End answer) got ch) m) (sym e) (answer_plain i w.phase w.commit m answer got k)
-      | inr h ↦ subst (λ (x : Answer). T i (phase_then shape w.phase (End x) got chosen) (commit_then w.phase w.commit (End x) got chosen) m) (sym h.0) (answer_opens i w.phase w.commit m got chosen k h.1)
+      | inl e ↦ subst (λ (ch : Chosen P A). KnownNext i (phase_then shape w.phase (End answer) got ch) (commit_then w.phase w.commit (End answer) got ch) m) (sym e) (answer_plain i w.phase w.commit m answer got k)
+      | inr h ↦ subst (λ (x : Answer). KnownNext i (phase_then shape w.phase (End x) got chosen) (commit_then w.phase w.commit (End x) got chosen) m) (sym h.0) (answer_opens i w.phase w.commit m got chosen k h.1)
     ]

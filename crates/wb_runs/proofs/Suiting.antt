@@ -1,16 +1,16 @@
 -- Each result of a step fits it, so its actor has what is needed for what is left; and the rule of the words is kept.
 use Rattle.wb_stage.specs.declared.share.Share.{Share}
 use Rattle.wb_desk.specs.Sharing.{IsLeadRefused}
-use Rattle.std.proofs.Common.{◌≡◌, ◌≢◌, inl, inr, ℕ, Bool, true, false, eqb, List, Option, Some, None, refl, sym, subst, if◌then◌else◌, ◌⊎◌}
+use Rattle.std.proofs.Common.{◌≡◌, ◌≢◌, inl, inr, ℕ, Bool, true, false, eqb, List, Option, Some, refl, sym, subst, if◌then◌else◌, ◌⊎◌}
 use Rattle.wb_types.specs.declared.geometry.Geometry.{Geometry}
 use Rattle.wb_types.specs.declared.mode.Dev.{Dev}
-use Rattle.wb_types.specs.declared.mode.Dev.TheVariants.{Metadata, Cache, Origin}
+use Rattle.wb_types.specs.declared.mode.Dev.TheVariants.{Metadata}
 use Rattle.wb_types.specs.declared.mode.Mode.{Mode}
 use Rattle.wb_types.specs.declared.refusal.Refusal.{Refusal}
 use Rattle.wb_types.specs.declared.refusal.Refusal.TheVariants.{Busy, Memory, GenerationEnd, Mismatch, NotFormatted, Damaged, Io, Failed}
 use Rattle.wb_disk.specs.Device.{Content as Bytes, History}
 use Rattle.wb_words.specs.declared.step.CellStep.{CellStep}
-use Rattle.wb_words.specs.declared.step.CellStep.TheVariants.{Look, Take, Release, Seal, Finish, Count, SetFailed, SetSuspended}
+use Rattle.wb_words.specs.declared.step.CellStep.TheVariants.{Take}
 use Rattle.wb_words.specs.declared.step.CellResult.TheVariants.{Done as Won, Lost as CellLost}
 use Rattle.wb_words.specs.SharedWords.{Words, word_at}
 use Rattle.wb_words.specs.Effects.{result_of}
@@ -28,9 +28,9 @@ use Rattle.wb_tasks.specs.declared.step.Got.TheVariants.{Done, Fault, Refused as
 use Rattle.wb_devices.specs.declared.running.RunningCommit.{RunningCommit}
 use Rattle.wb_devices.specs.Opened.{HasCome, got_of_refusal}
 use Rattle.wb_promise.specs.declared.job.Job.{Job}
-use Rattle.wb_promise.specs.declared.job.Job.TheVariants.{Read, Write, Flush, Suspend, Open, Migrate, Replace, Invalidate}
+use Rattle.wb_promise.specs.declared.job.Job.TheVariants.{Read, Write, Flush, Migrate, Invalidate}
 use Rattle.wb_promise.specs.States.{Actor, Shape, State, Phase, Stands, Gone, Opens, OfTarget, OfReading}
-use Rattle.wb_promise.specs.Happenings.{Chosen, Plain, Cut, Orders, Begins, Reaches, Puts, Commits, Asks, Opened, DoesRead, asks_second, DoesBegin, DoesMap, Gives, Looks, DoesArrive, DoesAsk}
+use Rattle.wb_promise.specs.Happenings.{Chosen, Plain, Reaches, Commits, Asks, DoesRead, asks_second, DoesBegin, DoesMap, Gives, DoesArrive, DoesAsk}
 use Rattle.wb_runs.proofs.Stepping.{metadata_fact, begin_fact, map_fact, sync_fact, node_fact, root_fact, arrive_fact, ask_fact}
 
 -- ---- results
@@ -142,22 +142,8 @@ module _ (P A : Type 0) (shape : Shape) (w : State P A) (actor : Actor) (got : G
 
   pub data_sync : (job : Job) (d : Dev) → Gives shape w actor job (Device (Sync d)) got read chosen → got ≡ Done
   data_sync job Metadata g = (sync_fact P A shape w actor got read chosen job g).0
-  data_sync (Read x) Cache g = g.1
-  data_sync (Write x c) Cache g = g.1
-  data_sync Flush Cache g = g.1
-  data_sync Suspend Cache g = g.1
-  data_sync (Invalidate block) Cache g = g.1
-  data_sync (Open mode second) Cache g = g.1
-  data_sync (Migrate migration block) Cache g = g.1
-  data_sync (Replace old new) Cache g = g.1
-  data_sync (Read x) Origin g = g.1
-  data_sync (Write x c) Origin g = g.1
-  data_sync Flush Origin g = g.1
-  data_sync Suspend Origin g = g.1
-  data_sync (Invalidate block) Origin g = g.1
-  data_sync (Open mode second) Origin g = g.1
-  data_sync (Migrate migration block) Origin g = g.1
-  data_sync (Replace old new) Origin g = g.1
+  data_sync (Read x) device g = g.1
+  data_sync job device g = g.1
 
   pub word_given : (job : Job) (step : CellStep) → Gives shape w actor job (Cell step) got read chosen → OfTarget w.phase (λ t. got ≡ got_of (result_of t.words step))
   word_given job step g = g.1

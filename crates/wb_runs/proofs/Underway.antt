@@ -1,5 +1,5 @@
 -- A commit on its way: which states the metadata are read as while it goes on, and once it failed or ended.
-use Rattle.std.proofs.Common.{◌≡◌, ◌⊎◌, ◌&&◌, ◌==◌, inl, inr, ℕ, Bool, true, false, if◌then◌else◌, List, Option, Some, None, refl, sym, ap, subst, slice_get, length, is_some, is_none}
+use Rattle.std.proofs.Common.{◌≡◌, ◌∙◌, ◌⊎◌, ◌&&◌, ◌==◌, inl, inr, ℕ, Bool, true, false, if◌then◌else◌, List, Option, Some, None, refl, sym, ap, subst, slice_get, length, is_some, is_none}
 use Rattle.wb_types.proofs.Truth.{and_true}
 use Rattle.wb_types.specs.declared.geometry.Geometry.{Geometry}
 use Rattle.wb_types.specs.declared.number.Place.{Place}
@@ -26,7 +26,7 @@ use Rattle.wb_meta.specs.Sizes.{AreSameSizes}
 use Rattle.wb_meta.proofs.Leading.{during, early, after_failure, after_failed_node, when_done}
 use Rattle.wb_meta.proofs.Deciding.{crash_decides, sync_decides, failed_sync_leaves}
 use Rattle.wb_runs.proofs.Sizes.{read_by_sizes}
-use Rattle.wb_runs.proofs.Images.{Images, later_of, one_image, Turn, Stays, Puts, Settles, Turned, Turns}
+use Rattle.wb_runs.proofs.Images.{Images, later_of, one_image, Turn, Stays, Begins, Puts, Settles, Turned, Turns}
 
 -- A device of the sizes of this geometry is read as these images.
 pub record Readable (g : Geometry) (images : Images) (device : List History) : Type 0 where
@@ -50,6 +50,22 @@ pub record Underway (g : Geometry) (images : Images) (commit : RunningCommit) (o
   pub image : of.image ≡ commit.image
   pub come : CommitHasCome of.image of.before commit.steps device
   pub sizes : AreSameSizes of.old.root.geometry g
+
+-- where one state stands a commit begins: it is under way, and its own state stands beside that one
+pub begins_under : {Kept : Images → Type 0} (g : Geometry) (images : Images) (commit : RunningCommit) (of : Commit) (steps : CommitSteps) (device : List History) → images ≡ one_image of.old → commit.steps ≡ steps → is_written steps ≡ false → CanBeMade of → of.image ≡ commit.image
+    → CommitHasCome of.image of.before steps device → AreSameSizes of.old.root.geometry g → (Underway g (images_of of false) commit of device → Kept (images_of of false)) → Turns Kept images
+begins_under g images commit of steps device are is unwritten can image come sizes kept = record {
+  now = images_of of false;
+  turn = Begins of.new;
+  turned = ap (λ (i : Images). record { committed = i.committed; running = Some of.new; written = false }) (sym are);
+  kept = kept (record {
+    are = ap (λ (t : Bool). images_of of t) (sym unwritten) ∙ ap (λ (s : CommitSteps). images_of of (is_written s)) (sym is);
+    can = can;
+    image = image;
+    come = subst (λ (s : CommitSteps). CommitHasCome of.image of.before s device) (sym is) come;
+    sizes = sizes;
+  });
+}
 
 -- the device is read as the old state, or perhaps as the new one
 read_as : (g : Geometry) (of : Commit) (now : List History) (written : Bool) → AreSameSizes of.old.root.geometry g → MayBeReadAs of.old.root.geometry of.old (later_of (images_of of written)) now → Readable g (images_of of written) now

@@ -1,9 +1,9 @@
 -- In every run each actor has what its task needs, and the words of the target that stands keep their rule.
-use Rattle.std.proofs.Common.{◌≡◌, ◌<◌, ◌*◌, ◌/◌, inr, ℕ, Bool, List, [], ◌∷◌, Option, Some, None, refl, sym, ap, subst, slice_get, slice_set, arith, mul_comm, ◌++◌, inl, true, false}
+use Rattle.std.proofs.Common.{◌≡◌, ◌∙◌, ◌<◌, ◌*◌, ◌/◌, inr, ℕ, Bool, List, [], ◌∷◌, Option, Some, None, refl, sym, ap, subst, slice_get, slice_set, arith, mul_comm, ◌++◌, inl, true, false}
 use mathlib.Core.Option.{some}
 use lib.ListN.{get_elem?}
 use Rattle.wb_types.specs.declared.mode.Mode.{Mode}
-use Rattle.wb_types.specs.declared.mode.Mode.TheVariants.{Writeback, Writethrough, Passthrough}
+use Rattle.wb_types.specs.declared.mode.Mode.TheVariants.{Writeback}
 use Rattle.wb_types.specs.declared.extent.Extent.{Extent}
 use Rattle.std.proofs.lemmas.Nat.{div_below}
 use Rattle.wb_disk.specs.Device.{Content as Bytes, History}
@@ -37,10 +37,10 @@ use Rattle.wb_promise.specs.declared.job.Job.TheVariants.{Read, Write, Flush, Su
 use Rattle.wb_promise.specs.declared.event.Event.{Event}
 use Rattle.wb_promise.specs.declared.event.Event.TheVariants.{Start, Step, FaultStep, Stop}
 use Rattle.wb_promise.specs.declared.event.What.{What}
-use Rattle.wb_promise.specs.declared.event.What.TheVariants.{Skipped, Refused, Started, Stepped, Stopped}
+use Rattle.wb_promise.specs.declared.event.What.TheVariants.{Started, Stepped, Stopped}
 use Rattle.wb_promise.specs.States.{Shape, State, Actor, Target, Phase, Stands, Gone, Opens, OfTarget, mode_of, resting, start}
 use Rattle.wb_promise.specs.Happenings.{Chosen, Plain, Cut, Orders, order_for, Opened, Happening, OfSome, DoesNotApply, DoesOpen, MayFailAt, Falters, StartGives, Gives, MayBe, KeepsMigration, blocks_left, StartsAs, Looks, AreMapped, block_range, write_job}
-use Rattle.wb_promise.specs.Effects.{task_then, actor_then, card_over, card_by, words_by, seals_of, phase_then, target_over, stepped, with_actor, cleared, given, phase_given, job_of, device_done, device_failed, all_resting, after_what, after_happening, after_all, IsRun, orders_then, awaiting_then, orders_given}
+use Rattle.wb_promise.specs.Effects.{card_then, task_then, actor_then, card_over, card_by, words_by, seals_of, phase_then, target_over, stepped, with_actor, cleared, given, phase_given, job_of, device_done, device_failed, all_resting, after_what, after_happening, after_all, IsRun, orders_then, awaiting_then, orders_given}
 use Rattle.wb_runs.specs.Holding.{cards_of, TaskSuits, AllSuited, AreUsedRightly}
 use Rattle.wb_runs.proofs.Extents.{MayStart, may_start, block_there, some_sectors}
 use Rattle.wb_runs.proofs.Passing.{target_stands}
@@ -136,43 +136,36 @@ module _ (P A : Type 0) (shape : Shape) where
     is_open : AllOpen actors → (mode : Mode) × (second : Bool) × (job ≡ Open mode second)
     is_open o = subst (λ (t : Option (Job × Plan)). OpensOrRests t) xt (o a x e)
 
+    -- it goes on with the card that it has
+    keeps_card : (phase : Phase P A) (next : Want) (got : Got) (y : Actor) → y.card ≡ x.card → y.task ≡ Some (job, after plan got) → OrdersInside shape.geometry (held_of y) → next ≡ want plan → Fits next got → MayMake next got x.card x.card → InPhase phase actors → UsedRightly phase (slice_set actors a y)
+    keeps_card phase next got y card task held h f m i = record {
+      suited = set_suited y (subst (λ (c : Card). TaskSuits blocks c y.task) (sym card) (subst (λ (o : Option (Job × Plan)). TaskSuits blocks x.card o) (sym task) (goes_on next got x.card h f m)));
+      here = here phase i;
+      orders = set_orders y held;
+    }
+      where
+        here : (phase : Phase P A) → InPhase phase actors → InPhase phase (slice_set actors a y)
+        here (Stands t) i = rule_same blocks t.words actors a x y i e card
+        here Gone i = blank_set y (card ∙ i a x e) i
+        here (Opens mode reading) i = (blank_set y (card ∙ i.0 a x e) i.0, open_set y (subst OpensOrRests (sym task) (opens_still got i.1)) i.1)
+
     -- on a device, done or failed
     on_device : (phase : Phase P A) (step : DeviceStep) (got : Got) (chosen : Chosen P A) → InPhase phase actors → Device step ≡ want plan → Fits (Device step) got →
         UsedRightly (phase_then shape phase (Device step) got chosen) (slice_set actors a (actor_then {P = P} {A = A} shape phase devices x (Device step) got))
-    on_device (Stands t) step got chosen i h f = record {
-      suited = set_suited _ (subst (λ (o : Option (Job × Plan)). TaskSuits blocks x.card (task_then o (Device step) got)) (sym xt) (goes_on (Device step) got x.card h f refl));
-      here = rule_same blocks t.words actors a x _ i e refl;
-      orders = set_orders _ (left (Device step) got);
-    }
-    on_device Gone step got chosen i h f = record {
-      suited = set_suited _ (subst (λ (o : Option (Job × Plan)). TaskSuits blocks x.card (task_then o (Device step) got)) (sym xt) (goes_on (Device step) got x.card h f refl));
-      here = blank_set _ (i a x e) i;
-      orders = set_orders _ (left (Device step) got);
-    }
-    on_device (Opens mode reading) step got chosen i h f = record {
-      suited = set_suited _ (subst (λ (o : Option (Job × Plan)). TaskSuits blocks x.card (task_then o (Device step) got)) (sym xt) (goes_on (Device step) got x.card h f refl));
-      here = (blank_set _ (i.0 a x e) i.0, open_set _ (subst (λ (o : Option (Job × Plan)). OpensOrRests (task_then o (Device step) got)) (sym xt) (opens_still got i.1)) i.1);
-      orders = set_orders _ (left (Device step) got);
-    }
+    on_device phase step got chosen i h f = keeps_card _ (Device step) got (actor_then {P = P} {A = A} shape phase devices x (Device step) got) (still phase i).0 (ap (λ (o : Option (Job × Plan)). task_then o (Device step) got) xt) (left (Device step) got) h f refl (still phase i).1
+      where
+        still : (phase : Phase P A) → InPhase phase actors → (card_then shape phase x.card (Device step) ≡ x.card) × InPhase (phase_then shape phase (Device step) got chosen) actors
+        still (Stands t) i = (refl, i)
+        still phase i = (refl, i)
 
     -- of the desk
     on_desk : (phase : Phase P A) (step : DeskStep) (got : Got) (chosen : Chosen P A) → InPhase phase actors → Desk step ≡ want plan → Fits (Desk step) got →
         UsedRightly (phase_then shape phase (Desk step) got chosen) (slice_set actors a (actor_then {P = P} {A = A} shape phase devices x (Desk step) got))
-    on_desk (Stands t) step got chosen i h f = record {
-      suited = set_suited _ (subst (λ (o : Option (Job × Plan)). TaskSuits blocks x.card (task_then o (Desk step) got)) (sym xt) (goes_on (Desk step) got x.card h f refl));
-      here = rule_same blocks t.words actors a x _ i e refl;
-      orders = set_orders _ (left (Desk step) got);
-    }
-    on_desk Gone step got chosen i h f = record {
-      suited = set_suited _ (subst (λ (o : Option (Job × Plan)). TaskSuits blocks x.card (task_then o (Desk step) got)) (sym xt) (goes_on (Desk step) got x.card h f refl));
-      here = blank_set _ (i a x e) i;
-      orders = set_orders _ (left (Desk step) got);
-    }
-    on_desk (Opens mode reading) step got chosen i h f = record {
-      suited = set_suited _ (subst (λ (o : Option (Job × Plan)). TaskSuits blocks x.card (task_then o (Desk step) got)) (sym xt) (goes_on (Desk step) got x.card h f refl));
-      here = (blank_set _ (i.0 a x e) i.0, open_set _ (subst (λ (o : Option (Job × Plan)). OpensOrRests (task_then o (Desk step) got)) (sym xt) (opens_still got i.1)) i.1);
-      orders = set_orders _ (left (Desk step) got);
-    }
+    on_desk phase step got chosen i h f = keeps_card _ (Desk step) got (actor_then {P = P} {A = A} shape phase devices x (Desk step) got) (still phase i).0 (ap (λ (o : Option (Job × Plan)). task_then o (Desk step) got) xt) (left (Desk step) got) h f refl (still phase i).1
+      where
+        still : (phase : Phase P A) → InPhase phase actors → (card_then shape phase x.card (Desk step) ≡ x.card) × InPhase (phase_then shape phase (Desk step) got chosen) actors
+        still (Stands t) i = (refl, i)
+        still phase i = (refl, i)
 
     -- on the words
     on_words : (phase : Phase P A) (step : CellStep) (got : Got) (chosen : Chosen P A) → InPhase phase actors → Cell step ≡ want plan → Fits (Cell step) got → OfTarget phase (λ t. got ≡ got_of (result_of t.words step)) →
