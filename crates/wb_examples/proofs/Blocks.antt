@@ -48,9 +48,8 @@ first_stays [] device at = refl
 first_stays (c ∷ cs) device at = first_stays cs (written device (suc at) c) (suc at) ∙ one (slice_get device (suc at)) device
   where
     one : (o : Option History) (device : List History) → slice_get (grown o c device (suc at)) 0 ≡ slice_get device 0
-    one None device = refl
-    one (Some h) [] = refl
     one (Some h) (g ∷ device) = refl
+    one o device = refl
 
 pub first_written : (device : List History) (c : Bytes) → 1 ≤ length device → ReadGives (written device 0 c) 0 c
 first_written [] c l = absurd (omega (arith, l))

@@ -53,9 +53,8 @@ before (suc zero) late e = cc
 before (suc (suc position)) late e = cc
 
 nowhere : (position : ℕ) → slice_get (older ∷ newer ∷ []) position ≡ Some foreign → ⊥
-nowhere zero e = cc
-nowhere (suc zero) e = cc
 nowhere (suc (suc position)) e = cc
+nowhere position e = cc
 
 pub excludes : (P A : Type 0) → ExcludesWrongAnswers P A
 excludes P A = record {

@@ -55,9 +55,7 @@ can_pass P A Suits conditions some f policy reading begun shape metadata suits i
 
     by_reading : (r : ReadSteps A) → sectors_read r ≡ 0 → PassesThrough shape (start shape metadata) (formatted shape) (conditions shape)
     by_reading (Begun alloc global) e = by_actors alloc global shape.actors (some shape suits) suits
-    by_reading (FirstSlotRead alloc global found) e = absurd (omega (arith, e))
-    by_reading (RootFound global root loader nodes) e = absurd (omega (arith, e))
-    by_reading (AllRead state) e = absurd (omega (arith, e))
+    by_reading r e = absurd (omega (arith, e))
 
 module _ (P A : Type 0) where
   -- before the first opening, over formatted metadata

@@ -17,7 +17,7 @@ use Rattle.wb_words.specs.declared.step.CellStep.TheVariants.{Look, Seal, SetFai
 use Rattle.wb_words.specs.SharedWords.{Words, word_at, flag, counted, place_in, dirty_in, fail_word, seal_word, place_number}
 use Rattle.wb_words.specs.Cards.{looked, is_own_seal}
 use Rattle.wb_words.specs.declared.word.Kind.{Kind}
-use Rattle.wb_words.specs.declared.word.Kind.TheVariants.{ReadHit, ReadMiss, WriteHit, WriteMiss}
+use Rattle.wb_words.specs.declared.word.Kind.TheVariants.{ReadHit}
 use Rattle.wb_words.specs.Effects.{words_after}
 use Rattle.wb_tasks.specs.Plan.{Plan}
 use Rattle.wb_tasks.specs.declared.step.Answer.TheVariants.{Refused as Refuses}
@@ -95,9 +95,7 @@ tells_dirty place false = ap flag (ap (λ v. (v + 0) % 2) (mul_comm 2 (place_num
 
 pub counted_agree : (words : Words) (kind : Kind) (s : Shared) → WordsAgree words s → WordsAgree (counted words kind) s
 counted_agree words ReadHit s w = record { fail = w.fail; seals = w.seals }
-counted_agree words ReadMiss s w = record { fail = w.fail; seals = w.seals }
-counted_agree words WriteHit s w = record { fail = w.fail; seals = w.seals }
-counted_agree words WriteMiss s w = record { fail = w.fail; seals = w.seals }
+counted_agree words kind s w = record { fail = w.fail; seals = w.seals }
 
 -- words and world agree after a block is sealed
 pub sealed_agree : (words : Words) (s : Shared) (block : OBlock) (place : Option CBlock) (dirty : Bool) → block.0 < length words.seals → place_in (seal_word place dirty) ≡ place → WordsAgree words s →

@@ -18,7 +18,7 @@ use Rattle.wb_tasks.specs.declared.step.DeskStep.{DeskStep}
 use Rattle.wb_tasks.specs.declared.step.DeskStep.TheVariants.{Arrive, Ask, BeginCommit, EndCommit, BreakCommit}
 use Rattle.wb_tasks.specs.declared.step.Want.{Want}
 use Rattle.wb_tasks.specs.declared.step.Want.TheVariants.{Cell, Device, Desk}
-use Rattle.wb_tasks.specs.declared.step.Got.TheVariants.{Done, Word, Fault, Refused, Began, Ticket}
+use Rattle.wb_tasks.specs.declared.step.Got.TheVariants.{Done, Word, Fault, Refused, Began}
 use Rattle.wb_link.specs.Tables.{Flag, Short, Broken, Served, Ticket as TicketThere, Begin, Begin_clean, Flushing as FlushingFor, Suspending as SuspendingThere, Done as DoneThere, Fault as FaultThere, Job as JobThere, Want as AbstractWant, Sync_cache_device, Sync_origin_device, Answer as AnswerThere, Failed as AnsweredFailed, abstract_acquire}
 use Rattle.wb_link.specs.World.{Shared, Nothing, AbstractActor, Serves, Unserved, effect}
 use Rattle.wb_refines.specs.Translation.{wants_of, answer_for, job_for, script_for, with_ticket}

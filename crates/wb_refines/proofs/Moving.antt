@@ -1,6 +1,6 @@
 -- Each step of a task on an extent is followed.
 use Rattle.std.proofs.Common.{◌≡◌, ◌≤◌, ◌+◌, ◌*◌, ◌%◌, ◌∙◌, ℕ, Bool, true, false, List, ◌∷◌, Some, None, refl, sym, ap, subst, arith, length, map, Option}
-use Rattle.wb_tasks.specs.declared.step.DeskStep.TheVariants.{Map, Unmap, ReleaseOrder, Arrive, Ask, BeginCommit, EndCommit, BreakCommit}
+use Rattle.wb_tasks.specs.declared.step.DeskStep.TheVariants.{Unmap}
 use Rattle.wb_types.specs.declared.number.CBlock.{CBlock}
 use Rattle.wb_types.specs.declared.extent.Extent.{Extent}
 use Rattle.wb_types.specs.declared.mode.Dev.{Dev}
@@ -12,7 +12,7 @@ use Rattle.wb_tasks.specs.Tables.{BlockJob}
 use Rattle.wb_tasks.specs.declared.step.Answer.{Answer}
 use Rattle.wb_tasks.specs.declared.step.DeviceStep.{DeviceStep}
 use Rattle.wb_tasks.specs.declared.step.Want.{Want}
-use Rattle.wb_tasks.specs.declared.step.Want.TheVariants.{Device, Cell, Desk, End}
+use Rattle.wb_tasks.specs.declared.step.Want.TheVariants.{Device, Desk}
 use Rattle.wb_link.specs.World.{Shared, AbstractActor, newest_at, abstract_contents_for, put_where}
 use Rattle.wb_refines.specs.Translation.{script_for, location_at, offsets_in}
 use Rattle.wb_refines.specs.Models.{IsAt, plan_of, UnmapNothing, MayUnmap}
@@ -24,16 +24,7 @@ use Rattle.wb_refines.proofs.Extents.{alike_self, reads_newest, put_where_is, wh
 pub unmaps_later : (place : Option CBlock) (next : Want) (later : List Want) → MayUnmap place (next ∷ later) → MayUnmap place later
 unmaps_later (Some c) next later m = tt
 unmaps_later None (Desk (Unmap block)) later m = absurd m
-unmaps_later None (Desk (Map block place)) later m = m
-unmaps_later None (Desk (ReleaseOrder block)) later m = m
-unmaps_later None (Desk (Arrive most)) later m = m
-unmaps_later None (Desk (Ask most)) later m = m
-unmaps_later None (Desk (BeginCommit most)) later m = m
-unmaps_later None (Desk EndCommit) later m = m
-unmaps_later None (Desk BreakCommit) later m = m
-unmaps_later None (Cell step) later m = m
-unmaps_later None (Device step) later m = m
-unmaps_later None (End answer) later m = m
+unmaps_later None next later m = m
 
 -- nor does what unmaps nothing at all
 pub unmaps_none : (place : Option CBlock) (steps : List Want) → UnmapNothing steps → MayUnmap place steps

@@ -27,7 +27,7 @@ use Rattle.wb_refines.specs.Migrations.{job_under, order_on, Fills, IsWhere}
 use Rattle.wb_refines.specs.Carried.{migration_role, MigrationCellsFollowed}
 use Rattle.wb_refines.proofs.Cells.{refused_undone}
 use Rattle.wb_refines.proofs.Followed.{cell_steps_followed}
-use Rattle.wb_refines.proofs.Modes.{acquires_in, breaks_in, among_in, busy_in, any_in, undeferred_in, read_acquires, read_breaks, read_among, read_busy, read_any}
+use Rattle.wb_refines.proofs.Modes.{undeferred_in, read_is, write_is}
 use Rattle.wb_refines.proofs.Tables.{read_work, write_work, displacing_work, invalidating_work}
 use Rattle.wb_refines.proofs.Migrating.{works}
 
@@ -85,9 +85,9 @@ module _ (size : ℕ) (content : Content) (place : Option CBlock) (job : BlockJo
   }
 
 pub requests_play : (size : ℕ) (content : Content) (place : Option CBlock) (job : BlockJob) → IsRequest job → 0 < size → size ≡ (range_of job).block_sectors → Plays (request_role size content place job) job
-requests_play size content place (Reading part) r some e = let b = part.block.0 in let os = offsets size part.extents in request_plays size content place (Reading part) e (read_acquires b os part.mode) (read_breaks b os part.mode) (read_among b os part.mode) (read_busy b os part.mode) (read_any b os part.mode)
+requests_play size content place (Reading part) r some e = let b = part.block.0 in let os = offsets size part.extents in let same = read_is b os part.mode in request_plays size content place (Reading part) e same.acquires same.breaks same.among same.busy same.any
     (λ word answer. refl) (read_work part (subst (λ v. 0 < v) e some) content)
-requests_play size content place (Writing part) r some e = let b = part.block.0 in let os = offsets size part.extents in request_plays size content place (Writing part) e (acquires_in b os content part.mode) (breaks_in b os content part.mode) (among_in b os content part.mode) (busy_in b os content part.mode) (any_in b os content part.mode)
+requests_play size content place (Writing part) r some e = let b = part.block.0 in let os = offsets size part.extents in let same = write_is b os content part.mode in request_plays size content place (Writing part) e same.acquires same.breaks same.among same.busy same.any
     (λ word answer. undeferred_in part.mode r (place_in word) answer) (write_work part (subst (λ v. 0 < v) e some) r content)
 requests_play size content place (Displacing part) r some e = request_plays size content place (Displacing part) e refl refl refl refl (λ d e. refl) (λ word answer. refl) (displacing_work part (subst (λ v. 0 < v) e some) content)
 requests_play size content place (Invalidating part) r some e = request_plays size content place (Invalidating part) e refl refl refl refl (λ d e. refl) (λ word answer. refl) (invalidating_work part (subst (λ v. 0 < v) e some) content)
@@ -103,8 +103,7 @@ same_there Clean order os c seen seal where_is a = ap (work_there (job_under ord
 parts : (part : BlockRange) (c : CBlock) (next : Option ℕ) (os : List (List ℕ)) (migration : Migration) → (abstract_acquire (job_under (order_on part c next) os migration) ≡ claim (access_of (Migrating migration part)) part.block ∷ Look_seal part.block.0 ∷ [])
     × (breaking (job_under (order_on part c next) os migration) ≡ Set_failed ∷ []) × (job_alone (job_under (order_on part c next) os migration) ≡ false)
 parts part c next os (Promote k) = (refl, refl, refl)
-parts part c next os Demote = (refl, refl, refl)
-parts part c next os Clean = (refl, refl, refl)
+parts part c next os migration = (refl, refl, refl)
 
 pub migrations_play : (part : BlockRange) (c : CBlock) (next : Option ℕ) (migration : Migration) (kept : Option Order) → 0 < part.block_sectors → Fills migration c → Plays (migration_role part c next migration kept) (Migrating migration part)
 migrations_play part c next migration kept some fills = let its = parts part c next (offsets part.block_sectors part.extents) migration in record {

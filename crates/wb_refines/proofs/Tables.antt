@@ -24,14 +24,10 @@ tables_agree size most content place part blocks = (reads part.mode, writes_in p
   where
     -- whatever its mode
     reads : (mode : Mode) → script_for size content place (table (OnBlock (Reading (record part { mode = mode })))) ≡ table_there (job_for size content (OnBlock (Reading (record part { mode = mode }))))
-    reads Writeback = refl
-    reads Writethrough = refl
-    reads Passthrough = refl
+    reads mode = refl
 
     writes_in : (mode : Mode) → script_for size content place (table (OnBlock (Writing (record part { mode = mode })))) ≡ table_there (job_for size content (OnBlock (Writing (record part { mode = mode }))))
-    writes_in Writeback = refl
-    writes_in Writethrough = refl
-    writes_in Passthrough = refl
+    writes_in mode = refl
 
     -- whether it has a seal to look at or none
     suspends : (blocks : List OBlock) → script_for size content None (table (Suspending blocks most)) ≡ table_there (job_for size content (Suspending blocks most))
