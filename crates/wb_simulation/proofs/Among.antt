@@ -7,7 +7,7 @@ use Rattle.wb_contents.specs.Devices.{by_block}
 use Rattle.wb_words.specs.declared.word.Word.TheVariants.{Number}
 use Rattle.wb_words.specs.SharedWords.{Words, word_at, flag, fail_word, with_cell, taken}
 use Rattle.wb_words.specs.Effects.{words_after}
-use Rattle.wb_words.specs.declared.word.Kind.TheVariants.{ReadHit, ReadMiss, WriteHit, WriteMiss}
+use Rattle.wb_words.specs.declared.word.Kind.TheVariants.{ReadHit}
 use Rattle.wb_words.specs.declared.step.CellStep.{CellStep}
 use Rattle.wb_words.specs.declared.step.CellStep.TheVariants.{Look, Take, Count, SetFailed, SetSuspended}
 use Rattle.wb_policy.specs.declared.order.Order.{Order}
@@ -39,9 +39,6 @@ failed_stays words (Take access b seen) f z e t = by_test (word_at words.cells b
     by_test true = t
     by_test false = t
 failed_stays words (Count ReadHit) f z e t = t
-failed_stays words (Count ReadMiss) f z e t = t
-failed_stays words (Count WriteHit) f z e t = t
-failed_stays words (Count WriteMiss) f z e t = t
 failed_stays words SetFailed f z e t = flag_set false words.fail f z e
 failed_stays words SetSuspended f z e t = flag_set true words.fail f z e
 failed_stays words step f z e t = t
@@ -53,9 +50,13 @@ card_there [] a x e = absurd (cc)
 card_there (z ∷ xs) zero x e = let same : z ≡ x = cc in ap (λ (v : Actor). Some v.card) same
 card_there (z ∷ xs) (suc a) x e = card_there xs a x e
 
+-- an abstract actor in its place stands for it
+abbrev pub StandsThere : Situation → World → ℕ → Actor → Type 0
+StandsThere now s a x = (y : AbstractActor) × (slice_get s.actors a ≡ Some y) × StandsFor now.size now.most now.words x y
+
 module _ (now : Situation) (s : World) (g : Agrees now s) where
   -- each of the run's actors is there, and nobody else
-  pub own_there : (a : ℕ) (x : Actor) → slice_get now.actors a ≡ Some x → (y : AbstractActor) × (slice_get s.actors a ≡ Some y) × StandsFor now.size now.most now.words x y
+  pub own_there : (a : ℕ) (x : Actor) → slice_get now.actors a ≡ Some x → StandsThere now s a x
   own_there a x e = let y = there_is s.actors a (let l = slice_get_within now.actors a x e in let many = g.many in omega (arith, l, many)) in (y.0, y.1, g.each a x y.0 e y.1)
 
   pub whose : (b : ℕ) (y : AbstractActor) → slice_get s.actors b ≡ Some y → (x : Actor) × (slice_get now.actors b ≡ Some x)

@@ -11,7 +11,7 @@ use Rattle.wb_tasks.specs.Tables.{BlockRange, Migrating, OnBlock}
 use Rattle.wb_tasks.specs.Plan.{Plan}
 use Rattle.wb_tasks.specs.declared.step.Answer.{Answer}
 use Rattle.wb_tasks.specs.declared.step.Migration.{Migration}
-use Rattle.wb_tasks.specs.declared.step.Migration.TheVariants.{Promote, Demote, Clean}
+use Rattle.wb_tasks.specs.declared.step.Migration.TheVariants.{Promote, Demote}
 use Rattle.wb_tasks.specs.declared.step.Want.{Want}
 use Rattle.wb_devices.specs.declared.devices.Devices.{Devices}
 use Rattle.wb_link.specs.Tables.{Script, Got, Order as AbstractOrder, Want as AbstractWant, End, abstract_after, abstract_want}
@@ -98,9 +98,8 @@ stands_there m c (Replace old new k) Demote b next own (inr is) e same some = ap
     by true f = is_at_true (m old.0) c f
     by false f = absurd (some (sym same ∙ ap (λ (p : AbstractOrder). p.next) (sym e) ∙ ap (λ (t : Bool). (replacement_there t old.0 new.0 c).next) f))
 stands_there m c (Replace old new k) (Promote d) b next own (inr is) e same some = absurd (some is.2)
-stands_there m c o Demote b next own (inr is) e same some = absurd is
 stands_there m c o (Promote d) b next own (inr is) e same some = absurd is
-stands_there m c o Clean b next own (inr is) e same some = absurd is
+stands_there m c o migration b next own (inr is) e same some = absurd is
 
 -- ---- who is carried
 

@@ -2,7 +2,7 @@
 use Rattle.wb_stage.specs.declared.share.Share.TheVariants.{Waiting}
 use Rattle.wb_types.specs.declared.refusal.Refusal.TheVariants.{Failed}
 use Rattle.wb_tasks.specs.declared.step.DeskStep.{DeskStep}
-use Rattle.std.proofs.Common.{Contains, ◌++◌, ◌≡◌, ◌∙◌, ◌⊎◌, inl, inr, ℕ, Bool, true, false, List, [], ◌∷◌, Some, None, refl, sym, ap, subst, slice_get, slice_set, Option, ◌+◌}
+use Rattle.std.proofs.Common.{Contains, ◌++◌, ◌≡◌, ◌∙◌, ◌⊎◌, inl, inr, ℕ, Bool, true, false, List, [], ◌∷◌, None, refl, sym, ap, subst, slice_set, Option, ◌+◌}
 use Rattle.wb_types.specs.declared.mode.Dev.TheVariants.{Metadata}
 use Rattle.wb_disk.specs.Device.{synced}
 use Rattle.wb_disk.specs.Failing.{synced_where}
@@ -23,7 +23,7 @@ use Rattle.wb_link.specs.World.{World, Nothing, AbstractActor}
 use Rattle.wb_refines.specs.Commits.{IsCommitting, IsToBegin, IsWrittenAfter, committing, commit_task, commit_there, IsToLead}
 use Rattle.wb_promise.specs.declared.job.Job.TheVariants.{Flush, Suspend}
 use Rattle.wb_promise.specs.States.{Actor, with_device}
-use Rattle.wb_simulation.specs.Actors.{IsLate, IsCommitAt, IsLeading, IsOfCommit, IsEnding, LeadsAt, StandsFor, ticket_in}
+use Rattle.wb_simulation.specs.Actors.{IsLate, IsCommitAt, IsLeading, IsOfCommit, IsEnding, LeadsAt, ticket_in}
 use Rattle.wb_link.specs.Tables.{Job as AbstractJob}
 use Rattle.wb_refines.specs.Translation.{job_for}
 use Rattle.wb_refines.proofs.Committing.{job_is}
@@ -32,7 +32,7 @@ use Rattle.wb_simulation.specs.Worlds.{Situation, Begins, Puts, Ends, GivesUp, W
 use Rattle.wb_simulation.specs.Laws.{WantsNext, CommitStepsFollowed, flush_or_suspend, after_step, turn_of, stepped_actor, AsksToLead}
 use Rattle.wb_types.specs.declared.number.OBlock.{OBlock}
 use Rattle.wb_simulation.specs.Carried.{held}
-use Rattle.wb_simulation.proofs.Among.{own_there}
+use Rattle.wb_simulation.proofs.Among.{StandsThere, own_there}
 use Rattle.wb_simulation.proofs.Followed.{doing_of, begins_by, first, answers_by, IsWithin}
 use Rattle.wb_simulation.proofs.Ending.{IsNothingLeft, late_over, answers}
 use Rattle.wb_simulation.proofs.Telling.{answers_at, late_answers_so}
@@ -40,7 +40,7 @@ use Rattle.wb_simulation.proofs.Leading.{by_commit, doing_as}
 use Rattle.wb_simulation.proofs.Committing.{leading, syncs, sync_falls, metadata_done, metadata_failed, is_on_metadata, is_refused, begins, leads, is_not_led, is_broken, is_served, gets_ticket, ends, releases, gives_up, fails, breaks, sees, suspends, looks, late_looks}
 
 module _ (clean : Bool) (now : Situation) (a : ℕ) (x : Actor) (plan : Plan) (s : World) (next : Want) (wants : WantsNext now a x s (flush_or_suspend clean) plan next) where
-  its : (y : AbstractActor) × (slice_get s.actors a ≡ Some y) × StandsFor now.size now.most now.words x y
+  its : StandsThere now s a x
   its = own_there now s wants.agrees a x wants.here
 
   abbrev y : AbstractActor

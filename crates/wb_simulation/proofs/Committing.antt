@@ -22,15 +22,15 @@ use Rattle.wb_tasks.specs.declared.step.Answer.{Answer}
 use Rattle.wb_tasks.specs.declared.step.Answer.TheVariants.{Refused as Refuses}
 use Rattle.wb_tasks.specs.declared.step.DeviceStep.{DeviceStep}
 use Rattle.wb_tasks.specs.declared.step.DeviceStep.TheVariants.{Sync, WriteNode, WriteRoot}
-use Rattle.wb_tasks.specs.declared.step.DeskStep.TheVariants.{Map, Unmap, BeginCommit, EndCommit, ReleaseOrder, Arrive, Ask, BreakCommit}
+use Rattle.wb_tasks.specs.declared.step.DeskStep.TheVariants.{BeginCommit, EndCommit, ReleaseOrder, Arrive, Ask, BreakCommit}
 use Rattle.wb_tasks.specs.declared.step.Want.{Want}
-use Rattle.wb_tasks.specs.declared.step.Want.TheVariants.{Cell, Device, Desk, End}
+use Rattle.wb_tasks.specs.declared.step.Want.TheVariants.{Cell, Device, Desk}
 use Rattle.wb_tasks.specs.declared.step.Got.TheVariants.{Done, Fault, Word, Began, Refused, Ticket, Served}
 use Rattle.wb_devices.specs.declared.devices.Devices.{Devices}
 use Rattle.wb_devices.specs.Moving.{device_in}
 use Rattle.wb_tasks.specs.Ready.{HoldsBlocks}
 use Rattle.wb_link.specs.Tables.{End_running, Done as DoneThere, Begin, Begin_clean, Flushing as FlushingFor, Suspending as SuspendingThere}
-use Rattle.wb_link.specs.World.{World, Shared, AbstractActor, effect, is_alone, Serves, Unserved}
+use Rattle.wb_link.specs.World.{World, Shared, AbstractActor, effect, is_alone, IsServed, IsUnserved, Serves, Unserved}
 use Rattle.wb_refines.specs.Going.{gone, AreQuiet, shared_after}
 use Rattle.wb_refines.specs.Translation.{wants_of, job_for}
 use Rattle.wb_refines.specs.Models.{WordsAgree, SealAgrees}
@@ -55,16 +55,7 @@ some_on : (clean : Bool) (steps : List Want) → IsOnMetadata clean steps → Is
 some_on clean [] m e = m
 some_on false (Desk BreakCommit ∷ later) m e = m
 some_on true (Desk BreakCommit ∷ later) m e = m
-some_on clean (Cell step ∷ later) m e = e
-some_on clean (Device step ∷ later) m e = e
-some_on clean (End answer ∷ later) m e = e
-some_on clean (Desk EndCommit ∷ later) m e = e
-some_on clean (Desk (Map block place) ∷ later) m e = e
-some_on clean (Desk (Unmap block) ∷ later) m e = e
-some_on clean (Desk (ReleaseOrder block) ∷ later) m e = e
-some_on clean (Desk (Arrive most) ∷ later) m e = e
-some_on clean (Desk (Ask most) ∷ later) m e = e
-some_on clean (Desk (BeginCommit most) ∷ later) m e = e
+some_on clean steps m e = e
 
 -- the beginning of a commit changes nothing but the desk, its commits and the image that it is to write
 record IsBegun (clean : Bool) (s t : Shared) : Type 0 where
@@ -332,18 +323,10 @@ module _ (now : Situation) (blocks : List OBlock) (a : ℕ) (x : Actor) (s : Wor
 
   -- it is left out, or taken in, there as here
   left_out : IsLeftOut now.commits ticket → Unserved s.shared ticket
-  left_out l = by_ticket ticket l
-    where
-      by_ticket : (ticket : Option ℕ) → IsLeftOut now.commits ticket → Unserved s.shared ticket
-      by_ticket None l = tt
-      by_ticket (Some k) l = let e = g.commits.ended in omega (arith, l, e)
+  left_out = subst (λ (ended : ℕ). IsUnserved ended ticket) (sym g.commits.ended)
 
   taken_in : TakesIn now.commits ticket → Serves s.shared ticket
-  taken_in l = by_ticket ticket l
-    where
-      by_ticket : (ticket : Option ℕ) → TakesIn now.commits ticket → Serves s.shared ticket
-      by_ticket None l = l
-      by_ticket (Some k) l = let e = g.commits.ended in omega (arith, l, e)
+  taken_in = subst (λ (ended : ℕ). IsServed ended ticket) (sym g.commits.ended)
 
   pub leads : (nodes : ℕ) → now.commits.committing ≡ false → now.commits.broken ≡ false → IsLeftOut now.commits ticket →
       WorldFollowsBy (Begins false) Quietly a s (record now { commits = one_begun now.commits }) (record x { task = Some (Flush, after p (Began nodes)); share = share' })

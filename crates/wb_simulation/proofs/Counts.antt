@@ -56,11 +56,9 @@ max_turns a b c = omega arith
 
 -- which of two entries is raised first is of no account
 raised_turns : (finished : List ℕ) (i x j y : ℕ) → raised (raised finished (record { sector = i; position = x })) (record { sector = j; position = y }) ≡ raised (raised finished (record { sector = j; position = y })) (record { sector = i; position = x })
-raised_turns [] i x j y = refl
 raised_turns (v ∷ vs) zero x zero y = ap (λ k. k ∷ vs) (max_turns v x y)
-raised_turns (v ∷ vs) zero x (suc j) y = refl
-raised_turns (v ∷ vs) (suc i) x zero y = refl
 raised_turns (v ∷ vs) (suc i) x (suc j) y = ap (λ k. v ∷ k) (raised_turns vs i x j y)
+raised_turns finished i x j y = refl
 
 raised_before : (finished : List ℕ) (p : Position) (entries : List Position) → all_raised (raised finished p) entries ≡ raised (all_raised finished entries) p
 raised_before finished p [] = refl

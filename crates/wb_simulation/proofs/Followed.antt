@@ -3,7 +3,7 @@ use Rattle.std.proofs.Common.{false, true, Bool, ◌≡◌, ◌≢◌, ◌∙◌
 use Rattle.wb_refines.proofs.Moving.{unmaps_later, unmaps_none}
 use Rattle.wb_words.specs.declared.word.Access.TheVariants.{Shared}
 use Rattle.wb_types.specs.declared.refusal.Refusal.TheVariants.{Worn}
-use Rattle.wb_types.specs.declared.mode.Mode.TheVariants.{Writeback, Writethrough, Passthrough}
+use Rattle.wb_types.specs.declared.mode.Mode.TheVariants.{Writeback}
 use Rattle.wb_types.specs.declared.mode.Mode.{Mode}
 use Rattle.wb_types.specs.declared.extent.Extent.{Extent}
 use Rattle.wb_simulation.proofs.Written.{is_request, range_written}
@@ -117,14 +117,12 @@ work_unmaps (Reading part) request None dirty = by part.mode
   where
     by : (mode : Mode) → UnmapNothing (map (read_step part (place_read mode None)) part.extents ++ read_count (place_read mode None) ∷ Cell (Release Shared part.block) ∷ [])
     by Writeback = reads_nothing part None part.extents _ tt
-    by Writethrough = reads_nothing part None part.extents _ tt
-    by Passthrough = reads_nothing part None part.extents _ tt
+    by mode = reads_nothing part None part.extents _ tt
 work_unmaps (Writing part) request None dirty = by part.mode
   where
     by : (mode : Mode) → UnmapNothing (writing mode part None dirty)
     by Writeback = writes_nothing part (None ∷ []) part.extents _ tt
-    by Writethrough = writes_nothing part (None ∷ []) part.extents _ tt
-    by Passthrough = writes_nothing part (None ∷ []) part.extents _ tt
+    by mode = writes_nothing part (None ∷ []) part.extents _ tt
 work_unmaps (Displacing part) request None dirty = writes_nothing part (None ∷ []) part.extents _ tt
 work_unmaps (Invalidating part) request None dirty = tt
 work_unmaps (Migrating migration part) request None dirty = absurd request

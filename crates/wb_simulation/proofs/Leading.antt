@@ -9,12 +9,12 @@ use Rattle.wb_words.specs.declared.card.Card.{Card}
 use Rattle.wb_tasks.specs.Plan.{Plan, want, table, node_writes, root_steps, begun_steps, after_fault_of, first_step}
 use Rattle.wb_tasks.specs.declared.step.Answer.{Answer}
 use Rattle.wb_tasks.specs.declared.step.DeviceStep.TheVariants.{Sync, WriteNode, WriteRoot}
-use Rattle.wb_tasks.specs.declared.step.DeskStep.TheVariants.{EndCommit, Map, Unmap, ReleaseOrder, Arrive, Ask, BeginCommit, BreakCommit}
+use Rattle.wb_tasks.specs.declared.step.DeskStep.TheVariants.{EndCommit, Ask}
 use Rattle.wb_tasks.specs.declared.step.Want.{Want}
 use Rattle.wb_words.specs.declared.word.Word.TheVariants.{Fail}
 use Rattle.wb_words.specs.declared.step.CellStep.TheVariants.{Look, SetSuspended}
 use Rattle.wb_tasks.specs.declared.step.DeviceStep.{DeviceStep}
-use Rattle.wb_tasks.specs.declared.step.Want.TheVariants.{Cell, Device, Desk, End}
+use Rattle.wb_tasks.specs.declared.step.Want.TheVariants.{Cell, Device, Desk}
 use Rattle.wb_devices.specs.declared.devices.Devices.{Devices}
 use Rattle.wb_link.specs.Tables.{Job as AbstractJob, Script}
 use Rattle.wb_link.specs.World.{World, Shared, AbstractActor, is_alone, job_alone}
@@ -119,18 +119,8 @@ pub no_ticket : (plan : Plan) (share : Share) → LeadsAt true plan.steps → ti
 no_ticket plan share l = by_steps plan.steps l
   where
     by_steps : (steps : List Want) → LeadsAt true steps → ticket_in (first_step steps plan.answer) share ≡ None
-    by_steps [] l = refl
-    by_steps (Cell step ∷ later) l = refl
-    by_steps (Device step ∷ later) l = refl
-    by_steps (End answer ∷ later) l = refl
     by_steps (Desk (Ask most) ∷ later) l = absurd (cc)
-    by_steps (Desk (Arrive most) ∷ later) l = refl
-    by_steps (Desk (BeginCommit most) ∷ later) l = refl
-    by_steps (Desk EndCommit ∷ later) l = refl
-    by_steps (Desk BreakCommit ∷ later) l = refl
-    by_steps (Desk (Map block place) ∷ later) l = refl
-    by_steps (Desk (Unmap block) ∷ later) l = refl
-    by_steps (Desk (ReleaseOrder block) ∷ later) l = refl
+    by_steps steps l = refl
 
 module _ (now : Situation) (clean : Bool) (blocks : List OBlock) (a : ℕ) (x : Actor) (s : World) (y : AbstractActor) (ex : slice_get now.actors a ≡ Some x) (ey : slice_get s.actors a ≡ Some y) (g : Agrees now s) where
   -- who stands there now

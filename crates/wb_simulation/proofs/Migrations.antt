@@ -1,5 +1,5 @@
 -- A migration is followed, whatever it comes to.
-use Rattle.std.proofs.Common.{◌++◌, ◌≡◌, ◌≤◌, ◌+◌, ◌∙◌, inl, inr, ℕ, Bool, List, [], ◌∷◌, Option, Some, None, refl, sym, ap, subst, length, slice_get, ◌⊎◌}
+use Rattle.std.proofs.Common.{◌++◌, ◌≡◌, ◌≤◌, ◌+◌, ◌∙◌, inl, inr, ℕ, Bool, List, [], ◌∷◌, Option, Some, None, refl, sym, ap, subst, length, ◌⊎◌}
 use Rattle.wb_types.specs.declared.extent.Extent.{Extent}
 use Rattle.wb_types.specs.declared.mode.Dev.{Dev}
 use Rattle.wb_types.specs.declared.number.OBlock.{OBlock}
@@ -35,15 +35,15 @@ use Rattle.wb_simulation.proofs.Ending.{IsOver, IsNothingLeft, stopped_over, lat
 use Rattle.wb_simulation.proofs.Migrating.{cells}
 use Rattle.wb_simulation.proofs.Copying.{reads, writes, write_falls, read_falls}
 use Rattle.wb_simulation.proofs.Ordering.{starts, again}
-use Rattle.wb_simulation.specs.Actors.{IsLate, StandsFor}
+use Rattle.wb_simulation.specs.Actors.{IsLate}
 use Rattle.wb_simulation.specs.Carried.{IsOrderFor, IsCarried, HasEnded, IsAtMigration}
 use Rattle.wb_simulation.specs.Telling.{Rests, Rested}
-use Rattle.wb_simulation.proofs.Among.{own_there}
+use Rattle.wb_simulation.proofs.Among.{StandsThere, own_there}
 use Rattle.wb_simulation.proofs.Carrying.{carried_leads, under_migrates}
 use Rattle.wb_simulation.proofs.Deciding.{map_refused, mapped, unmapped, turned_over, given_up}
 
 module _ (now : Situation) (blocks : ℕ) (a : ℕ) (x : Actor) (migration : Migration) (block : OBlock) (plan : Plan) (s : World) (next : Want) (wants : WantsNext now a x s (Migrate migration block) plan next) (suits : Suits blocks plan x.card) where
-  its : (y : AbstractActor) × (slice_get s.actors a ≡ Some y) × StandsFor now.size now.most now.words x y
+  its : StandsThere now s a x
   its = own_there now s wants.agrees a x wants.here
 
   abbrev y : AbstractActor

@@ -30,7 +30,7 @@ use Rattle.wb_refines.specs.Translation.{location_at, wants_of, block_in, job_fo
 use Rattle.wb_refines.specs.Data.{IsInBlock, IsSide, left_with, SameBeside, DeviceMoves, read_fault, write_fault}
 use Rattle.wb_refines.specs.Models.{IsAt, HasStopped, plan_of, SealAgrees, WordsAgree}
 use Rattle.wb_refines.proofs.Locks.{has_no_more}
-use Rattle.wb_refines.proofs.Modes.{block_in_mode, breaks_in, contents_in, among_in, block_read, read_among, read_releases}
+use Rattle.wb_refines.proofs.Modes.{contents_in, read_releases, read_is, write_is}
 use Rattle.wb_refines.proofs.Followed.{rest_plain}
 use Rattle.wb_refines.proofs.Moving.{unmaps_none, goes_on_at, extents_followed}
 use Rattle.wb_promise.specs.declared.job.Job.{Job}
@@ -120,10 +120,10 @@ module _ (now : Situation) (blocks : ℕ) (a : ℕ) (x : Actor) (s : World) (y :
   reads = job_for now.size [] (OnBlock (Reading part))
 
   read_block : block_in reads ≡ part.block.0
-  read_block = block_read part.block.0 (offsets now.size part.extents) part.mode
+  read_block = (read_is part.block.0 (offsets now.size part.extents) part.mode).block
 
   among_reads : job_alone reads ≡ false
-  among_reads = read_among part.block.0 (offsets now.size part.extents) part.mode
+  among_reads = (read_is part.block.0 (offsets now.size part.extents) part.mode).among
 
   read_done : (extent : Extent) (contents : List Content) → AreOfBlock now.size part.block.0 (Device (ReadExtent device e) ∷ ws) → Suits blocks reading x.card → length contents ≡ e.count → GivesEach list e.first contents → IsAt now.size [] reading x.card y → Then (Reads part.block.0 (e.first % now.size) contents) now.devices (Read extent) reading Done
   read_done extent contents o suits n given is =
@@ -160,7 +160,7 @@ module _ (now : Situation) (blocks : ℕ) (a : ℕ) (x : Actor) (s : World) (y :
   is_written content = job_written now.size content part
 
   own_block : (content : Content) → block_in (writes content) ≡ part.block.0
-  own_block content = ap block_in (is_written content) ∙ block_in_mode part.block.0 (offsets now.size part.extents) content part.mode
+  own_block content = ap block_in (is_written content) ∙ (write_is part.block.0 (offsets now.size part.extents) content part.mode).block
 
   -- what it is told as, whatever comes of it: in write-through what goes to the cache is noted no more
   abbrev telling : Content → Telling
@@ -199,10 +199,10 @@ module _ (now : Situation) (blocks : ℕ) (a : ℕ) (x : Actor) (s : World) (y :
   in_own_block content i = subst (λ (b : ℕ). IsInBlock now.size b device e) (sym (own_block content)) i
 
   among : (content : Content) → job_alone (writes content) ≡ false
-  among content = ap job_alone (is_written content) ∙ among_in part.block.0 (offsets now.size part.extents) content part.mode
+  among content = ap job_alone (is_written content) ∙ (write_is part.block.0 (offsets now.size part.extents) content part.mode).among
 
   breaks : (content : Content) → breaking (writes content) ≡ Set_failed ∷ []
-  breaks content = ap breaking (is_written content) ∙ breaks_in part.block.0 (offsets now.size part.extents) content part.mode
+  breaks content = ap breaking (is_written content) ∙ (write_is part.block.0 (offsets now.size part.extents) content part.mode).breaks
 
   write_done : (extent : Extent) (content : Content) → AreOfBlock now.size part.block.0 (Device (WriteExtent device e) ∷ ws) → Suits blocks writing x.card → e.first + e.count ≤ length list → IsAt now.size content writing x.card y →
       Then (telling content) (with_device device now.devices (written_each list e.first (replicate e.count content))) (Write extent content) writing Done

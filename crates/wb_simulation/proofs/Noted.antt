@@ -4,7 +4,7 @@ use Rattle.std.proofs.lemmas.List.{length-map, length-set}
 use Rattle.std.proofs.lemmas.Bool.{cases_eq}
 use Rattle.wb_types.specs.Extents.{rising}
 use Rattle.wb_types.specs.declared.mode.Mode.{Mode}
-use Rattle.wb_types.specs.declared.mode.Mode.TheVariants.{Writeback, Writethrough, Passthrough}
+use Rattle.wb_types.specs.declared.mode.Mode.TheVariants.{Writeback}
 use Rattle.wb_types.specs.declared.refusal.Refusal.{Refusal}
 use Rattle.wb_tasks.specs.declared.step.Answer.TheVariants.{Done as Finished, Refused as Refuses}
 use Rattle.wb_disk.specs.Device.{Content, History, only}
@@ -99,12 +99,10 @@ refused_note m a job answer undone = λ i. record {
   where
     histories_end : (h : ℕ → ℕ → History) (job : AbstractJob) (answer : AbstractAnswer) → histories_after h job (End answer) ≡ h
     histories_end h (Writing past b os c) answer = refl
-    histories_end h (Writing_through b os c) answer = refl
     histories_end h job answer = refl
 
     entered_end : (h : ℕ → ℕ → History) (job : AbstractJob) (answer : AbstractAnswer) (es : List Entry) → entered_after h job (End answer) es ≡ es
     entered_end h (Writing past b os c) answer es = refl
-    entered_end h (Writing_through b os c) answer es = refl
     entered_end h job answer es = refl
 
     finished_end : (job : AbstractJob) (answer : AbstractAnswer) (es : List Entry) (f : ℕ → ℕ → ℕ) → answer ≢ AnsweredDone → finished_after job (End answer) es f ≡ f
@@ -239,8 +237,7 @@ module _ (size a : ℕ) (s : World) (y : AbstractActor) (n : Notes) (m : Abstrac
       ends_here : (mode : Mode) → (histories_after m.histories (writing_in mode block os content) (End AnsweredDone) ≡ m.histories) × (finished_after (writing_in mode block os content) (End AnsweredDone) (m.entered a) m.finished ≡ raised_there (m.entered a) m.finished)
           × ((λ b o. abstract_floors_after (writing_in mode block os content) (End AnsweredDone) (m.asked a) m.floors b o) ≡ m.floors)
       ends_here Writeback = (refl, refl, refl)
-      ends_here Writethrough = (refl, refl, refl)
-      ends_here Passthrough = (refl, refl, refl)
+      ends_here mode = (refl, refl, refl)
 
   commit_answers : (clean : Bool) (script : Script) (doing : Doing) → y.task ≡ Some script → script.steps ≡ [] → script.answer ≡ AnsweredDone → script.job ≡ commit_there clean → slice_get n.doings a ≡ Some (Some doing) → length doing.then_finished ≡ length n.floors →
       After (Done ∷ []) (put (record n { floors = greater_of n.floors doing.then_finished }) a None)

@@ -34,19 +34,13 @@ sealed clean c [] seals = seals
 sealed clean c (None ∷ entries) seals = sealed clean (suc c) entries seals
 sealed clean c (Some entry ∷ entries) seals = sealed clean (suc c) entries (slice_set seals entry.origin.0 (seal_word (Some (record { 0 = c })) (cond clean entry.dirty true)))
 
-taking_seals : (words : Words) (block : OBlock) → (words_after words (Take Owned block 0)).seals ≡ words.seals
-taking_seals words block = by (word_at words.cells block == 0)
+-- a block that is taken changes neither seals nor failed bit
+taking_keeps : (words : Words) (block : OBlock) → ((words_after words (Take Owned block 0)).seals ≡ words.seals) × ((words_after words (Take Owned block 0)).fail ≡ words.fail)
+taking_keeps words block = by (word_at words.cells block == 0)
   where
-    by : (t : Bool) → (if t then with_cell words block (taken Owned 0) else words).seals ≡ words.seals
-    by true = refl
-    by false = refl
-
-taking_fail : (words : Words) (block : OBlock) → (words_after words (Take Owned block 0)).fail ≡ words.fail
-taking_fail words block = by (word_at words.cells block == 0)
-  where
-    by : (t : Bool) → (if t then with_cell words block (taken Owned 0) else words).fail ≡ words.fail
-    by true = refl
-    by false = refl
+    by : (t : Bool) → ((if t then with_cell words block (taken Owned 0) else words).seals ≡ words.seals) × ((if t then with_cell words block (taken Owned 0) else words).fail ≡ words.fail)
+    by true = (refl, refl)
+    by false = (refl, refl)
 
 -- the words after one entry's three steps
 abbrev sealed_one : Words → OBlock → ℕ → Bool → Words
@@ -57,12 +51,12 @@ seals_are clean [] c words = refl
 seals_are clean (None ∷ entries) c words = seals_are clean entries (suc c) words
 seals_are clean (Some entry ∷ entries) c words =
     seals_are clean entries (suc c) (sealed_one words entry.origin c (cond clean entry.dirty true))
-    ∙ ap (λ (seals : List ℕ). sealed clean (suc c) entries (slice_set seals entry.origin.0 (seal_word (Some (record { 0 = c })) (cond clean entry.dirty true)))) (taking_seals words entry.origin)
+    ∙ ap (λ (seals : List ℕ). sealed clean (suc c) entries (slice_set seals entry.origin.0 (seal_word (Some (record { 0 = c })) (cond clean entry.dirty true)))) (taking_keeps words entry.origin).0
 
 fail_is : (clean : Bool) (entries : List (Option Entry)) (c : ℕ) (words : Words) → (words_by words (sealing_steps clean c entries)).fail ≡ words.fail
 fail_is clean [] c words = refl
 fail_is clean (None ∷ entries) c words = fail_is clean entries (suc c) words
-fail_is clean (Some entry ∷ entries) c words = fail_is clean entries (suc c) (sealed_one words entry.origin c (cond clean entry.dirty true)) ∙ taking_fail words entry.origin
+fail_is clean (Some entry ∷ entries) c words = fail_is clean entries (suc c) (sealed_one words entry.origin c (cond clean entry.dirty true)) ∙ (taking_keeps words entry.origin).1
 
 -- ---- of one block
 
@@ -70,11 +64,9 @@ set_beside : (seals : List ℕ) (i : ℕ) (v : ℕ) (block : OBlock) → block.0
 set_beside seals i v block n = by seals i block.0 n
   where
     by : (xs : List ℕ) (i k : ℕ) → k ≢ i → unwrap_or (slice_get (slice_set xs i v) k) 0 ≡ unwrap_or (slice_get xs k) 0
-    by [] i k n = refl
     by (x ∷ xs) zero zero n = absurd (n refl)
-    by (x ∷ xs) zero (suc k) n = refl
-    by (x ∷ xs) (suc i) zero n = refl
     by (x ∷ xs) (suc i) (suc k) n = by xs i k (λ e. n (ap suc e))
+    by xs i k n = refl
 
 set_here : (seals : List ℕ) (v : ℕ) (block : OBlock) → block.0 < length seals → word_at (slice_set seals block.0 v) block ≡ v
 set_here seals v block l = by seals block.0 l
@@ -108,9 +100,7 @@ AreOnce (Some entry ∷ entries) = ((c : ℕ) → cached_from entry.origin.0 c e
 -- what a seal's bit is, where an entry has this one
 bits : (clean dirty : Bool) → cond clean dirty true ≡ cond (cond clean (cond dirty false true) false) false true
 bits true true = refl
-bits true false = refl
-bits false true = refl
-bits false false = refl
+bits clean dirty = refl
 
 -- a block that one has is sealed there, clean where its entry is and all are not taken as dirty
 pub record SealedAt (word k : ℕ) (clean its : Bool) : Type 0 where

@@ -7,7 +7,7 @@ use Rattle.wb_contents.specs.Volume.{Locations, changed}
 use Rattle.wb_contents.proofs.Positions.{changed_same, changed_other}
 use Rattle.wb_words.specs.SharedWords.{Words, flag}
 use Rattle.wb_policy.specs.declared.order.Order.{Order}
-use Rattle.wb_policy.specs.declared.order.Order.TheVariants.{Promote, Replace, Demote, Clean}
+use Rattle.wb_policy.specs.declared.order.Order.TheVariants.{Replace}
 use Rattle.wb_tasks.specs.Tables.{BlockRange, Migrating}
 use Rattle.wb_tasks.specs.Plan.{Plan}
 use Rattle.wb_tasks.specs.declared.step.Answer.{Answer}
@@ -30,14 +30,12 @@ use Rattle.wb_simulation.specs.Worlds.{OrderIsThere, OrdersAgree}
 
 -- an order of the desk is on its cache block there too
 pub cache_there : (m : Locations) (c : ℕ) (o : Order) → (order_there m c o).cache ≡ c
-cache_there m c (Promote block k) = refl
 cache_there m c (Replace old new k) = by_test (is_at (m old.0) c)
   where
     by_test : (t : Bool) → (replacement_there t old.0 new.0 c).cache ≡ c
     by_test true = refl
     by_test false = refl
-cache_there m c (Demote block) = refl
-cache_there m c (Clean block) = refl
+cache_there m c o = refl
 
 -- the one that was set, or another one that was there
 pub who : {X : Type 0} (xs : List X) (a : ℕ) (x x' : X) → slice_get xs a ≡ Some x → (b : ℕ) (v : X) → slice_get (slice_set xs a x') b ≡ Some v → ((b ≡ a) × (x' ≡ v)) ⊎ ((b ≢ a) × (slice_get xs b ≡ Some v))

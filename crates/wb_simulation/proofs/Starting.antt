@@ -19,7 +19,7 @@ use Rattle.wb_refines.specs.Translation.{job_for, offsets, script_for}
 use Rattle.wb_refines.specs.Models.{WordsAgree, held_of}
 use Rattle.wb_refines.specs.Tasks.{IsResting, AllInBlocks}
 use Rattle.wb_refines.proofs.Holding.{holds_nothing}
-use Rattle.wb_refines.proofs.Modes.{starts_in, reserves_in, order_in, among_in, read_starts, read_reserves, read_order, read_among}
+use Rattle.wb_refines.proofs.Modes.{starts_in, read_starts, read_is, write_is}
 use Rattle.wb_refines.proofs.Tasks.{within_offsets, distinct_offsets}
 use Rattle.wb_promise.specs.declared.job.Job.{Job}
 use Rattle.wb_promise.specs.declared.job.Job.TheVariants.{Read, Write, Flush, Suspend, Invalidate}
@@ -34,7 +34,7 @@ use Rattle.wb_simulation.specs.Laws.{StartsFollowed, Begun}
 use Rattle.wb_simulation.proofs.Telling.{unnoted_none}
 use Rattle.wb_simulation.proofs.Cells.{Leading}
 use Rattle.wb_simulation.proofs.Orders.{MigratesNot, does_none, orders_begun}
-use Rattle.wb_simulation.proofs.Among.{stays_there, own_there, whose, nobody_alone, agrees_on, follows_by}
+use Rattle.wb_simulation.proofs.Among.{StandsThere, stays_there, own_there, whose, nobody_alone, agrees_on, follows_by}
 
 -- what the start of a job is to what is shared: at most a cache block is reserved
 pub record IsGiven (words : Words) (turn : Turn) (s t : Shared) : Type 0 where
@@ -62,7 +62,7 @@ pub rests : (size : ℕ) (most : Bool → ℕ) (words : Words) (x : Actor) (y : 
 rests size most words x y st e = let r = subst (λ t. IsBusyAt size most st.failed t x.card x.share y) e st.at in (r.0, elim r.1 [ inl i ↦ inl i | inr f ↦ inr (st.has_failed f) ])
 
 module _ (now : Situation) (a : ℕ) (x : Actor) (s : World) (ex : slice_get now.actors a ≡ Some x) (none : x.task ≡ None) (g : Agrees now s) where
-  its : (y : AbstractActor) × (slice_get s.actors a ≡ Some y) × StandsFor now.size now.most now.words x y
+  its : StandsThere now s a x
   its = own_there now s g a x ex
 
   abbrev y : AbstractActor
@@ -96,8 +96,8 @@ starts_followed = record {
       let os = offsets now.size part.extents in
       let tables = tables_agree now.size (now.most false) [] None part [] in
       starts now a x s ex none g (Read extent) plan x.seen (job_for now.size [] (OnBlock (Reading part))) tt among (read_starts b os part.mode now.size s (g.mode ∙ sym mode) (within_offsets now.size part.extents (all_inside now.size part is)))
-      (read_reserves b os part.mode s.shared) (read_order b os part.mode) (λ k. read_among b os part.mode) refl
-      (λ idle. record { part = part; job = refl; is_part = is; of_block = tt; at = inl (record { place = None; buffer = u.buffer; is = λ i. record { task = Some (sym tables.0 i); held = (idle.held ∙ ap held_of (sym hold)) i; order = read_order b os part.mode i; leads = idle.leads i; buffer = u.buffer }; saw = tt; unmaps = tt }) })
+      ((read_is b os part.mode).reserves s.shared) (read_is b os part.mode).order (λ k. (read_is b os part.mode).among) refl
+      (λ idle. record { part = part; job = refl; is_part = is; of_block = tt; at = inl (record { place = None; buffer = u.buffer; is = λ i. record { task = Some (sym tables.0 i); held = (idle.held ∙ ap held_of (sym hold)) i; order = (read_is b os part.mode).order i; leads = idle.leads i; buffer = u.buffer }; saw = tt; unmaps = tt }) })
       (λ l. record { part = part; job = refl; is_part = is; of_block = tt; at = inr (inr l) });
   write = λ now a x extent content part s ex none hold is mode among g.
       let plan = table (OnBlock (write_of part)) in
@@ -106,8 +106,8 @@ starts_followed = record {
       let os = offsets now.size part.extents in
       let j = job_written now.size content part in
       starts now a x s ex none g (Write extent content) plan x.seen (job_for now.size content (OnBlock (write_of part))) tt among (subst (MayStart now.size s) (sym j) (starts_in b os content part.mode now.size s (g.mode ∙ sym mode) (within_offsets now.size part.extents (all_inside now.size part is)) (distinct_offsets now.size part.extents)))
-      (ap (abstract_reserved s.shared) j ∙ reserves_in b os content part.mode s.shared) (ap abstract_order_of j ∙ order_in b os content part.mode) (λ k. ap job_alone j ∙ among_in b os content part.mode) refl
-      (λ idle. record { part = part; job = refl; is_part = is; of_block = tt; at = inl (record { place = None; buffer = u.buffer; is = λ i. record { task = Some (sym (write_agrees now.size (now.most false) content part) i); held = (idle.held ∙ ap held_of (sym hold)) i; order = (ap abstract_order_of j ∙ order_in b os content part.mode) i; leads = idle.leads i; buffer = u.buffer }; saw = tt; unmaps = tt }) })
+      (ap (abstract_reserved s.shared) j ∙ (write_is b os content part.mode).reserves s.shared) (ap abstract_order_of j ∙ (write_is b os content part.mode).order) (λ k. ap job_alone j ∙ (write_is b os content part.mode).among) refl
+      (λ idle. record { part = part; job = refl; is_part = is; of_block = tt; at = inl (record { place = None; buffer = u.buffer; is = λ i. record { task = Some (sym (write_agrees now.size (now.most false) content part) i); held = (idle.held ∙ ap held_of (sym hold)) i; order = (ap abstract_order_of j ∙ (write_is b os content part.mode).order) i; leads = idle.leads i; buffer = u.buffer }; saw = tt; unmaps = tt }) })
       (λ l. record { part = part; job = refl; is_part = is; of_block = tt; at = inr (inr l) });
   invalidate = λ now a x block part s ex none hold is mode among g.
       let plan = table (OnBlock (Invalidating part)) in

@@ -16,7 +16,7 @@ use Rattle.wb_words.specs.declared.step.CellResult.TheVariants.{Done as Won, Los
 use Rattle.wb_words.specs.declared.word.Word.TheVariants.{Cell as LockWord, Seal as SealWord, Number, Fail}
 use Rattle.wb_types.specs.declared.number.OBlock.{OBlock}
 use Rattle.wb_types.specs.declared.refusal.Refusal.TheVariants.{Failed, Worn, Busy}
-use Rattle.wb_tasks.specs.Tables.{TaskJob, BlockRange, Reading, Writing, Migrating, OnBlock, Flushing, Suspending, Opening, place_read, read_step, read_count, write_count, cache_extent, copies, ending, work, Displacing, Invalidating, writes}
+use Rattle.wb_tasks.specs.Tables.{TaskJob, BlockRange, Reading, Writing, Migrating, OnBlock, place_read, read_step, read_count, write_count, cache_extent, copies, ending, work, Displacing, Invalidating, writes}
 use Rattle.wb_tasks.specs.Plan.{work_of, after, got_of, onward, refused, may_take, exchange, is_worn, gives_back, steps_seeing}
 use Rattle.wb_tasks.specs.declared.step.Answer.{Answer}
 use Rattle.wb_tasks.specs.declared.step.Migration.TheVariants.{Promote, Demote, Clean}
@@ -121,9 +121,7 @@ after_cell P job words (Look (SealWord b)) ws answer none stays exchanges works 
   where
     by_job : (job : TaskJob) → P (Cell (Look (Number b)) ∷ work_of job (word_at words.seals b)) → P (steps_seeing job b (word_at words.seals b) ws)
     by_job (OnBlock job) w = w
-    by_job (Flushing serves most) w = stays
-    by_job (Suspending blocks most) w = stays
-    by_job (Opening left) w = stays
+    by_job job w = stays
 after_cell P job words (Look (Number b)) ws answer none stays exchanges works back = by_test (is_worn job (word_at words.numbers b))
   where
     by_test : (t : Bool) → P (if t then refused (record { job = job; steps = Cell (Look (Number b)) ∷ ws; answer = answer }) (gives_back job) Worn else onward (record { job = job; steps = Cell (Look (Number b)) ∷ ws; answer = answer })).steps

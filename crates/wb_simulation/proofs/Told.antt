@@ -104,8 +104,7 @@ is_past mode = false
 
 pub reads_past : (mode : Mode) (b : ℕ) (all : List (List ℕ)) → reading_in mode b all ≡ Reading (is_past mode) b all
 reads_past Writeback b all = refl
-reads_past Writethrough b all = refl
-reads_past Passthrough b all = refl
+reads_past mode b all = refl
 
 pub reads_newest : (mode : Mode) (location : Option ℕ) (b : ℕ) (all : List (List ℕ)) (contents : List Content) (there : ℕ → Content) (o : ℕ) (m : AbstractNotes) (a : ℕ) → m.jobs a ≡ Some (reading_in mode b all) → contents ≡ map there (rising o (length contents)) →
     AbstractGivesLatest m.histories (m.jobs a) (Read_all location b (rising o (length contents))) (Gave there) → AreNewest m.histories b o contents
@@ -166,10 +165,8 @@ pub record WritesHere (mode : Mode) (b : ℕ) (all : List (List ℕ)) (c : Conte
   pub floors : (os : List ℕ) (asked floors : ℕ → ℕ → ℕ) → (λ i o. abstract_floors_after (writing_in mode b all c) (Write_all to b os) asked floors i o) ≡ floors
 
 pub writes_here : (mode : Mode) (b : ℕ) (all : List (List ℕ)) (c : Content) (to : Option ℕ) → NotesAt mode to → WritesHere mode b all c to
-writes_here Writethrough b all c None n = record { histories = λ h os. refl; entered = λ h os es. refl; finished = λ os es f. refl; floors = λ os asked floors. refl }
 writes_here Writethrough b all c (Some k) n = absurd n
-writes_here Writeback b all c to n = record { histories = λ h os. refl; entered = λ h os es. refl; finished = λ os es f. refl; floors = λ os asked floors. refl }
-writes_here Passthrough b all c to n = record { histories = λ h os. refl; entered = λ h os es. refl; finished = λ os es f. refl; floors = λ os asked floors. refl }
+writes_here mode b all c to n = record { histories = λ h os. refl; entered = λ h os es. refl; finished = λ os es f. refl; floors = λ os asked floors. refl }
 
 -- the notes after a write's step that is noted, whatever came of it
 pub writes_told : (size : ℕ) (mode : Mode) (to : Option ℕ) (b : ℕ) (all : List (List ℕ)) (c : Content) (a count : ℕ) (got : Got) (o : ℕ) (m : AbstractNotes) (h : List History) (entered : List Position) → NotesAt mode to →

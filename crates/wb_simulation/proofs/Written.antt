@@ -14,8 +14,7 @@ range_written part = by part.mode
   where
     by : (mode : Mode) → range_of (write_job mode part) ≡ part
     by Writeback = refl
-    by Writethrough = refl
-    by Passthrough = refl
+    by mode = refl
 
 pub is_request : (part : BlockRange) → IsRequest (write_of part)
 is_request part = by part.mode refl

@@ -1,5 +1,5 @@
 -- When a state of a run, where a target stands, is a state of the abstract world; and when what happens there is a run of that world.
-use Rattle.std.specs.Prelude.{cond, ◌≡◌, ◌≢◌, ◌≤◌, ◌<◌, ◌⊎◌, ℕ, Bool, true, false, List, [], Option, Some, None, length, replicate, slice_get, slice_set, ◌+◌}
+use Rattle.std.specs.Prelude.{cond, ◌≡◌, ◌≢◌, ◌⊎◌, ℕ, Bool, true, false, List, [], Option, Some, None, length, replicate, slice_get, slice_set, ◌+◌}
 use Rattle.wb_types.specs.declared.mode.Mode.{Mode}
 use Rattle.wb_disk.specs.Device.{Content, History}
 use Rattle.wb_contents.specs.Devices.{by_block}
@@ -13,7 +13,7 @@ use Rattle.wb_tasks.specs.Plan.{Plan}
 use Rattle.wb_tasks.specs.declared.step.Migration.{Migration}
 use Rattle.wb_promise.specs.declared.job.Job.TheVariants.{Migrate}
 use Rattle.wb_simulation.specs.Carried.{held, live_there, IsOf, IsAtMigration}
-use Rattle.wb_link.specs.World.{World, Shared, Block, Mapped, Reserved, removed, block_begun, block_ended, block_given_back, Record, IsAbstractRun, abstract_after_all, AbstractActor}
+use Rattle.wb_link.specs.World.{IsServed, IsUnserved, World, Shared, Block, Mapped, Reserved, removed, block_begun, block_ended, block_given_back, Record, IsAbstractRun, abstract_after_all, AbstractActor}
 use Rattle.wb_refines.specs.Models.{WordsAgree}
 use Rattle.wb_promise.specs.States.{Actor}
 use Rattle.wb_simulation.specs.Actors.{StandsFor}
@@ -75,12 +75,10 @@ one_ended commits = record { committing = false; broken = commits.broken; ended 
 
 -- a commit of the ticket's number or a later one has ended, or none has
 abbrev pub TakesIn : Commits → Option ℕ → Type 0
-TakesIn commits None = ⊥
-TakesIn commits (Some number) = number ≤ commits.ended
+TakesIn commits = IsServed commits.ended
 
 abbrev pub IsLeftOut : Commits → Option ℕ → Type 0
-IsLeftOut commits None = Unit {0}
-IsLeftOut commits (Some number) = commits.ended < number
+IsLeftOut commits = IsUnserved commits.ended
 
 -- none begins, ends or is broken from the one to the other
 abbrev pub KeepsNumbers : (s t : Shared) → Type 0
