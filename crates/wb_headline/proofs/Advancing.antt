@@ -416,10 +416,9 @@ module _ (P A : Type 0) (shape : Shape) (images : Images) (t : Target P) (commit
 
       -- a flush that is done has served the orders that wait for it
       has_still : (clean : Bool) (v : Answer) (o : Order) → Contains (held_of x) o → Contains (orders_then x.orders x.awaiting (flush_or_suspend clean) (End v) Done ++ awaiting_then x.orders x.awaiting (flush_or_suspend clean) (End v) Done) o
-      has_still true Finished o h = h
       has_still false Finished o h = served o h
       has_still true (Refuses refusal) o h = h
-      has_still false (Refuses refusal) o h = h
+      has_still clean v o h = h
 
       seen_still : (clean : Bool) (v : Answer) → seen_then x.seen (End v) Done (flush_or_suspend clean) ≡ x.seen
       seen_still true v = refl

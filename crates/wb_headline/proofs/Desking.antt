@@ -28,11 +28,8 @@ use Rattle.wb_headline.specs.Desks.{block_there, DeskAgrees}
 -- ---- states of cache blocks
 
 begun_there : (b : Block) → block_there (block_begun b) ≡ begun (block_there b)
-begun_there Free = refl
-begun_there Mapped = refl
-begun_there Reserved = refl
 begun_there (Quarantined true early) = refl
-begun_there (Quarantined false early) = refl
+begun_there b = refl
 
 ended_there : (b : Block) → block_there (block_ended b) ≡ ended (block_there b)
 ended_there Free = refl
@@ -44,11 +41,8 @@ ended_there (Quarantined false true) = refl
 ended_there (Quarantined false false) = refl
 
 released_there : (b : Block) → block_there (block_released b) ≡ block_given_back (block_there b)
-released_there Free = refl
-released_there Mapped = refl
-released_there Reserved = refl
 released_there (Quarantined true early) = refl
-released_there (Quarantined false early) = refl
+released_there b = refl
 
 -- what becomes of each block, a free one staying so, becomes of one of the list
 pub state_map : (f : Block → Block) → f Free ≡ Free → (blocks : List Block) (c : ℕ) → state (map f blocks) c ≡ f (state blocks c)

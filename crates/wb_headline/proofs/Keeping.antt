@@ -169,9 +169,6 @@ seals_same words (Take access block seen) n = by_test (word_at words.cells block
     by_test false = refl
 seals_same words (Seal block place dirty) n = absurd (n block place dirty refl)
 seals_same words (Count ReadHit) n = refl
-seals_same words (Count ReadMiss) n = refl
-seals_same words (Count WriteHit) n = refl
-seals_same words (Count WriteMiss) n = refl
 seals_same words step n = refl
 
 module _ (P A : Type 0) (shape : Shape) (images : Images) (t : Target P) (commit : Option RunningCommit) (devices : Devices (List History)) (actors : List Actor) (n : Notes) (known : MetadataKept {P = P} {A = A} shape.geometry images (Stands t) commit devices.metadata)
@@ -533,10 +530,7 @@ module _ (P A : Type 0) (shape : Shape) (images : Images) (t : Target P) (commit
           failed j (ReadExtent d ext) here i = lets_go_right here j (access_of j) (range_of j).block
           failed j (WriteExtent d ext) here i = tt
           failed (Reading part) s here i = absurd i
-          failed (Writing part) s here i = absurd i
-          failed (Displacing part) s here i = absurd i
-          failed (Invalidating part) s here i = absurd i
-          failed (Migrating m part) s here i = absurd i
+          failed j s here i = absurd i
 
           of_block : (j : BlockJob) → plan.job ≡ OnBlock j → (got ≡ Done) ⊎ (got ≡ Fault) → RightWhere (place_of t.desk.tree.entries) x.card (after plan got).steps
           of_block j is (inl done) access b h = subst (λ (g : Got). SealsRight (place_of t.desk.tree.entries b.0) (after plan g).steps) (sym done)

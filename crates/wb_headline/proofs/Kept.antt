@@ -111,10 +111,7 @@ gives_done P A shape w x (Migrate m block) j (WriteExtent d e) got read chosen i
 gives_done P A shape w x job j (ReadExtent d e) got read chosen i g = absurd g
 gives_done P A shape w x job j (WriteExtent d e) got read chosen i g = absurd g
 gives_done P A shape w x job (Reading part) step got read chosen i g = absurd i
-gives_done P A shape w x job (Writing part) step got read chosen i g = absurd i
-gives_done P A shape w x job (Displacing part) step got read chosen i g = absurd i
-gives_done P A shape w x job (Invalidating part) step got read chosen i g = absurd i
-gives_done P A shape w x job (Migrating m part) step got read chosen i g = absurd i
+gives_done P A shape w x job j step got read chosen i g = absurd i
 
 -- so is whatever a suspend does on a device
 suspend_gives_done : (P A : Type 0) (shape : Shape) (w : State P A) (x : Actor) (t : Target P) (step : DeviceStep) (got : Got) (read : List Bytes) (chosen : Chosen P A) → w.phase ≡ Stands t → Gives shape w x Suspend (Device step) got read chosen → got ≡ Done

@@ -203,9 +203,6 @@ module _ (P A : Type 0) (shape : Shape) (images : Images) (t : Target P) (commit
 
 module _ (P A : Type 0) (shape : Shape) (t : Target P) (commit : Option RunningCommit) (devices : Devices (List History)) (actors : List Actor) (n : Notes) (b : Whole P A shape (at_target P A shape t commit devices actors) n) (a : ℕ) (x : Actor) (migration : Migration) (block : OBlock) (plan : Plan) (doing : Doing) (ex : slice_get actors a ≡ Some x) (xt : x.task ≡ Some (Migrate migration block, plan))
     (noted : slice_get n.doings a ≡ Some (Some doing)) (job_is : doing.job ≡ Migrate migration block) where
-  f : Followed P A shape b.goes.images (standing P A shape b.goes.images t commit devices actors n) n
-  f = b.goes.followed
-
   place_told : x.card.hold ≡ Held Own block → ((place : Option CBlock) (dirty : Bool) → want plan ≢ Cell (Seal block place dirty)) → number_of (place_in (word_at t.words.seals block)) ≡ place_of t.desk.tree.entries block.0
   place_told = held_tells P A shape t commit devices actors n b a x (Migrate migration block) plan ex xt block
 
@@ -226,20 +223,20 @@ module _ (P A : Type 0) (shape : Shape) (t : Target P) (commit : Option RunningC
   now_at_desk = situation shape t devices actors
 
   -- so its actor there is to do this next
-  wants_at_desk : {next : Want} → next ≡ want plan → WantsNext now_at_desk a x f.site.world (Migrate migration block) plan next
-  wants_at_desk {next} e = record { here = ex; task = xt; asks = sym e; agrees = f.phase.agrees }
+  wants_at_desk : {next : Want} → next ≡ want plan → WantsNext now_at_desk a x b.goes.followed.site.world (Migrate migration block) plan next
+  wants_at_desk {next} e = record { here = ex; task = xt; asks = sym e; agrees = b.goes.followed.phase.agrees }
 
   kept : DeskInvariant unknowing t.desk
   kept = b.goes.known.is.kept
 
   -- a step on a device or at the desk is a migration's own
   own_step : (next : Want) → next ≡ want plan → IsWithin next → (m : Migration) × (part : BlockRange) × IsOwnStep (OnBlock (Migrating m part)) next
-  own_step next e within = own now_at_desk shape.geometry.origin_blocks f.site.world f.phase.agrees a x migration block plan ex xt suits next e within
+  own_step next e within = own now_at_desk shape.geometry.origin_blocks b.goes.followed.site.world b.goes.followed.phase.agrees a x migration block plan ex xt suits next e within
 
   -- where it looks at a seal or a number, the seal tells where its order has the block
-  sees : (step : CellStep) → Cell step ≡ want plan → SeesWhere t.words slots f.site.world.shared.mapping migration block step
-  sees (Look (SealWord o)) e = seal_tells_order P t.desk kept slots (named P t.desk kept) t.words f.site.world.shared.mapping migration block (place_told (looks_seal now_at_desk shape.geometry.origin_blocks f.site.world f.phase.agrees a x migration block plan ex xt suits o e) (λ place dirty q. absurd (let bad : Cell (Look (SealWord o)) ≡ Cell (Seal block place dirty) = e ∙ q in cc))) f.phase.desk.mapping
-  sees (Look (Number o)) e = seal_tells_order P t.desk kept slots (named P t.desk kept) t.words f.site.world.shared.mapping migration block (place_told (looks_number now_at_desk shape.geometry.origin_blocks f.site.world f.phase.agrees a x migration block plan ex xt suits o e) (λ place dirty q. absurd (let bad : Cell (Look (Number o)) ≡ Cell (Seal block place dirty) = e ∙ q in cc))) f.phase.desk.mapping
+  sees : (step : CellStep) → Cell step ≡ want plan → SeesWhere t.words slots b.goes.followed.site.world.shared.mapping migration block step
+  sees (Look (SealWord o)) e = seal_tells_order P t.desk kept slots (named P t.desk kept) t.words b.goes.followed.site.world.shared.mapping migration block (place_told (looks_seal now_at_desk shape.geometry.origin_blocks b.goes.followed.site.world b.goes.followed.phase.agrees a x migration block plan ex xt suits o e) (λ place dirty q. absurd (let bad : Cell (Look (SealWord o)) ≡ Cell (Seal block place dirty) = e ∙ q in cc))) b.goes.followed.phase.desk.mapping
+  sees (Look (Number o)) e = seal_tells_order P t.desk kept slots (named P t.desk kept) t.words b.goes.followed.site.world.shared.mapping migration block (place_told (looks_number now_at_desk shape.geometry.origin_blocks b.goes.followed.site.world b.goes.followed.phase.agrees a x migration block plan ex xt suits o e) (λ place dirty q. absurd (let bad : Cell (Look (Number o)) ≡ Cell (Seal block place dirty) = e ∙ q in cc))) b.goes.followed.phase.desk.mapping
   sees step e = tt
 
   inside : (next : Want) → next ≡ want plan → StepInside shape next
@@ -260,36 +257,36 @@ module _ (P A : Type 0) (shape : Shape) (t : Target P) (commit : Option RunningC
   then_actor bl awaiting = record x { task = Some (job, Rattle.wb_tasks.specs.Plan.after plan Done); orders = dropped bl x.orders; awaiting = awaiting }
 
   abbrev s : Shared
-  s = f.site.world.shared
+  s = b.goes.followed.site.world.shared
 
   -- the desk and its orders turn, and whatever is read of the metadata stays
   goes_to : (turn : Turn) (desk' : DeskState P) (y : Actor) (next : Want) (orders' : List (Option Order)) → actor_then {P = P} {A = A} shape (Stands t) devices x next Done ≡ y →
-      (g : WorldFollowsBy turn Carries a f.site.world (record now_at_desk { mode = desk'.mode; commits = commits_of desk'; orders = orders' }) y) → (TurnedTo turn s (abstract_after_all f.site.world g.records).shared → TurnedTo Stays s (abstract_after_all f.site.world g.records).shared) →
-      AtDesk shape.geometry b.goes.images desk' commit devices.metadata → orders' ≡ live_orders desk' → DeskAgrees desk' (abstract_after_all f.site.world g.records).shared →
+      (g : WorldFollowsBy turn Carries a b.goes.followed.site.world (record now_at_desk { mode = desk'.mode; commits = commits_of desk'; orders = orders' }) y) → (TurnedTo turn s (abstract_after_all b.goes.followed.site.world g.records).shared → TurnedTo Stays s (abstract_after_all b.goes.followed.site.world g.records).shared) →
+      AtDesk shape.geometry b.goes.images desk' commit devices.metadata → orders' ≡ live_orders desk' → DeskAgrees desk' (abstract_after_all b.goes.followed.site.world g.records).shared →
       Goes P A shape (record { devices = devices; commit = commit; phase = Stands (record { words = t.words; desk = desk' }); actors = slice_set actors a (actor_then {P = P} {A = A} shape (Stands t) devices x next Done) }) n
   goes_to turn desk' y next orders' is g stays known' same desk =
-      let s' = (abstract_after_all f.site.world g.records).shared in
+      let s' = (abstract_after_all b.goes.followed.site.world g.records).shared in
       let turned = stays g.turned in
       let readable = kept_readable shape.geometry b.goes.images devices.metadata P A (Stands t) commit b.goes.known in
       subst (λ (v : Actor). Goes P A shape (record { devices = devices; commit = commit; phase = Stands (record { words = t.words; desk = desk' }); actors = slice_set actors a v }) n) (sym is)
-      (leads_on P A shape b.goes.images t commit devices actors n b.goes.known f a x ex turn Carries (record { words = t.words; desk = desk' }) commit devices y n b.goes.images orders' g
-      (carried_notes P A shape b.goes.images t commit devices actors n b.goes.known f a x ex g) refl refl known' same desk
-      (images_followed.stay shape.geometry b.goes.images.committed (later_of b.goes.images) devices.metadata devices.metadata s s' f.phase.images_agree turned readable.read)
-      (λ state e. let r = f.phase.running state e in (turned.1 ∙ r.0, subst (StateTakesClean state) (sym turned.4) r.1)))
+      (leads_on P A shape b.goes.images t commit devices actors n b.goes.known b.goes.followed a x ex turn Carries (record { words = t.words; desk = desk' }) commit devices y n b.goes.images orders' g
+      (carried_notes P A shape b.goes.images t commit devices actors n b.goes.known b.goes.followed a x ex g) refl refl known' same desk
+      (images_followed.stay shape.geometry b.goes.images.committed (later_of b.goes.images) devices.metadata devices.metadata s s' b.goes.followed.phase.images_agree turned readable.read)
+      (λ state e. let r = b.goes.followed.phase.running state e in (turned.1 ∙ r.0, subst (StateTakesClean state) (sym turned.4) r.1)))
 
   -- a block that was promoted is mapped
   maps_on : (bl : OBlock) (c : CBlock) (tree : Mapping) (policy : P) (read : List Bytes) → MayMap t.desk bl c → IsChangedAt t.desk.tree tree c.0 (Some (entry_of bl)) → Desk (Map bl c) ≡ want plan → To (Desk (Map bl c)) Done read (Asks (mapped t.desk c tree policy))
   maps_on bl c tree policy read may changed next =
       let desk' = mapped t.desk c tree policy in
       let en = entrance unknowing t.desk bl c kept may in
-      let free = ap (λ (m : Locations). m bl.0) f.phase.desk.mapping ∙ unmapped_there P t.desk kept bl.0 en.unmapped in
-      let law = migrations_followed.maps now_at_desk shape.geometry.origin_blocks a x migration block bl c plan f.site.world (wants_at_desk next) suits free in
+      let free = ap (λ (m : Locations). m bl.0) b.goes.followed.phase.desk.mapping ∙ unmapped_there P t.desk kept bl.0 en.unmapped in
+      let law = migrations_followed.maps now_at_desk shape.geometry.origin_blocks a x migration block bl c plan b.goes.followed.site.world (wants_at_desk next) suits free in
       let over = law.2 in
-      let g = subst (λ (k : OBlock). WorldFollowsBy (Maps k.0 c.0) Carries a f.site.world (record now_at_desk { orders = slice_set slots c.0 None }) (then_actor bl x.awaiting)) (sym law.1) over.2.follows in
+      let g = subst (λ (k : OBlock). WorldFollowsBy (Maps k.0 c.0) Carries a b.goes.followed.site.world (record now_at_desk { orders = slice_set slots c.0 None }) (then_actor bl x.awaiting)) (sym law.1) over.2.follows in
       let room = slice_get_within t.desk.space.blocks c.0 Reserved may.reserved in
       goes_to (Maps bl.0 c.0) desk' (then_actor bl x.awaiting) (Desk (Map bl c)) (slice_set slots c.0 None) (actor_is P A shape (Stands t) devices x job plan (Desk (Map bl c)) Done xt) g (λ d. d)
       (mapped_stands P shape.geometry b.goes.images t.desk commit devices.metadata bl c tree policy b.goes.known may changed) (sym (orders_set t.desk.orders.slots c.0 None))
-      (desk_maps P t.desk s (abstract_after_all f.site.world g.records).shared f.phase.desk bl c tree policy room (let l = en.inside in let m = kept.mapping.size in omega (arith, l, m)) (unmapped_there P t.desk kept bl.0 en.unmapped) en.none changed g.desk.0 g.desk.1)
+      (desk_maps P t.desk s (abstract_after_all b.goes.followed.site.world g.records).shared b.goes.followed.phase.desk bl c tree policy room (let l = en.inside in let m = kept.mapping.size in omega (arith, l, m)) (unmapped_there P t.desk kept bl.0 en.unmapped) en.none changed g.desk.0 g.desk.1)
 
   -- one that was demoted leaves, or one that another is to follow
   module _ (bl : OBlock) (read : List Bytes) (new : DeskState P) (did : DidUnmap (λ policy o. new.policy) bl t.desk new) (same : bl ≡ block) where
@@ -298,46 +295,46 @@ module _ (P A : Type 0) (shape : Shape) (t : Target P) (commit : Option RunningC
 
     module _ (c : ℕ) (o : Order) (live : slice_get slots c ≡ Some (Some o)) (mine : Contains x.orders o) (removes : Removes o) (at : IsMappedAt (holdings t.desk) bl.0 c) (of : is_of bl o ≡ true) where
       leaves_to : (v : Bool) → is_replacement o ≡ v → (after_it : Option ℕ) → block_there (Quarantined v false) ≡ removed after_it → (orders' : List (Option Order)) → orders' ≡ orders_living (if v then t.desk.orders else without_order t.desk.orders (record { 0 = c })).slots →
-          WorldFollowsBy (Unmaps block.0 c after_it) Carries a f.site.world (record now_at_desk { orders = orders' }) (then_actor bl (replacing bl x.orders ++ x.awaiting)) → To (Desk (Unmap bl)) Done read (Asks new)
+          WorldFollowsBy (Unmaps block.0 c after_it) Carries a b.goes.followed.site.world (record now_at_desk { orders = orders' }) (then_actor bl (replacing bl x.orders ++ x.awaiting)) → To (Desk (Unmap bl)) Done read (Asks new)
       leaves_to v r after_it there orders' orders_are follows =
           let parted = b.keeping.parted a x ex in
           let gone = left P t.desk kept actors are owned a x ex parted bl c o live mine removes at of new did in
           let alone = stands_alone P t.desk kept bl.0 c at in
           let desk' = unmapped t.desk (record { 0 = c }) new.tree new.policy in
-          let g = subst (λ (k : OBlock). WorldFollowsBy (Unmaps k.0 c after_it) Carries a f.site.world (record now_at_desk { orders = orders' }) away) (sym same) follows in
+          let g = subst (λ (k : OBlock). WorldFollowsBy (Unmaps k.0 c after_it) Carries a b.goes.followed.site.world (record now_at_desk { orders = orders' }) away) (sym same) follows in
           let room = slice_get_within t.desk.space.blocks c Mapped (mapped_state unknowing t.desk bl.0 c kept at) in
           subst (λ (k : DeskState P). To (Desk (Unmap bl)) Done read (Asks k)) (sym gone.1)
           (goes_to (Unmaps bl.0 c after_it) desk' away (Desk (Unmap bl)) orders' (actor_is P A shape (Stands t) devices x job plan (Desk (Unmap bl)) Done xt) g (λ d. d)
           (subst (λ (k : DeskState P). AtDesk shape.geometry b.goes.images k commit devices.metadata) gone.1 (unmapped_stands P shape.geometry b.goes.images t.desk commit devices.metadata bl new b.goes.known did))
           (orders_are ∙ ap (λ (os : Orders). orders_living os.slots) (sym (past P t.desk kept actors are owned a x ex parted bl c o live mine removes at of v r)))
-          (desk_unmaps P t.desk s (abstract_after_all f.site.world g.records).shared f.phase.desk bl.0 (record { 0 = c }) alone.0 new.tree new.policy after_it
+          (desk_unmaps P t.desk s (abstract_after_all b.goes.followed.site.world g.records).shared b.goes.followed.phase.desk bl.0 (record { 0 = c }) alone.0 new.tree new.policy after_it
           (ap (λ (k : Bool). block_there (Quarantined k false)) (keeps_so P t.desk kept actors are owned a x ex parted bl c o live mine removes at of v r) ∙ there) room alone.1 gone.0 g.desk.0 g.desk.1))
 
   unmaps_on : (bl : OBlock) (read : List Bytes) (new : DeskState P) → Desk (Unmap bl) ≡ want plan → DidUnmap (λ policy o. new.policy) bl t.desk new → To (Desk (Unmap bl)) Done read (Asks new)
   unmaps_on bl read new next did =
-      let leaving = leaves_from P t.desk kept s f.phase.desk in
-      let law = migrations_followed.unmaps now_at_desk shape.geometry.origin_blocks a x migration block bl plan f.site.world (wants_at_desk next) suits (leaving bl) in
+      let leaving = leaves_from P t.desk kept s b.goes.followed.phase.desk in
+      let law = migrations_followed.unmaps now_at_desk shape.geometry.origin_blocks a x migration block bl plan b.goes.followed.site.world (wants_at_desk next) suits (leaving bl) in
       let same : bl ≡ block = law.1 in
       let c = law.2.0 in
       elim law.2.1 [
         | inl d ↦ (
             let parted = b.keeping.parted a x ex in
-            let at = subst (λ (k : OBlock). IsMappedAt (holdings t.desk) k.0 c) (sym same) (stands_so P t.desk kept s f.phase.desk block.0 c (leaving block c None (DemoteOrder block) d.live (inl (refl, refl)) (λ no. absurd (no refl)))) in
+            let at = subst (λ (k : OBlock). IsMappedAt (holdings t.desk) k.0 c) (sym same) (stands_so P t.desk kept s b.goes.followed.phase.desk block.0 c (leaving block c None (DemoteOrder block) d.live (inl (refl, refl)) (λ no. absurd (no refl)))) in
             let of = for_block Demote block bl same in
             let none = none_waits P t.desk kept actors are owned a x ex parted bl c (DemoteOrder block) d.live d.mine tt at of refl in
             leaves_to bl read new did same c (DemoteOrder block) d.live d.mine tt at of false refl None refl (slice_set slots c None) (sym (orders_set t.desk.orders.slots c None))
-            (subst (λ (os : List Order). WorldFollowsBy (Unmaps block.0 c None) Carries a f.site.world (record now_at_desk { orders = slice_set slots c None }) (then_actor bl (os ++ x.awaiting))) (sym none) d.follows))
-        | inr d ↦ leaves_to bl read new did same c (ReplaceOrder block d.new d.k) d.live d.mine tt (subst (λ (k : OBlock). IsMappedAt (holdings t.desk) k.0 c) (sym same) (stands_so P t.desk kept s f.phase.desk block.0 c d.stood))
+            (subst (λ (os : List Order). WorldFollowsBy (Unmaps block.0 c None) Carries a b.goes.followed.site.world (record now_at_desk { orders = slice_set slots c None }) (then_actor bl (os ++ x.awaiting))) (sym none) d.follows))
+        | inr d ↦ leaves_to bl read new did same c (ReplaceOrder block d.new d.k) d.live d.mine tt (subst (λ (k : OBlock). IsMappedAt (holdings t.desk) k.0 c) (sym same) (stands_so P t.desk kept s b.goes.followed.phase.desk block.0 c d.stood))
             (subst (λ (k : OBlock). is_of k (ReplaceOrder block d.new d.k) ≡ true) (sym same) (of_order Demote block (Some d.new.0) (ReplaceOrder block d.new d.k) (inr (refl, refl)))) true refl (Some d.new.0) refl slots refl d.follows
       ]
 
   -- an order is given up
   releases_on : (bl : OBlock) (read : List Bytes) (new : DeskState P) → Desk (ReleaseOrder bl) ≡ want plan → DidRelease x.orders bl t.desk new → To (Desk (ReleaseOrder bl)) Done read (Asks new)
   releases_on bl read new next d =
-      let law = migrations_followed.gives_up now_at_desk shape.geometry.origin_blocks a x migration block bl plan f.site.world (wants_at_desk next) suits in
+      let law = migrations_followed.gives_up now_at_desk shape.geometry.origin_blocks a x migration block bl plan b.goes.followed.site.world (wants_at_desk next) suits in
       by law.0 law.1
     where
-      by : bl ≡ block → ((c : ℕ) × (after_it : Option ℕ) × (order : Order) × IsOrderFor migration block after_it order × EndsOrder (GivesUp c) c a f.site.world now_at_desk x (then_actor bl x.awaiting) order) → To (Desk (ReleaseOrder bl)) Done read (Asks new)
+      by : bl ≡ block → ((c : ℕ) × (after_it : Option ℕ) × (order : Order) × IsOrderFor migration block after_it order × EndsOrder (GivesUp c) c a b.goes.followed.site.world now_at_desk x (then_actor bl x.awaiting) order) → To (Desk (ReleaseOrder bl)) Done read (Asks new)
       by same (c, after_it, order, of, ends) =
           let held = Contains-append_left x.orders x.awaiting order ends.mine in
           let l = live_at P t.desk actors are owned a x ex order c ends.live held in
@@ -352,26 +349,26 @@ module _ (P A : Type 0) (shape : Shape) (t : Target P) (commit : Option RunningC
           subst (λ (k : DeskState P). To (Desk (ReleaseOrder bl)) Done read (Asks k)) (sym is)
           (goes_to (GivesUp c) (released t.desk (record { 0 = c })) (then_actor bl x.awaiting) (Desk (ReleaseOrder bl)) (slice_set slots c None) (actor_is P A shape (Stands t) devices x job plan (Desk (ReleaseOrder bl)) Done xt) g (λ v. v)
           (subst (λ (k : DeskState P). AtDesk shape.geometry b.goes.images k commit devices.metadata) is (released_for P shape.geometry b.goes.images t.desk commit devices.metadata new (order_found bl x.orders) b.goes.known d))
-          (sym (orders_set t.desk.orders.slots c None)) (desk_releases P t.desk s (abstract_after_all f.site.world g.records).shared f.phase.desk (record { 0 = c }) (omega (arith, inside, at, many_slots, many_blocks)) g.desk.0 g.desk.1))
+          (sym (orders_set t.desk.orders.slots c None)) (desk_releases P t.desk s (abstract_after_all b.goes.followed.site.world g.records).shared b.goes.followed.phase.desk (record { 0 = c }) (omega (arith, inside, at, many_slots, many_blocks)) g.desk.0 g.desk.1))
 
   -- any step that is done or refused
   pub any_step : (next : Want) (got : Got) (read : List Bytes) (chosen : Chosen P A) → next ≡ want plan → Gives shape w x job next got read chosen → To next got read chosen
   any_step (Cell step) got read chosen e g = subst (λ (v : Got). To (Cell step) v read chosen) (sym g.1)
-      (cells P A shape b.goes.images t commit devices actors n b.goes.known f a x ex migration block plan xt suits doing noted job_is b.used.here step e (sees step e))
+      (cells P A shape b.goes.images t commit devices actors n b.goes.known b.goes.followed a x ex migration block plan xt suits doing noted job_is b.used.here step e (sees step e))
   any_step (Device (ReadExtent d ext)) got read chosen e g = subst (λ (v : Got). To (Device (ReadExtent d ext)) v read chosen) (sym g.2)
       (subst (λ (c : Chosen P A). To (Device (ReadExtent d ext)) Done read c) (sym g.1.1)
       (subst (λ (ds : Devices (List History)). Goes P A shape (record { devices = ds; commit = commit; phase = Stands t; actors = slice_set actors a (actor_then {P = P} {A = A} shape (Stands t) devices x (Device (ReadExtent d ext)) Done) }) (noted_step shape t.desk.mode [] n a (Some (Some doing)) (Device (ReadExtent d ext)) Done read)) (sym (same_device d devices g.0))
-      (read_done P A shape b.goes.images t commit devices actors n b.goes.known f a x ex migration block plan xt suits doing noted job_is d ext read e g.3)))
+      (read_done P A shape b.goes.images t commit devices actors n b.goes.known b.goes.followed a x ex migration block plan xt suits doing noted job_is d ext read e g.3)))
   any_step (Device (WriteExtent d ext)) got read chosen e g = subst (λ (v : Got). To (Device (WriteExtent d ext)) v read chosen) (sym g.2)
       (subst (λ (c : Chosen P A). To (Device (WriteExtent d ext)) Done read c) (sym g.1.1)
-      (write_done P A shape b.goes.images t commit devices actors n b.goes.known f a x ex migration block plan xt suits doing noted job_is d ext read g.0 e g.3))
+      (write_done P A shape b.goes.images t commit devices actors n b.goes.known b.goes.followed a x ex migration block plan xt suits doing noted job_is d ext read g.0 e g.3))
   any_step (Desk (Map bl c)) Done read (Asks new) e g = subst (λ (v : DeskState P). To (Desk (Map bl c)) Done read (Asks v)) (sym g.1.2) (maps_on bl c new.tree new.policy read g.1.0 g.1.1 e)
   any_step (Desk (Map bl c)) (GotRefused refusal) read Plain e g = map_refused P A shape b.goes.images t commit devices actors n b.goes.known b.goes.followed a x ex migration block plan xt suits doing noted job_is bl c refusal e
   any_step (Desk (Map bl c)) got read chosen e g = absurd g.1
   any_step (Desk (ReleaseOrder bl)) got read (Asks new) e g = subst (λ (v : Got). To (Desk (ReleaseOrder bl)) v read (Asks new)) (sym g.1) (releases_on bl read new e g.2)
   any_step (Desk (ReleaseOrder bl)) got read chosen e g = absurd g.2
   any_step (End answer) got read chosen e g = subst (λ (v : Got). To (End answer) v read chosen) (sym g.1) (subst (λ (c : Chosen P A). To (End answer) Done read c) (sym g.0.1)
-      (answers P A shape b.goes.images t commit devices actors n b.goes.known f a x ex migration block plan xt suits doing noted job_is answer _ read e))
+      (answers P A shape b.goes.images t commit devices actors n b.goes.known b.goes.followed a x ex migration block plan xt suits doing noted job_is answer _ read e))
   any_step (Desk (Unmap bl)) got read (Asks new) e g = subst (λ (v : Got). To (Desk (Unmap bl)) v read (Asks new)) (sym g.1) (unmaps_on bl read new e g.2)
   any_step (Desk (Unmap bl)) got read chosen e g = absurd g.2
   any_step next got read chosen e g = absurd ((own_step next e tt).2)
@@ -388,8 +385,8 @@ module _ (P A : Type 0) (shape : Shape) (t : Target P) (commit : Option RunningC
   pub any_fault : (choice : Choice) (next : Want) (read : List Bytes) (chosen : Chosen P A) → next ≡ want plan → MayFailAt devices choice next → Falters w choice next chosen → Fails choice next read chosen
   any_fault choice (Device (ReadExtent d ext)) read chosen e m g = subst (λ (c : Chosen P A). Fails choice (Device (ReadExtent d ext)) read c) (sym g.0)
       (subst (λ (ds : Devices (List History)). Goes P A shape (record { devices = ds; commit = commit; phase = Stands t; actors = slice_set actors a (actor_then {P = P} {A = A} shape (Stands t) devices x (Device (ReadExtent d ext)) Fault) }) (noted_step shape t.desk.mode [] n a (Some (Some doing)) (Device (ReadExtent d ext)) Fault read)) (sym (same_device d devices g.1))
-      (read_fails P A shape b.goes.images t commit devices actors n b.goes.known f a x ex migration block plan xt suits doing noted job_is d ext read e))
+      (read_fails P A shape b.goes.images t commit devices actors n b.goes.known b.goes.followed a x ex migration block plan xt suits doing noted job_is d ext read e))
   any_fault choice (Device (WriteExtent d ext)) read chosen e m g = subst (λ (c : Chosen P A). Fails choice (Device (WriteExtent d ext)) read c) (sym g.0)
-      (write_fails P A shape b.goes.images t commit devices actors n b.goes.known f a x ex migration block plan xt suits doing noted job_is d ext read (lands d choice) g.1 e (room d ext g.1 (inside (Device (WriteExtent d ext)) e)))
+      (write_fails P A shape b.goes.images t commit devices actors n b.goes.known b.goes.followed a x ex migration block plan xt suits doing noted job_is d ext read (lands d choice) g.1 e (room d ext g.1 (inside (Device (WriteExtent d ext)) e)))
   any_fault choice (Device step) read chosen e m g = absurd ((own_step (Device step) e tt).2)
   any_fault choice next read chosen e m g = absurd m

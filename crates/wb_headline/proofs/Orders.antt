@@ -88,8 +88,7 @@ none_replacing b (p ∷ orders) f = by (is_of b p && is_replacement p) refl (non
 
 pub for_block : (m : Migration) (b bl : OBlock) → bl ≡ b → is_of bl (order_for m b) ≡ true
 for_block (Promote c) b bl e = eq-eqb b.0 bl.0 (ap (λ (o : OBlock). o.0) (sym e))
-for_block Demote b bl e = eq-eqb b.0 bl.0 (ap (λ (o : OBlock). o.0) (sym e))
-for_block Clean b bl e = eq-eqb b.0 bl.0 (ap (λ (o : OBlock). o.0) (sym e))
+for_block m b bl e = eq-eqb b.0 bl.0 (ap (λ (o : OBlock). o.0) (sym e))
 
 -- each is of some block
 of_first : (q : Order) → is_of (first_of q) q ≡ true

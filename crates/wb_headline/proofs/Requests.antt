@@ -101,19 +101,12 @@ module _ (P A : Type 0) (shape : Shape) (images : Images) (t : Target P) (commit
       (cell_steps_followed (situation shape t devices actors) shape.geometry.origin_blocks a x job plan step f.site.world q rule (record { here = ex; task = xt; asks = sym e; agrees = f.phase.agrees }) suits) refl)
 
 -- a read or write that is answered leaves its actor the orders that it has
-orders_still : (orders awaiting : List Order) (job : Job) (answer : Answer) → IsRequestJob job → orders_then orders awaiting job (End answer) Done ≡ orders
-orders_still orders awaiting (Read extent) Finished q = refl
-orders_still orders awaiting (Write extent content) Finished q = refl
-orders_still orders awaiting (Invalidate block) Finished q = refl
-orders_still orders awaiting job (Refuses refusal) q = refl
-orders_still orders awaiting job answer q = absurd q
-
-awaiting_still : (orders awaiting : List Order) (job : Job) (answer : Answer) → IsRequestJob job → awaiting_then orders awaiting job (End answer) Done ≡ awaiting
-awaiting_still orders awaiting (Read extent) Finished q = refl
-awaiting_still orders awaiting (Write extent content) Finished q = refl
-awaiting_still orders awaiting (Invalidate block) Finished q = refl
-awaiting_still orders awaiting job (Refuses refusal) q = refl
-awaiting_still orders awaiting job answer q = absurd q
+answered_still : (orders awaiting : List Order) (job : Job) (answer : Answer) → IsRequestJob job → (orders_then orders awaiting job (End answer) Done ≡ orders) × (awaiting_then orders awaiting job (End answer) Done ≡ awaiting)
+answered_still orders awaiting (Read extent) Finished q = (refl, refl)
+answered_still orders awaiting (Write extent content) Finished q = (refl, refl)
+answered_still orders awaiting (Invalidate block) Finished q = (refl, refl)
+answered_still orders awaiting job (Refuses refusal) q = (refl, refl)
+answered_still orders awaiting job answer q = absurd q
 
 module _ (P A : Type 0) (shape : Shape) (images : Images) (t : Target P) (commit : Option RunningCommit) (devices : Devices (List History)) (actors : List Actor) (n : Notes) (known : MetadataKept {P = P} {A = A} shape.geometry images (Stands t) commit devices.metadata)
     (f : Followed P A shape images (standing P A shape images t commit devices actors n) n) (a : ℕ) (x : Actor) (ex : slice_get actors a ≡ Some x) (shown : List Bytes) (doing : Doing) (noted : slice_get n.doings a ≡ Some (Some doing)) where
@@ -251,7 +244,7 @@ module _ (P A : Type 0) (shape : Shape) (images : Images) (t : Target P) (commit
     answered_with : (there : Answer) (of : Rattle.wb_link.specs.Tables.Job) (n' : Notes) → length n'.doings ≡ length n.doings → length n'.histories ≡ length n.histories → (g : WorldFollows (Answers of there) a f.site.world (situation shape t devices actors) (record x { task = None })) →
         NotesAgree (size P A shape) n' (abstract_after_all f.site.world g.records) (told f.notes g.records) → Answered n'
     answered_with there of n' d h g notes =
-        subst (λ (y : Actor). Goes P A shape (record { devices = devices; commit = commit; phase = Stands (record { words = t.words; desk = t.desk }); actors = slice_set actors a y }) n') (sym (actor_is P A shape (Stands t) devices x job plan (End answer) Done xt ∙ (λ i. record { task = None; card = x.card; orders = orders_still x.orders x.awaiting job answer request i; awaiting = awaiting_still x.orders x.awaiting job answer request i; buffer = x.buffer; seen = seen_still x.seen job (End answer) Done request i; share = x.share })))
+        subst (λ (y : Actor). Goes P A shape (record { devices = devices; commit = commit; phase = Stands (record { words = t.words; desk = t.desk }); actors = slice_set actors a y }) n') (sym (actor_is P A shape (Stands t) devices x job plan (End answer) Done xt ∙ (λ i. record { task = None; card = x.card; orders = (answered_still x.orders x.awaiting job answer request).0 i; awaiting = (answered_still x.orders x.awaiting job answer request).1 i; buffer = x.buffer; seen = seen_still x.seen job (End answer) Done request i; share = x.share })))
         (stays_on P A shape images t commit devices actors n known f a x ex (Answers of there) t.words devices (record x { task = None }) n' g notes d h refl)
 
   -- by its job

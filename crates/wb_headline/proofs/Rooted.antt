@@ -66,9 +66,7 @@ still_unwritten image steps step e n w = by (is_written (steps_after image steps
 failed_unwritten : (image : Image) (steps : CommitSteps) (step : DeviceStep) → is_coming image steps step ≡ true → (step ≢ WriteRoot) → is_written steps ≡ false → failed_written steps ≡ false
 failed_unwritten image (NodesWritten count) step e n w = refl
 failed_unwritten image NodesSynced WriteRoot e n w = absurd (n refl)
-failed_unwritten image NodesSynced step e n w = absurd (cc)
-failed_unwritten image RootWritten step e n w = absurd (cc)
-failed_unwritten image Committed step e n w = absurd (cc)
+failed_unwritten image steps step e n w = absurd (cc)
 
 module _ (g : Geometry) (images : Images) (commit : RunningCommit) (of : Commit) (device : List History) where
   -- the old state alone is read
@@ -100,11 +98,4 @@ rooted_on A g images reading commit old new k does =
 
 -- what it leads to has the entries that were read
 pub leads_so : (A : Type 0) (g : Geometry) (images : Images) (stored : StoredThere A) (commit : RunningCommit) (device : List History) (k : RootingKept g images (AllRead stored) commit device) → k.of.new.found.entries ≡ stored.tree.entries
-leads_so A g images stored commit device k = k.entries ∙ ap (λ (s : StoredThere A). s.tree.entries) (by_done k.all)
-  where
-    stored_in : ReadSteps A → StoredThere A
-    stored_in (AllRead s) = s
-    stored_in other = stored
-
-    by_done : {s : StoredThere A} → AllRead stored ≡ AllRead s → s ≡ stored
-    by_done e = sym (ap stored_in e)
+leads_so A g images stored commit device k = k.entries ∙ ap (λ (s : StoredThere A). s.tree.entries) (let all = k.all in let same : k.stored ≡ stored = cc in same)

@@ -40,6 +40,17 @@ pub length-rising : (first count : ℕ) → length (rising first count) ≡ coun
 length-rising first zero = refl
 length-rising first (suc count) = ap suc (length-rising (first + 1) count)
 
+-- where there is a sector a block has some
+some_block : (shape : Shape) (at : ℕ) → at < sector_count shape → 0 < block_size shape
+some_block shape at l = by_size (block_size shape) refl
+  where
+    none : block_size shape ≡ 0 → ⊥
+    none z = let k : sector_count shape ≡ 0 = ap (λ v. v * shape.geometry.origin_blocks) z ∙ zero-mul shape.geometry.origin_blocks in omega (arith, l, k)
+
+    by_size : (b : ℕ) → block_size shape ≡ b → 0 < block_size shape
+    by_size zero e = absurd (none e)
+    by_size (suc b) e = omega (arith, e)
+
 -- what stands in a rising list
 rising_at : (first count i x : ℕ) → slice_get (rising first count) i ≡ Some x → (x ≡ first + i) × (i < count)
 rising_at first zero i x e = absurd (cc)
@@ -51,8 +62,7 @@ module _ (shape : Shape) (n : Notes) (m : AbstractNotes) (histories : m.historie
   allowed_at : (at : ℕ) (c : Content) → at < sector_count shape → IsEntryFrom (m.floors (at / block_size shape) (at % block_size shape)) (m.histories (at / block_size shape) (at % block_size shape)) c → IsAllowedAt n at c
   allowed_at at c l e =
       let h = there n.histories at (subst (λ (k : ℕ). at < k) (sym many) l) in
-      let some : 0 < block_size shape = (let pos : block_size shape ≡ 0 → 0 < block_size shape = (λ z. absurd (none z)) in by_size (block_size shape) refl) in
-      let o_less = mod-lt at some in
+      let o_less = mod-lt at (some_block shape at l) in
       let where_at : at / block_size shape * block_size shape + at % block_size shape ≡ at = div-add-mod' at (block_size shape) in
       let found : slice_get n.histories (at / block_size shape * block_size shape + at % block_size shape) ≡ Some h.0 = ap (λ k. slice_get n.histories k) where_at ∙ h.1 in
       let history : m.histories (at / block_size shape) (at % block_size shape) ≡ h.0 = ap (λ f. f (at / block_size shape) (at % block_size shape)) histories ∙ is_there (block_size shape) zeros n.histories (at / block_size shape) (at % block_size shape) h.0 o_less found in
@@ -60,13 +70,6 @@ module _ (shape : Shape) (n : Notes) (m : AbstractNotes) (histories : m.historie
       ∙ ap (λ t. Rattle.std.proofs.Common.cond t (unwrap_or (slice_get n.floors (at / block_size shape * block_size shape + at % block_size shape)) 0) 0) (lt-ltb (at % block_size shape) (block_size shape) o_less) ∙ ap (λ k. unwrap_or (slice_get n.floors k) 0) where_at in
       subst (λ (g : Option History). IsAllowed g (unwrap_or (slice_get n.floors at) 0) c) (sym h.1)
       (subst (λ (g : History). IsEntryFrom (unwrap_or (slice_get n.floors at) 0) g c) history (subst (λ (k : ℕ). IsEntryFrom k (m.histories (at / block_size shape) (at % block_size shape)) c) floor e))
-    where
-      none : block_size shape ≡ 0 → ⊥
-      none z = let k : sector_count shape ≡ 0 = ap (λ v. v * shape.geometry.origin_blocks) z ∙ zero-mul shape.geometry.origin_blocks in omega (arith, l, k)
-
-      by_size : (b : ℕ) → block_size shape ≡ b → 0 < block_size shape
-      by_size zero e = absurd (none e)
-      by_size (suc b) e = omega (arith, e)
 
   module _ (devices : Devices (List History)) (cache_size : length devices.cache ≡ cache_sector_count shape) (origin_size : length devices.origin ≡ sector_count shape) (tree : List (Option Entry)) (mapping : IsMapping shape.geometry.cache_blocks shape.geometry.origin_blocks tree)
       (all : (b o : ℕ) (c : Content) → Contains (entries (at_location (by_block (block_size shape) zeros devices.origin) (by_block (block_size shape) zeros devices.cache) (place_of tree b) b o)) c → IsEntryFrom (m.floors b o) (m.histories b o) c)
@@ -84,18 +87,8 @@ module _ (shape : Shape) (n : Notes) (m : AbstractNotes) (histories : m.historie
     sector_allowed : (at : ℕ) → at < sector_count shape → IsAllowedAt n at (unwrap_or (content_of shape (place_of tree (at / block_size shape)) cache origin at) [])
     sector_allowed at l = by_place (place_of tree (at / block_size shape)) refl
       where
-        none : block_size shape ≡ 0 → ⊥
-        none z = let k : sector_count shape ≡ 0 = ap (λ v. v * shape.geometry.origin_blocks) z ∙ zero-mul shape.geometry.origin_blocks in omega (arith, l, k)
-
-        by_size : (b : ℕ) → block_size shape ≡ b → 0 < block_size shape
-        by_size zero e = absurd (none e)
-        by_size (suc b) e = omega (arith, e)
-
-        some : 0 < block_size shape
-        some = by_size (block_size shape) refl
-
         o_less : at % block_size shape < block_size shape
-        o_less = mod-lt at some
+        o_less = mod-lt at (some_block shape at l)
 
         where_at : at / block_size shape * block_size shape + at % block_size shape ≡ at
         where_at = div-add-mod' at (block_size shape)

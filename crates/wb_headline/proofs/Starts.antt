@@ -207,19 +207,14 @@ named_there m k o v (inr e) = absurd (let bad : None ≡ Some v = e in cc)
 -- a migration's own order is of its block alone
 plain_named : (m : Migration) (block : OBlock) (c : CBlock) (v : ℕ) → NamesThere (order_of_block block c None) v → IsNamed (order_for m block) v
 plain_named (Promote k) block c v (inl e) = inl e
-plain_named Demote block c v (inl e) = inl e
-plain_named Clean block c v (inl e) = inl e
 plain_named m block c v (inr e) = absurd (let bad : None ≡ Some v = e in cc)
+plain_named m block c v (inl e) = inl e
 
 plain_there : (l : Locations) (m : Migration) (block : OBlock) (c : CBlock) → order_there l c.0 (order_for m block) ≡ order_of_block block c None
 plain_there l (Promote k) block c = refl
-plain_there l Demote block c = refl
-plain_there l Clean block c = refl
+plain_there l m block c = refl
 
 module _ (P A : Type 0) (shape : Shape) (t : Target P) (commit : Option RunningCommit) (devices : Devices (List History)) (actors : List Actor) (n : Notes) (b : Whole P A shape (at_target P A shape t commit devices actors) n) (a : ℕ) (x : Actor) (ex : slice_get actors a ≡ Some x) (xt : x.task ≡ None) (among : AreAmongOthers actors) where
-  g : Followed P A shape b.goes.images (standing P A shape b.goes.images t commit devices actors n) n
-  g = b.goes.followed
-
   holds : x.card.hold ≡ Nothing
   holds = subst (λ (o : Option (Job × Plan)). TaskSuits shape.geometry.origin_blocks x.card o) xt (b.used.suited a x ex)
 
@@ -236,10 +231,10 @@ module _ (P A : Type 0) (shape : Shape) (t : Target P) (commit : Option RunningC
   names = named P t.desk kept
 
   -- no live order shares a block with one that may be given
-  ungiven : (o : Order) (block : OBlock) (c : CBlock) (next : Option ℕ) → MayReserve t.desk c o → ((v : ℕ) → NamesThere (order_of_block block c next) v → IsNamed o v) → IsUngiven g.site.world.shared.mapping slots_now (order_of_block block c next)
+  ungiven : (o : Order) (block : OBlock) (c : CBlock) (next : Option ℕ) → MayReserve t.desk c o → ((v : ℕ) → NamesThere (order_of_block block c next) v → IsNamed o v) → IsUngiven b.goes.followed.site.world.shared.mapping slots_now (order_of_block block c next)
   ungiven o block c next may named_by k p there = (let l = live_here t.desk.orders.slots k p there in (
-    λ v i j. (let busy = are_orders.marks k v l.0 l.1 (subst (λ (u : Order). IsNamed u v) (sym l.2) (named_there g.site.world.shared.mapping k p v i)) in let bad : true ≡ false = sym busy ∙ idle v (named_by v j) in absurd (cc)),
-    λ s. (let none = get_or_from_slice_get t.desk.orders.slots c.0 None None may.give.vacant in let same : k ≡ c.0 = sym (cache_there g.site.world.shared.mapping k p) ∙ s in let bad : Some l.0 ≡ None = sym l.1 ∙ ap (order_at t.desk.orders.slots) same ∙ none in absurd (cc)),
+    λ v i j. (let busy = are_orders.marks k v l.0 l.1 (subst (λ (u : Order). IsNamed u v) (sym l.2) (named_there b.goes.followed.site.world.shared.mapping k p v i)) in let bad : true ≡ false = sym busy ∙ idle v (named_by v j) in absurd (cc)),
+    λ s. (let none = get_or_from_slice_get t.desk.orders.slots c.0 None None may.give.vacant in let same : k ≡ c.0 = sym (cache_there b.goes.followed.site.world.shared.mapping k p) ∙ s in let bad : Some l.0 ≡ None = sym l.1 ∙ ap (order_at t.desk.orders.slots) same ∙ none in absurd (cc)),
   ))
     where
       idle : (v : ℕ) → IsNamed o v → get_or t.desk.orders.busy v false ≡ false
@@ -250,32 +245,31 @@ module _ (P A : Type 0) (shape : Shape) (t : Target P) (commit : Option RunningC
   mapped_state_here : (block : OBlock) (c : ℕ) → IsMappedAt (holdings t.desk) block.0 c → state t.desk.space.blocks c ≡ Mapped
   mapped_state_here block c at = get_or_from_slice_get t.desk.space.blocks c Mapped Free (mapped_state unknowing t.desk block.0 c kept at)
 
-  mapped_here : (block : OBlock) (c : ℕ) → IsMappedAt (holdings t.desk) block.0 c → (g.site.world.shared.mapping block.0 ≡ Some c) × (g.site.world.shared.blocks c ≡ MappedThere)
+  mapped_here : (block : OBlock) (c : ℕ) → IsMappedAt (holdings t.desk) block.0 c → (b.goes.followed.site.world.shared.mapping block.0 ≡ Some c) × (b.goes.followed.site.world.shared.blocks c ≡ MappedThere)
   mapped_here block c at = (
-    ap (λ (m : ℕ → Option ℕ). m block.0) g.phase.desk.mapping ∙ stands_there P t.desk kept block.0 c at,
-    g.phase.desk.blocks c ∙ ap (λ (v : Block). block_there v) (mapped_state_here block c at),
+    ap (λ (m : ℕ → Option ℕ). m block.0) b.goes.followed.phase.desk.mapping ∙ stands_there P t.desk kept block.0 c at,
+    b.goes.followed.phase.desk.blocks c ∙ ap (λ (v : Block). block_there v) (mapped_state_here block c at),
   )
 
   -- what is asked there of the block and the cache block of an order that is given
-  may_be_given : (m : Migration) (block : OBlock) (c : CBlock) → MayReserve t.desk c (order_for m block) → MayBeGiven m block.0 c.0 g.site.world.shared
+  may_be_given : (m : Migration) (block : OBlock) (c : CBlock) → MayReserve t.desk c (order_for m block) → MayBeGiven m block.0 c.0 b.goes.followed.site.world.shared
   may_be_given (Promote k) block c may = (
     ap (λ (v : CBlock). v.0) (sym may.lawful.0),
-    ap (λ (m : ℕ → Option ℕ). m block.0) g.phase.desk.mapping ∙ unmapped_there P t.desk kept block.0 may.lawful.2,
-    g.phase.desk.blocks c.0 ∙ ap (λ (v : Block). block_there v) (ap (λ (v : CBlock). state t.desk.space.blocks v.0) may.lawful.0 ∙ get_or_from_slice_get t.desk.space.blocks k.0 Free Free may.lawful.1),
+    ap (λ (m : ℕ → Option ℕ). m block.0) b.goes.followed.phase.desk.mapping ∙ unmapped_there P t.desk kept block.0 may.lawful.2,
+    b.goes.followed.phase.desk.blocks c.0 ∙ ap (λ (v : Block). block_there v) (ap (λ (v : CBlock). state t.desk.space.blocks v.0) may.lawful.0 ∙ get_or_from_slice_get t.desk.space.blocks k.0 Free Free may.lawful.1),
   )
   may_be_given Demote block c may = mapped_here block c.0 may.lawful
   may_be_given Clean block c may = mapped_here block c.0 may.lawful
 
   -- what an order that lives says still
-  may_be_kept : (m : Migration) (block : OBlock) (c : ℕ) → slice_get slots_now c ≡ Some (Some (order_for m block)) → MayBeKept m c g.site.world.shared
-  may_be_kept (Promote k) block c live = (let v = names c (PromoteOrder block k) live in (sym v.0, g.phase.desk.blocks c ∙ ap (λ (b : Block). block_there b) v.1))
+  may_be_kept : (m : Migration) (block : OBlock) (c : ℕ) → slice_get slots_now c ≡ Some (Some (order_for m block)) → MayBeKept m c b.goes.followed.site.world.shared
+  may_be_kept (Promote k) block c live = (let v = names c (PromoteOrder block k) live in (sym v.0, b.goes.followed.phase.desk.blocks c ∙ ap (λ (b : Block). block_there b) v.1))
   may_be_kept Demote block c live = (mapped_here block c (names c (DemoteOrder block) live)).1
   may_be_kept Clean block c live = (mapped_here block c (names c (CleanOrder block) live)).1
 
   images_stay : (m : Migration) (c : ℕ) (s s' : Shared) → TurnedTo (given_by m c) s s' → TurnedTo Stays s s'
   images_stay (Promote k) c s s' d = d
-  images_stay Demote c s s' d = d
-  images_stay Clean c s s' d = d
+  images_stay m c s s' d = d
 
   module _ (migration : Migration) (block : OBlock) (cut : List Extent) (cuts : IsCutInto (whole_block (size P A shape) block) cut) where
     abbrev begun_job : Job
@@ -294,35 +288,35 @@ module _ (P A : Type 0) (shape : Shape) (t : Target P) (commit : Option RunningC
     small c l = let many = kept.slots in let limit = t.desk.geometry.within.cache_to in omega (arith, l, many, limit)
 
     -- it is noted to be at its job, while nobody is told of it there
-    notes_then : (turn : Turn) (orders' : List (Option Order)) (y : Actor) (h : WorldFollowsBy turn Resumes a g.site.world (record (situation shape t devices actors) { orders = orders' }) y) → y.task ≡ Some (begun_job, begun_plan) →
-        NotesAgree (size P A shape) n' (abstract_after_all g.site.world h.records) (told g.notes h.records)
+    notes_then : (turn : Turn) (orders' : List (Option Order)) (y : Actor) (h : WorldFollowsBy turn Resumes a b.goes.followed.site.world (record (situation shape t devices actors) { orders = orders' }) y) → y.task ≡ Some (begun_job, begun_plan) →
+        NotesAgree (size P A shape) n' (abstract_after_all b.goes.followed.site.world h.records) (told b.goes.followed.notes h.records)
     notes_then turn orders' y h task =
-        let at_it = beside P A shape b.goes.images t commit devices actors n b.goes.known g a x ex in
-        let was = there n.doings a (noted_within P A shape b.goes.images t commit devices actors n b.goes.known g a x ex) in
-        notes_followed.resumes begun_job turn a g.site.world _ _ h at_it.0 n g.notes at_it.1 (noted_within P A shape b.goes.images t commit devices actors n b.goes.known g a x ex) g.notes_agree was.0 was.1
+        let at_it = beside P A shape b.goes.images t commit devices actors n b.goes.known b.goes.followed a x ex in
+        let was = there n.doings a (noted_within P A shape b.goes.images t commit devices actors n b.goes.known b.goes.followed a x ex) in
+        notes_followed.resumes begun_job turn a b.goes.followed.site.world _ _ h at_it.0 n b.goes.followed.notes at_it.1 (noted_within P A shape b.goes.images t commit devices actors n b.goes.known b.goes.followed a x ex) b.goes.followed.notes_agree was.0 was.1
 
     -- a migration under an order that is given with it
-    under_given : (o : Order) (c : CBlock) (next : Option ℕ) → MayReserve t.desk c o → IsOrderFor migration block next o → order_there g.site.world.shared.mapping c.0 o ≡ order_of_block block c next → ((v : ℕ) → NamesThere (order_of_block block c next) v → IsNamed o v) → ((b : ℕ) → next ≡ Some b → g.site.world.shared.mapping b ≡ None) →
-        MayBeGiven migration block.0 c.0 g.site.world.shared → ((s' : Shared) → DeskTurnedTo (given_by migration c.0) g.site.world.shared s' → DeskAgrees (reserved t.desk c o false) s') →
+    under_given : (o : Order) (c : CBlock) (next : Option ℕ) → MayReserve t.desk c o → IsOrderFor migration block next o → order_there b.goes.followed.site.world.shared.mapping c.0 o ≡ order_of_block block c next → ((v : ℕ) → NamesThere (order_of_block block c next) v → IsNamed o v) → ((v : ℕ) → next ≡ Some v → b.goes.followed.site.world.shared.mapping v ≡ None) →
+        MayBeGiven migration block.0 c.0 b.goes.followed.site.world.shared → ((s' : Shared) → DeskTurnedTo (given_by migration c.0) b.goes.followed.site.world.shared s' → DeskAgrees (reserved t.desk c o false) s') →
         Goes P A shape (record { devices = devices; commit = commit; phase = Stands (record { words = t.words; desk = reserved t.desk c o false }); actors = slice_set actors a (record x { task = Some (begun_job, begun_plan); orders = o ∷ x.orders }) }) n'
     under_given o c next may of there named_by waits given_there desk_then =
         let desk' = reserved t.desk c o false in
         let y : Actor = record x { task = Some (begun_job, begun_plan); orders = o ∷ x.orders } in
-        let s = g.site.world.shared in
+        let s = b.goes.followed.site.world.shared in
         let less = slice_get_within t.desk.orders.slots c.0 None may.give.vacant in
-        let h = migrations_followed.starts (situation shape t devices actors) a x migration block c next o cut g.site.world ex xt holds some (small c.0 less) cuts
-        (vacant_there t.desk.orders.slots c.0 may.give.vacant) of there (ungiven o block c next may named_by) waits given_there may.mode among g.phase.agrees in
-        let s' = (abstract_after_all g.site.world h.records).shared in
+        let h = migrations_followed.starts (situation shape t devices actors) a x migration block c next o cut b.goes.followed.site.world ex xt holds some (small c.0 less) cuts
+        (vacant_there t.desk.orders.slots c.0 may.give.vacant) of there (ungiven o block c next may named_by) waits given_there may.mode among b.goes.followed.phase.agrees in
+        let s' = (abstract_after_all b.goes.followed.site.world h.records).shared in
         let turned = images_stay migration c.0 s s' h.turned in
         let readable = kept_readable shape.geometry b.goes.images devices.metadata P A (Stands t) commit b.goes.known in
-        leads_on P A shape b.goes.images t commit devices actors n b.goes.known g a x ex (given_by migration c.0) Resumes (record { words = t.words; desk = desk' }) commit devices y n' b.goes.images (slice_set slots_now c.0 (Some o)) h
+        leads_on P A shape b.goes.images t commit devices actors n b.goes.known b.goes.followed a x ex (given_by migration c.0) Resumes (record { words = t.words; desk = desk' }) commit devices y n' b.goes.images (slice_set slots_now c.0 (Some o)) h
         (notes_then (given_by migration c.0) (slice_set slots_now c.0 (Some o)) y h refl) (length-set n.doings a (Some (begun n begun_job))) refl (reserved_stands P shape.geometry b.goes.images t.desk commit devices.metadata c o b.goes.known may)
         (sym (orders_set t.desk.orders.slots c.0 (Some (record { order = o; sectors = sectors_asked t.desk.geometry o; threshold = t.desk.threshold; number = t.desk.orders.given; waits = false })))) (desk_then s' h.desk)
-        (images_followed.stay shape.geometry b.goes.images.committed (later_of b.goes.images) devices.metadata devices.metadata s s' g.phase.images_agree turned readable.read)
-        (λ state e. let r = g.phase.running state e in (turned.1 ∙ r.0, subst (StateTakesClean state) (sym turned.4) r.1))
+        (images_followed.stay shape.geometry b.goes.images.committed (later_of b.goes.images) devices.metadata devices.metadata s s' b.goes.followed.phase.images_agree turned readable.read)
+        (λ state e. let r = b.goes.followed.phase.running state e in (turned.1 ∙ r.0, subst (StateTakesClean state) (sym turned.4) r.1))
 
     -- one under an order that its actor has kept
-    again : (o : Order) (next : Option ℕ) → Contains x.orders o → IsOrderFor migration block next o → ((c : CBlock) → slice_get slots_now c.0 ≡ Some (Some o) → (order_there g.site.world.shared.mapping c.0 o ≡ order_of_block block c next) × MayBeKept migration c.0 g.site.world.shared) →
+    again : (o : Order) (next : Option ℕ) → Contains x.orders o → IsOrderFor migration block next o → ((c : CBlock) → slice_get slots_now c.0 ≡ Some (Some o) → (order_there b.goes.followed.site.world.shared.mapping c.0 o ≡ order_of_block block c next) × MayBeKept migration c.0 b.goes.followed.site.world.shared) →
         Goes P A shape (record { devices = devices; commit = commit; phase = Stands t; actors = slice_set actors a (record x { task = Some (begun_job, begun_plan) }) }) n'
     again o next has of kept_there =
         let had = Contains-append_left x.orders x.awaiting o has in
@@ -330,38 +324,38 @@ module _ (P A : Type 0) (shape : Shape) (t : Target P) (commit : Option RunningC
         let here : slice_get slots_now l.cache.0 ≡ Some (Some o) = slot_there t.desk.orders.slots l.cache.0 l.live l.there ∙ ap (λ (q : Order). Some (Some q)) l.same in
         let y : Actor = record x { task = Some (begun_job, begun_plan) } in
         let k = kept_there l.cache here in
-        let h = migrations_followed.again (situation shape t devices actors) a x migration block l.cache next o cut g.site.world ex xt holds some (small l.cache.0 (slot_within t.desk.orders.slots l.cache.0 l.live l.there)) cuts here of k.0 has
-        (λ d z ez i. b.keeping.owned.one d a z x o ez ex i had) k.1 among g.phase.agrees in
-        stays_on P A shape b.goes.images t commit devices actors n b.goes.known g a x ex Resumes t.words devices y n' h (notes_then Stays slots_now y h refl) (length-set n.doings a (Some (begun n begun_job))) refl refl
+        let h = migrations_followed.again (situation shape t devices actors) a x migration block l.cache next o cut b.goes.followed.site.world ex xt holds some (small l.cache.0 (slot_within t.desk.orders.slots l.cache.0 l.live l.there)) cuts here of k.0 has
+        (λ d z ez i. b.keeping.owned.one d a z x o ez ex i had) k.1 among b.goes.followed.phase.agrees in
+        stays_on P A shape b.goes.images t commit devices actors n b.goes.known b.goes.followed a x ex Resumes t.words devices y n' h (notes_then Stays slots_now y h refl) (length-set n.doings a (Some (begun n begun_job))) refl refl
 
   -- ---- any start
 
   -- what comes of the desk where a migration's own order is given
-  desk_given : (m : Migration) (block : OBlock) (c : CBlock) (may : MayReserve t.desk c (order_for m block)) (s' : Shared) → DeskTurnedTo (given_by m c.0) g.site.world.shared s' → DeskAgrees (reserved t.desk c (order_for m block) false) s'
+  desk_given : (m : Migration) (block : OBlock) (c : CBlock) (may : MayReserve t.desk c (order_for m block)) (s' : Shared) → DeskTurnedTo (given_by m c.0) b.goes.followed.site.world.shared s' → DeskAgrees (reserved t.desk c (order_for m block) false) s'
   desk_given (Promote k) block c may s' d =
       let less = slice_get_within t.desk.orders.slots c.0 None may.give.vacant in
       let many_slots = kept.slots in
       let many_blocks = kept.blocks in
-      subst (λ (v : CBlock). DeskAgrees (reserved t.desk c (PromoteOrder block v) false) s') may.lawful.0 (desk_reserves P t.desk g.site.world.shared s' g.phase.desk block c (omega (arith, less, many_slots, many_blocks)) d.0 d.1)
-  desk_given Demote block c may s' d = desk_stays P t.desk g.site.world.shared s' g.phase.desk (reserved t.desk c (DemoteOrder block) false) refl refl d.0 d.1
-  desk_given Clean block c may s' d = desk_stays P t.desk g.site.world.shared s' g.phase.desk (reserved t.desk c (CleanOrder block) false) refl refl d.0 d.1
+      subst (λ (v : CBlock). DeskAgrees (reserved t.desk c (PromoteOrder block v) false) s') may.lawful.0 (desk_reserves P t.desk b.goes.followed.site.world.shared s' b.goes.followed.phase.desk block c (omega (arith, less, many_slots, many_blocks)) d.0 d.1)
+  desk_given Demote block c may s' d = desk_stays P t.desk b.goes.followed.site.world.shared s' b.goes.followed.phase.desk (reserved t.desk c (DemoteOrder block) false) refl refl d.0 d.1
+  desk_given Clean block c may s' d = desk_stays P t.desk b.goes.followed.site.world.shared s' b.goes.followed.phase.desk (reserved t.desk c (CleanOrder block) false) refl refl d.0 d.1
 
   -- an order of its own that it has kept
   again_plain : (m : Migration) (block : OBlock) (cut : List Extent) (cuts : IsCutInto (whole_block (size P A shape) block) cut) → Contains x.orders (order_for m block) →
       Goes P A shape (record { devices = devices; commit = commit; phase = Stands t; actors = slice_set actors a (record x { task = Some (Migrate m block, migrates (size P A shape) m block cut) }) }) (put n a (Some (begun n (Migrate m block))))
-  again_plain m block cut cuts has = again m block cut cuts (order_for m block) None has (inl (refl, refl)) (λ c here. (plain_there g.site.world.shared.mapping m block c, may_be_kept m block c.0 here))
+  again_plain m block cut cuts has = again m block cut cuts (order_for m block) None has (inl (refl, refl)) (λ c here. (plain_there b.goes.followed.site.world.shared.mapping m block c, may_be_kept m block c.0 here))
 
   -- where the block that was to leave has left, its replacement is the order of the one that follows
   follows_there : (old block : OBlock) (cache : CBlock) → slice_get t.desk.space.blocks cache.0 ≡ Some Reserved → (c : CBlock) → slice_get slots_now c.0 ≡ Some (Some (ReplaceOrder old block cache)) →
-      (order_there g.site.world.shared.mapping c.0 (ReplaceOrder old block cache) ≡ order_of_block block c None) × MayBeKept (Promote cache) c.0 g.site.world.shared
+      (order_there b.goes.followed.site.world.shared.mapping c.0 (ReplaceOrder old block cache) ≡ order_of_block block c None) × MayBeKept (Promote cache) c.0 b.goes.followed.site.world.shared
   follows_there old block cache at c here =
       let v = names c.0 (ReplaceOrder old block cache) here in
       let is : state t.desk.space.blocks c.0 ≡ Reserved = ap (state t.desk.space.blocks) v.0 ∙ get_or_from_slice_get t.desk.space.blocks cache.0 Reserved Free at in (
         elim v.2 [
           | inl m ↦ absurd (let bad : Mapped ≡ Reserved = sym (mapped_state_here old c.0 m) ∙ is in cc)
-          | inr gone ↦ ap (λ (l : Option ℕ). replacement_there (is_at l c.0) old.0 block.0 c.0) (ap (λ (m : ℕ → Option ℕ). m old.0) g.phase.desk.mapping ∙ unmapped_there P t.desk kept old.0 gone.0)
+          | inr gone ↦ ap (λ (l : Option ℕ). replacement_there (is_at l c.0) old.0 block.0 c.0) (ap (λ (m : ℕ → Option ℕ). m old.0) b.goes.followed.phase.desk.mapping ∙ unmapped_there P t.desk kept old.0 gone.0)
         ],
-        (sym v.0, g.phase.desk.blocks c.0 ∙ ap (λ (b : Block). block_there b) is),
+        (sym v.0, b.goes.followed.phase.desk.blocks c.0 ∙ ap (λ (b : Block). block_there b) is),
       )
 
   pub any_start : (migration : Migration) (block : OBlock) (chosen : Chosen P A) → StartGives shape (Stands t) (Some x) (Migrate migration block) Started chosen →
@@ -372,11 +366,11 @@ module _ (P A : Type 0) (shape : Shape) (t : Target P) (commit : Option RunningC
   ]
   any_start Demote block (Cut cut) h = again_plain Demote block cut h.0 h.1
   any_start Clean block (Cut cut) h = again_plain Clean block cut h.0 h.1
-  any_start migration block (Orders cut c) h = under_given migration block cut h.0 (order_for migration block) c None h.1 (inl (refl, refl)) (plain_there g.site.world.shared.mapping migration block c) (plain_named migration block c) (λ b e. absurd (let bad : None ≡ Some b = e in cc)) (may_be_given migration block c h.1) (desk_given migration block c h.1)
+  any_start migration block (Orders cut c) h = under_given migration block cut h.0 (order_for migration block) c None h.1 (inl (refl, refl)) (plain_there b.goes.followed.site.world.shared.mapping migration block c) (plain_named migration block c) (λ b e. absurd (let bad : None ≡ Some b = e in cc)) (may_be_given migration block c h.1) (desk_given migration block c h.1)
   any_start migration block chosen h = absurd h
 
   -- while the block that is to leave stands there, its replacement is its order
-  leaves_there : (old new : OBlock) (k : CBlock) (c : ℕ) → IsMappedAt (holdings t.desk) old.0 c → order_there g.site.world.shared.mapping c (ReplaceOrder old new k) ≡ record { block = old.0; cache = c; next = Some new.0 }
+  leaves_there : (old new : OBlock) (k : CBlock) (c : ℕ) → IsMappedAt (holdings t.desk) old.0 c → order_there b.goes.followed.site.world.shared.mapping c (ReplaceOrder old new k) ≡ record { block = old.0; cache = c; next = Some new.0 }
   leaves_there old new k c at = ap (λ (l : Option ℕ). replacement_there (is_at l c) old.0 new.0 c) (mapped_here old c at).0 ∙ ap (λ (v : Bool). replacement_there v old.0 new.0 c) (eq-eqb c c refl)
 
   pub any_replacement : (old new : OBlock) (chosen : Chosen P A) → StartGives shape (Stands t) (Some x) (Replace old new) Started chosen →
@@ -384,8 +378,8 @@ module _ (P A : Type 0) (shape : Shape) (t : Target P) (commit : Option RunningC
   any_replacement old new (Cut cut) (cuts, (cache, has, m)) = again Demote old cut cuts (ReplaceOrder old new cache) (Some new.0) has (inr (refl, refl))
       (λ c here. let v = names c.0 (ReplaceOrder old new cache) here in let at = subst (λ (k : ℕ). IsMappedAt (holdings t.desk) old.0 k) (sym v.0) m in (leaves_there old new cache c.0 at, (mapped_here old c.0 at).1))
   any_replacement old new (Orders cut c) h = under_given Demote old cut h.0 (ReplaceOrder old new c) c (Some new.0) h.1 (inr (refl, refl)) (leaves_there old new c c.0 h.1.lawful.1) named_by
-      (λ b e. let both : Some new.0 ≡ Some b = e in let same : new.0 ≡ b = cc in subst (λ (k : ℕ). g.site.world.shared.mapping k ≡ None) same (ap (λ (m : ℕ → Option ℕ). m new.0) g.phase.desk.mapping ∙ unmapped_there P t.desk kept new.0 h.1.lawful.2)) (mapped_here old c.0 h.1.lawful.1)
-      (λ s' d. desk_stays P t.desk g.site.world.shared s' g.phase.desk (reserved t.desk c (ReplaceOrder old new c) false) refl refl d.0 d.1)
+      (λ v e. let both : Some new.0 ≡ Some v = e in let same : new.0 ≡ v = cc in subst (λ (k : ℕ). b.goes.followed.site.world.shared.mapping k ≡ None) same (ap (λ (m : ℕ → Option ℕ). m new.0) b.goes.followed.phase.desk.mapping ∙ unmapped_there P t.desk kept new.0 h.1.lawful.2)) (mapped_here old c.0 h.1.lawful.1)
+      (λ s' d. desk_stays P t.desk b.goes.followed.site.world.shared s' b.goes.followed.phase.desk (reserved t.desk c (ReplaceOrder old new c) false) refl refl d.0 d.1)
     where
       named_by : (v : ℕ) → NamesThere (order_of_block old c (Some new.0)) v → IsNamed (ReplaceOrder old new c) v
       named_by v (inl e) = inl e

@@ -109,10 +109,7 @@ work_right here (Migrating m part) place dirty e = migrating_right here part m p
 -- what a job lets go seals nothing
 pub lets_go_right : (here : Option ℕ) (job : BlockJob) (access : Access) (b : OBlock) → SealsRight here (Cell (Release access b) ∷ gives_up job)
 lets_go_right here (Reading part) access b = tt
-lets_go_right here (Writing part) access b = tt
-lets_go_right here (Displacing part) access b = tt
-lets_go_right here (Invalidating part) access b = tt
-lets_go_right here (Migrating m part) access b = tt
+lets_go_right here job access b = tt
 
 -- ---- a step on the words
 
