@@ -81,7 +81,7 @@ use Rattle.wb_simulation.specs.Actors.{ticket_in}
 use Rattle.wb_promise.specs.Headline.{place_of}
 use Rattle.wb_promise.specs.Sealed.{number_of}
 use Rattle.wb_format.specs.declared.root.Root.{Root}
-use Rattle.wb_headline.proofs.Targets.{landed_or, standing, actor_is, beside, failing_same, noted_within, leads_on, stays_on}
+use Rattle.wb_headline.proofs.Targets.{landed_or, standing, actor_is, beside, failing_same, noted_within, leads_on, stays_on, unnoted}
 use Rattle.wb_disk.specs.Crash.{Choice}
 use Rattle.wb_tasks.proofs.Readiness.{is_own_step}
 use Rattle.wb_stage.specs.Stages.{is_all_done}
@@ -130,18 +130,12 @@ module _ (P A : Type 0) (shape : Shape) (images : Images) (t : Target P) (commit
   noted_less : Rattle.std.proofs.Common.◌<◌ a (length n.doings)
   noted_less = noted_within P A shape images t commit devices actors n known f a x ex
 
-  pub quiet_notes : {turn : Turn} {mode' : Mode} {words' : Words} {commits' : DeskCommits} {orders' : List (Option Order)} {devices' : Devices (List History)} {y : Actor} (g : WorldFollowsBy turn Quietly a f.site.world (record (situation shape t devices' actors) { mode = mode'; words = words'; commits = commits'; orders = orders' }) y) →
-      NotesAgree (size P A shape) n (abstract_after_all f.site.world g.records) (told f.notes g.records)
-  quiet_notes {turn} {mode'} {words'} {commits'} {orders'} {devices'} {y} g =
-      let b = beside P A shape images t commit devices actors n known f a x ex in
-      notes_followed.quiet turn a f.site.world _ _ g b.0 n f.notes b.1 noted_less f.notes_agree
-
   -- ---- steps on devices
 
   module _ (turn : Turn) (step : DeviceStep) (got : Got) (contents : List Bytes) (t' : Target P) (commit' : Option RunningCommit) (devices' : Devices (List History)) (images' : Images) (plain : IsStill (Device step))
       (g : WorldFollowsBy turn Quietly a f.site.world (situation shape t' devices' actors) (after_step (flush_or_suspend clean) plan got x)) where
     device_notes : NotesAgree (size P A shape) (device_n step got) (abstract_after_all f.site.world g.records) (told f.notes g.records)
-    device_notes = let e = failing_same doing step got in notes_followed.redone (size P A shape) n (abstract_after_all f.site.world g.records) (told f.notes g.records) a doing (failing doing step got) (quiet_notes g) noted e.0 e.1
+    device_notes = let e = failing_same doing step got in notes_followed.redone (size P A shape) n (abstract_after_all f.site.world g.records) (told f.notes g.records) a doing (failing doing step got) (unnoted P A shape images t commit devices actors n known f a x ex notes_followed.quiet g f.notes_agree) noted e.0 e.1
 
     on_device : AtDesk shape.geometry images' t'.desk commit' devices'.metadata → DeskAgrees t'.desk (abstract_after_all f.site.world g.records).shared → ImagesAgree shape.geometry images'.committed (later_of images') devices'.metadata (abstract_after_all f.site.world g.records).shared →
         ((state : Stored) → images'.running ≡ Some state → ((abstract_after_all f.site.world g.records).shared.running ≡ locations state) × StateTakesClean state (abstract_after_all f.site.world g.records).shared.running_clean) → Goes P A shape (then_is t' commit' devices' (Device step) got) (noted_step shape t.desk.mode [] n a (Some (Some doing)) (Device step) got contents)
@@ -295,7 +289,7 @@ module _ (P A : Type 0) (shape : Shape) (images : Images) (t : Target P) (commit
           let same : b.now.committed ≡ images.committed = same_one b.turn images b.now (ap (λ (i : Images). i.running) q.are) b.turned in
           let later : later_of b.now ≡ None = ap later_of l.under.are ∙ ap (λ (v : CommitSteps). if is_written v then Some l.of.new else None) steps in
           subst (λ (v : Actor). Goes P A shape (record { devices = devices; commit = Some c; phase = Stands t'; actors = slice_set actors a v }) n) (sym is_then)
-          (leads_on P A shape images t commit devices actors n known f a x ex (Begins clean) Quietly t' (Some c) devices y n b.now (live_orders t'.desk) g (quiet_notes g) refl refl b.kept.0 refl (desk_begins P t.desk s s' f.phase.desk tree c.image (begun_places clean x.seen hint_of t.desk c.image tree begun) g.desk.0 g.desk.1) (subst (λ (o : Option Stored). ImagesAgree shape.geometry b.now.committed o devices.metadata s') (sym later) (subst (λ (v : Stored). ImagesAgree shape.geometry v None devices.metadata s') (sym same) begun_there.0)) (λ state e. let is = some_is b.kept.1.0 state (sym b.kept.1.1 ∙ e) in (
+          (leads_on P A shape images t commit devices actors n known f a x ex (Begins clean) Quietly t' (Some c) devices y n b.now (live_orders t'.desk) g (unnoted P A shape images t commit devices actors n known f a x ex notes_followed.quiet g f.notes_agree) refl refl b.kept.0 refl (desk_begins P t.desk s s' f.phase.desk tree c.image (begun_places clean x.seen hint_of t.desk c.image tree begun) g.desk.0 g.desk.1) (subst (λ (o : Option Stored). ImagesAgree shape.geometry b.now.committed o devices.metadata s') (sym later) (subst (λ (v : Stored). ImagesAgree shape.geometry v None devices.metadata s') (sym same) begun_there.0)) (λ state e. let is = some_is b.kept.1.0 state (sym b.kept.1.1 ∙ e) in (
             begun_there.1 ∙ f.phase.desk.mapping ∙ sym (shown_places clean x.seen (hint_of t.desk.policy) t.desk.tree.entries) ∙ ap (λ es. Rattle.wb_simulation.specs.Opened.located es) (sym b.kept.1.2) ∙ ap locations is,
             subst (StateTakesClean state) (sym g.turned.4) (begun_takes clean x.seen hint_of t.desk c.image tree t.words s state begun f.phase.agrees.words_agree all
                 (ap (λ (v : Stored). v.root.clean) (sym (some_is l.of.new state (sym (ap (λ (i : Images). i.running) l.under.are) ∙ e))) ∙ ap (λ (r : Root). r.clean) l.under.can.root_is ∙ ap (λ (i : Image). i.root.clean) l.under.image)
@@ -312,7 +306,7 @@ module _ (P A : Type 0) (shape : Shape) (images : Images) (t : Target P) (commit
   desk_says : (step : DeskStep) (got : Got) (y : Actor) → actor_then {P = P} {A = A} shape (Stands t) devices x (Desk step) got ≡ y → WorldFollows Quietly a f.site.world now y → Goes P A shape (then_is t commit devices (Desk step) got) n
   desk_says step got y is g =
       subst (λ (v : Actor). Goes P A shape (record { devices = devices; commit = commit; phase = Stands t; actors = slice_set actors a v }) n) (sym is)
-      (stays_on P A shape images t commit devices actors n known f a x ex Quietly t.words devices y n g (quiet_notes g) refl refl refl)
+      (stays_on P A shape images t commit devices actors n known f a x ex Quietly t.words devices y n g (unnoted P A shape images t commit devices actors n known f a x ex notes_followed.quiet g f.notes_agree) refl refl refl)
 
   -- a suspend begins none
   pub begin_refused : (refusal : Refusal) (allowed : ℕ) → Desk (BeginCommit allowed) ≡ want plan → clean ≡ true → IsBeginRefused t.desk refusal → Goes P A shape (then_is t commit devices (Desk (BeginCommit allowed)) (GotRefused refusal)) n
@@ -354,7 +348,7 @@ module _ (P A : Type 0) (shape : Shape) (images : Images) (t : Target P) (commit
       let known' = broken_over P shape.geometry images t.desk commit devices.metadata known in
       let readable = kept_readable shape.geometry images devices.metadata P A (Stands t) commit known in
       subst (λ (v : Actor). Goes P A shape (record { devices = devices; commit = commit; phase = Stands t'; actors = slice_set actors a v }) n) (sym (goes_still (Desk BreakCommit) Done tt))
-      (leads_on P A shape images t commit devices actors n known f a x ex Stays Quietly t' commit devices y n images (live_orders t'.desk) g (quiet_notes g) refl refl known' refl (desk_stays P t.desk s s' f.phase.desk (commit_broken t.desk) refl refl g.desk.0 g.desk.1)
+      (leads_on P A shape images t commit devices actors n known f a x ex Stays Quietly t' commit devices y n images (live_orders t'.desk) g (unnoted P A shape images t commit devices actors n known f a x ex notes_followed.quiet g f.notes_agree) refl refl known' refl (desk_stays P t.desk s s' f.phase.desk (commit_broken t.desk) refl refl g.desk.0 g.desk.1)
       (images_followed.stay shape.geometry images.committed (later_of images) devices.metadata devices.metadata s s' f.phase.images_agree g.turned readable.read) (λ state e. let r = f.phase.running state e in (g.turned.1 ∙ r.0, subst (StateTakesClean state) (sym g.turned.4) r.1)))
 
   -- the commit ends
@@ -375,7 +369,7 @@ module _ (P A : Type 0) (shape : Shape) (images : Images) (t : Target P) (commit
       let agree = images_followed.end shape.geometry e.kept.1.0 devices.metadata s s' g.turned (f.phase.running e.kept.1.0 e.kept.1.1).0 (f.phase.running e.kept.1.0 e.kept.1.1).1 read in
       subst (λ (d : DeskState P). Goes P A shape (then_is (record { words = t.words; desk = d }) None devices (Desk EndCommit) Done) n) (sym is)
       (subst (λ (y : Actor). Goes P A shape (record { devices = devices; commit = None; phase = Stands t'; actors = slice_set actors a y }) n) (sym (goes_still (Desk EndCommit) Done tt))
-      (leads_on P A shape images t commit devices actors n known f a x ex Ends Quietly t' None devices y n e.now (live_orders t'.desk) g (quiet_notes g) refl refl known' refl (desk_ends P t.desk s s' f.phase.desk g.desk.0 g.desk.1) (subst (λ (i : Images). ImagesAgree shape.geometry i.committed (later_of i) devices.metadata s') (sym one) agree) (λ state r. absurd (let bad : None ≡ Some state = sym (ap (λ (i : Images). i.running) one) ∙ r in cc))))
+      (leads_on P A shape images t commit devices actors n known f a x ex Ends Quietly t' None devices y n e.now (live_orders t'.desk) g (unnoted P A shape images t commit devices actors n known f a x ex notes_followed.quiet g f.notes_agree) refl refl known' refl (desk_ends P t.desk s s' f.phase.desk g.desk.0 g.desk.1) (subst (λ (i : Images). ImagesAgree shape.geometry i.committed (later_of i) devices.metadata s') (sym one) agree) (λ state r. absurd (let bad : None ≡ Some state = sym (ap (λ (i : Images). i.running) one) ∙ r in cc))))
 
   -- ---- the shared words, and the answer
 
@@ -384,7 +378,7 @@ module _ (P A : Type 0) (shape : Shape) (images : Images) (t : Target P) (commit
   told_so step y is g =
       subst (λ (y : Actor). Goes P A shape (record { devices = devices; commit = commit; phase = Stands (record { words = words_after t.words step; desk = t.desk }); actors = slice_set actors a y }) n) (sym is)
       (stays_on P A shape images t commit devices actors n known f a x ex Quietly (words_after t.words step) devices y n g
-      (quiet_notes g) refl refl refl)
+      (unnoted P A shape images t commit devices actors n known f a x ex notes_followed.quiet g f.notes_agree) refl refl refl)
 
   pub told_still : (step : CellStep) → IsStill (Cell step) → WorldFollows Quietly a f.site.world (record now { words = words_after t.words step }) (stepped_actor t.words (flush_or_suspend clean) plan step x) →
       Goes P A shape (then_is (record { words = words_after t.words step; desk = t.desk }) commit devices (Cell step) (got_of (result_of t.words step))) n

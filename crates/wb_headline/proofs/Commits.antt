@@ -65,10 +65,10 @@ use Rattle.wb_promise.specs.Headline.{place_of}
 use Rattle.wb_promise.specs.Sealed.{number_of}
 use Rattle.wb_headline.proofs.Seeing.{orders_set, slot_there, slot_within}
 use Rattle.wb_headline.proofs.Orders.{found_of, none_dropped}
-use Rattle.wb_headline.proofs.Targets.{standing, actor_is, beside, noted_within, leads_on, stays_on}
+use Rattle.wb_headline.proofs.Targets.{standing, actor_is, beside, noted_within, leads_on, stays_on, unnoted}
 use Rattle.wb_disk.specs.Crash.{Choice}
 use Rattle.wb_promise.specs.Happenings.{Chosen, Plain, Commits, Asks, Gives, Falters, MayFailAt}
-use Rattle.wb_headline.proofs.Advancing.{by_end, by_put, by_sync, by_put_fault, syncs, by_sync_fault, Failed_by, Done_by, mine, sync_fails, goes_still, quiet_notes, asked_then, begins, begin_refused, lead_refused, is_served, gets_ticket, breaks, told_so, told_still, looks_at_fail, sets_failed, answers}
+use Rattle.wb_headline.proofs.Advancing.{by_end, by_put, by_sync, by_put_fault, syncs, by_sync_fault, Failed_by, Done_by, mine, sync_fails, goes_still, asked_then, begins, begin_refused, lead_refused, is_served, gets_ticket, breaks, told_so, told_still, looks_at_fail, sets_failed, answers}
 
 module _ (P A : Type 0) (shape : Shape) (images : Images) (t : Target P) (commit : Option RunningCommit) (devices : Devices (List History)) (actors : List Actor) (n : Notes) (known : MetadataKept {P = P} {A = A} shape.geometry images (Stands t) commit devices.metadata)
     (f : Followed P A shape images (standing P A shape images t commit devices actors n) n) (rule : LockRule shape.geometry.origin_blocks t.words (cards_of actors)) (all_suited : AllSuited shape.geometry.origin_blocks actors) (k : KeepingAt t actors) (a : ℕ) (x : Actor) (ex : slice_get actors a ≡ Some x) (plan : Plan)
@@ -104,7 +104,7 @@ module _ (P A : Type 0) (shape : Shape) (images : Images) (t : Target P) (commit
       by_order None e d =
           let g = commit_steps_followed.releases false (situation shape t devices actors) block a x plan f.site.world wanted in
           subst To (sym d) (subst (λ (os : List Order). Goes P A shape (record { devices = devices; commit = commit; phase = Stands t; actors = slice_set actors a (record x { task = Some (Flush, after plan Done); awaiting = os }) }) n) (sym (none_dropped block x.awaiting e))
-          (stays_on P A shape images t commit devices actors n known f a x ex Quietly t.words devices (after_step Flush plan Done x) n g (quiet_notes P A shape images t commit devices actors n known f rule a x ex false plan xt doing noted job_is g) refl refl refl))
+          (stays_on P A shape images t commit devices actors n known f a x ex Quietly t.words devices (after_step Flush plan Done x) n g (unnoted P A shape images t commit devices actors n known f a x ex notes_followed.quiet g f.notes_agree) refl refl refl))
       by_order (Some order) e d =
           let y : Actor = record x { task = Some (Flush, after plan Done); awaiting = dropped block x.awaiting } in
           let mine = found_of block x.awaiting order e in
@@ -115,13 +115,12 @@ module _ (P A : Type 0) (shape : Shape) (images : Images) (t : Target P) (commit
           let inside = slot_within t.desk.orders.slots l.cache.0 l.live l.there in
           let many_slots = known.is.kept.slots in
           let many_blocks = known.is.kept.blocks in
-          let b = beside P A shape images t commit devices actors n known f a x ex in
           let g = commit_steps_followed.gives_up (situation shape t devices actors) block a x plan l.cache.0 order (dropped block x.awaiting) f.site.world among wanted here
           (λ c z ez h. owned.one c a z x order ez ex h had) in
           let s' = (abstract_after_all f.site.world g.records).shared in
           let readable = kept_readable shape.geometry images devices.metadata P A (Stands t) commit known in
           subst To (sym is) (leads_on P A shape images t commit devices actors n known f a x ex (GivesUp l.cache.0) Releases (record { words = t.words; desk = released t.desk l.cache }) commit devices y n images (slice_set (live_orders t.desk) l.cache.0 None) g
-          (notes_followed.released (GivesUp l.cache.0) a f.site.world _ _ g b.0 n f.notes b.1 (noted_within P A shape images t commit devices actors n known f a x ex) f.notes_agree)
+          (unnoted P A shape images t commit devices actors n known f a x ex notes_followed.released g f.notes_agree)
           refl refl (subst (λ (v : DeskState P). AtDesk shape.geometry images v commit devices.metadata) is (given_up_stands P shape.geometry images t.desk commit devices.metadata new order known d))
           (sym (orders_set t.desk.orders.slots l.cache.0 None)) (desk_releases P t.desk f.site.world.shared s' f.phase.desk l.cache (omega (arith, inside, many_slots, many_blocks)) g.desk.0 g.desk.1)
           (images_followed.stay shape.geometry images.committed (later_of images) devices.metadata devices.metadata f.site.world.shared s' f.phase.images_agree g.turned readable.read) (λ state e. let r = f.phase.running state e in (g.turned.1 ∙ r.0, subst (StateTakesClean state) (sym g.turned.4) r.1)))

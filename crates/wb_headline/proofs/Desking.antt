@@ -32,13 +32,9 @@ begun_there (Quarantined true early) = refl
 begun_there b = refl
 
 ended_there : (b : Block) → block_there (block_ended b) ≡ ended (block_there b)
-ended_there Free = refl
-ended_there Mapped = refl
-ended_there Reserved = refl
 ended_there (Quarantined true true) = refl
-ended_there (Quarantined true false) = refl
 ended_there (Quarantined false true) = refl
-ended_there (Quarantined false false) = refl
+ended_there b = refl
 
 released_there : (b : Block) → block_there (block_released b) ≡ block_given_back (block_there b)
 released_there (Quarantined true early) = refl

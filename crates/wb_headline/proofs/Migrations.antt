@@ -85,7 +85,7 @@ use Rattle.wb_simulation.specs.Carried.{IsOrderFor}
 use Rattle.wb_runs.proofs.Located.{stands_alone, unmapped_there}
 use Rattle.wb_headline.specs.Desks.{live_orders, orders_living, DeskAgrees, block_there}
 use Rattle.wb_headline.proofs.Following.{situation, commits_of, size, Followed, Goes}
-use Rattle.wb_headline.proofs.Targets.{standing, actor_is, beside, failing_same, noted_within, stays_on, leads_on}
+use Rattle.wb_headline.proofs.Targets.{standing, actor_is, beside, failing_same, noted_within, stays_on, leads_on, unnoted}
 use Rattle.wb_headline.proofs.Orders.{keeps_so, leaves_from, left, none_waits, of_order, past, stands_so, at_there, live_at, for_block, only_held, only_of}
 use Rattle.wb_headline.proofs.Carried.{own, looks_seal, looks_number}
 use Rattle.wb_headline.proofs.Desking.{desk_maps, desk_releases, desk_unmaps}
@@ -107,13 +107,6 @@ module _ (P A : Type 0) (shape : Shape) (images : Images) (t : Target P) (commit
   noted_less : a < length n.doings
   noted_less = noted_within P A shape images t commit devices actors n known f a x ex
 
-  -- a migration's steps are not noted
-  pub carried_notes : {turn : Turn} {mode' : Mode} {words' : Words} {commits' : Commits} {orders' : List (Option Order)} {devices' : Devices (List History)} {y : Actor} (g : WorldFollowsBy turn Carries a f.site.world (record (situation shape t devices' actors) { mode = mode'; words = words'; commits = commits'; orders = orders' }) y) →
-      NotesAgree (size P A shape) n (abstract_after_all f.site.world g.records) (told f.notes g.records)
-  carried_notes {turn} {mode'} {words'} {commits'} {orders'} {devices'} {y} g =
-      let b = beside P A shape images t commit devices actors n known f a x ex in
-      notes_followed.carries turn a f.site.world _ _ g b.0 n f.notes b.1 noted_less f.notes_agree
-
   module _ (migration : Migration) (block : OBlock) (plan : Plan) (xt : x.task ≡ Some (Migrate migration block, plan)) (suits : Suits shape.geometry.origin_blocks plan x.card) (doing : Doing) (noted : slice_get n.doings a ≡ Some (Some doing)) (job_is : doing.job ≡ Migrate migration block) where
     abbrev migrating_job : Job
     migrating_job = Migrate migration block
@@ -130,7 +123,7 @@ module _ (P A : Type 0) (shape : Shape) (images : Images) (t : Target P) (commit
         let g = migrations_followed.cells now shape.geometry.origin_blocks a x migration block plan step f.site.world rule (wants next) suits sees in
         subst (λ (y : Actor). Goes P A shape (record { devices = devices; commit = commit; phase = Stands (record { words = words_after t.words step; desk = t.desk }); actors = slice_set actors a y }) n) (sym (actor_is P A shape (Stands t) devices x migrating_job plan (Cell step) (got_of (result_of t.words step)) xt))
         (stays_on P A shape images t commit devices actors n known f a x ex Carries (words_after t.words step) devices y n g
-        (carried_notes g) refl refl refl)
+        (unnoted P A shape images t commit devices actors n known f a x ex notes_followed.carries g f.notes_agree) refl refl refl)
 
     -- on a device
     module _ (step : DeviceStep) (got : Got) (contents : List Bytes) (devices' : Devices (List History)) (y : Actor) (is : actor_then {P = P} {A = A} shape (Stands t) devices x (Device step) got ≡ y)
@@ -139,7 +132,7 @@ module _ (P A : Type 0) (shape : Shape) (images : Images) (t : Target P) (commit
       on_device same =
           let mid = failing doing step got in
           let e = failing_same doing step got in
-          let notes = notes_followed.redone (size P A shape) n (abstract_after_all f.site.world g.records) (told f.notes g.records) a doing mid (carried_notes g) noted e.0 e.1 in
+          let notes = notes_followed.redone (size P A shape) n (abstract_after_all f.site.world g.records) (told f.notes g.records) a doing mid (unnoted P A shape images t commit devices actors n known f a x ex notes_followed.carries g f.notes_agree) noted e.0 e.1 in
           subst (λ (q : Job). Goes P A shape (record { devices = devices'; commit = commit; phase = Stands t; actors = slice_set actors a (actor_then {P = P} {A = A} shape (Stands t) devices x (Device step) got) }) (device_note shape t.desk.mode (put n a (Some mid)) a mid q step got contents)) (sym job_is)
           (subst (λ (v : Actor). Goes P A shape (record { devices = devices'; commit = commit; phase = Stands t; actors = slice_set actors a v }) (put n a (Some mid))) (sym is)
           (stays_on P A shape images t commit devices actors n known f a x ex Carries t.words devices' y (put n a (Some mid)) g notes (length-set n.doings a (Some mid)) refl same))
@@ -179,7 +172,7 @@ module _ (P A : Type 0) (shape : Shape) (images : Images) (t : Target P) (commit
         let g = migrations_followed.is_refused now shape.geometry.origin_blocks a x migration block b c plan refusal f.site.world (wants next) suits in
         subst (λ (y : Actor). Goes P A shape (record { devices = devices; commit = commit; phase = Stands t; actors = slice_set actors a y }) n) (sym (actor_is P A shape (Stands t) devices x migrating_job plan (Desk (Map b c)) (GotRefused refusal) xt))
         (stays_on P A shape images t commit devices actors n known f a x ex Carries t.words devices y n g
-        (carried_notes g) refl refl refl)
+        (unnoted P A shape images t commit devices actors n known f a x ex notes_followed.carries g f.notes_agree) refl refl refl)
 
     -- it is answered
     pub answers : (answer : Answer) (shown contents : List Bytes) → End answer ≡ want plan →
@@ -270,7 +263,7 @@ module _ (P A : Type 0) (shape : Shape) (t : Target P) (commit : Option RunningC
       let readable = kept_readable shape.geometry b.goes.images devices.metadata P A (Stands t) commit b.goes.known in
       subst (λ (v : Actor). Goes P A shape (record { devices = devices; commit = commit; phase = Stands (record { words = t.words; desk = desk' }); actors = slice_set actors a v }) n) (sym is)
       (leads_on P A shape b.goes.images t commit devices actors n b.goes.known b.goes.followed a x ex turn Carries (record { words = t.words; desk = desk' }) commit devices y n b.goes.images orders' g
-      (carried_notes P A shape b.goes.images t commit devices actors n b.goes.known b.goes.followed a x ex g) refl refl known' same desk
+      (unnoted P A shape b.goes.images t commit devices actors n b.goes.known b.goes.followed a x ex notes_followed.carries g b.goes.followed.notes_agree) refl refl known' same desk
       (images_followed.stay shape.geometry b.goes.images.committed (later_of b.goes.images) devices.metadata devices.metadata s s' b.goes.followed.phase.images_agree turned readable.read)
       (λ state e. let r = b.goes.followed.phase.running state e in (turned.1 ∙ r.0, subst (StateTakesClean state) (sym turned.4) r.1)))
 

@@ -54,7 +54,7 @@ use Rattle.wb_headline.proofs.Desking.{desk_unmaps}
 use Rattle.wb_headline.proofs.Following.{situation, size, many, Followed, Goes}
 use Rattle.wb_headline.proofs.Orders.{stands_so}
 use Rattle.wb_headline.proofs.Seeing.{slot_there}
-use Rattle.wb_headline.proofs.Targets.{standing, actor_is, beside, noted_within, leads_on}
+use Rattle.wb_headline.proofs.Targets.{standing, actor_is, beside, noted_within, leads_on, unnoted}
 
 module _ (P A : Type 0) (shape : Shape) (images : Images) (t : Target P) (commit : Option RunningCommit) (devices : Devices (List History)) (actors : List Actor) (n : Notes) (known : MetadataKept {P = P} {A = A} shape.geometry images (Stands t) commit devices.metadata)
     (f : Followed P A shape images (standing P A shape images t commit devices actors n) n) (a : ℕ) (x : Actor) (ex : slice_get actors a ≡ Some x) (job : Job) (request : IsRequestJob job) (plan : Plan) (xt : x.task ≡ Some (job, plan)) (suits : Suits shape.geometry.origin_blocks plan x.card)
@@ -125,14 +125,13 @@ module _ (P A : Type 0) (shape : Shape) (images : Images) (t : Target P) (commit
       let s' = (abstract_after_all f.site.world g.records).shared in
       let desk' = unmapped t.desk c new.tree new.policy in
       let y : Actor = record (after_step job plan Done x) { orders = dropped bl x.orders; awaiting = replacing bl x.orders ++ x.awaiting } in
-      let b = beside P A shape images t commit devices actors n known f a x ex in
       let alone = stands_alone P t.desk kept bl.0 law.cache at in
       let room = slice_get_within t.desk.space.blocks law.cache Mapped (mapped_state unknowing t.desk bl.0 law.cache kept at) in
       let readable = kept_readable shape.geometry images devices.metadata P A (Stands t) commit known in
       subst To (sym gone.1)
       (subst (λ (v : Actor). Goes P A shape (record { devices = devices; commit = commit; phase = Stands (record { words = t.words; desk = desk' }); actors = slice_set actors a v }) n) (sym (actor_is P A shape (Stands t) devices x job plan (Desk (Unmap bl)) Done xt ∙ (λ i. record y { seen = sees i })))
       (leads_on P A shape images t commit devices actors n known f a x ex (Unmaps bl.0 law.cache None) Quietly (record { words = t.words; desk = desk' }) commit devices y n images (live_orders t.desk) g
-      (notes_followed.quiet (Unmaps bl.0 law.cache None) a f.site.world _ _ g b.0 n f.notes b.1 (noted_within P A shape images t commit devices actors n known f a x ex) f.notes_agree) refl refl
+      (unnoted P A shape images t commit devices actors n known f a x ex notes_followed.quiet g f.notes_agree) refl refl
       (subst (λ (k : DeskState P). AtDesk shape.geometry images k commit devices.metadata) gone.1 (unmapped_stands P shape.geometry images t.desk commit devices.metadata bl new known did))
       (ap (λ (os : Orders). orders_living os.slots) (sym orders_stay))
       (desk_unmaps P t.desk s s' f.phase.desk bl.0 c alone.0 new.tree new.policy None (ap (λ (o : Option LiveOrder). block_there (Quarantined (keeps o) false)) (vacant law.cache)) room alone.1 gone.0 g.desk.0 g.desk.1)

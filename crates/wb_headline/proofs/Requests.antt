@@ -62,7 +62,7 @@ use Rattle.wb_contents.specs.Devices.{by_block}
 use Rattle.wb_contents.proofs.Devices.{is_there}
 use Rattle.wb_promise.specs.Headline.{IsLatest, shown}
 use Rattle.wb_headline.proofs.Following.{situation, size, most, Followed, Goes, many}
-use Rattle.wb_headline.proofs.Targets.{standing, actor_is, beside, noted_within, stays_on}
+use Rattle.wb_headline.proofs.Targets.{standing, actor_is, beside, noted_within, stays_on, unnoted}
 use Rattle.wb_contents.proofs.Lists.{there_is as there}
 use Rattle.wb_headline.proofs.Events.{records_happen, is_right}
 use Rattle.wb_types.specs.declared.mode.Dev.TheVariants.{Metadata, Cache, Origin}
@@ -89,9 +89,8 @@ module _ (P A : Type 0) (shape : Shape) (images : Images) (t : Target P) (commit
   quietly : (words' : Words) (devices' : Devices (List History)) (y : Actor) →
       WorldFollows Quietly a f.site.world (record (situation shape t devices' actors) { words = words' }) y → devices'.metadata ≡ devices.metadata → Goes P A shape (after_it words' devices' y) n
   quietly words' devices' y g same =
-      let b = beside P A shape images t commit devices actors n known f a x ex in
       stays_on P A shape images t commit devices actors n known f a x ex Quietly words' devices' y n g
-      (notes_followed.quiet Stays a f.site.world _ _ g b.0 n f.notes b.1 (noted_within P A shape images t commit devices actors n known f a x ex) f.notes_agree)
+      (unnoted P A shape images t commit devices actors n known f a x ex notes_followed.quiet g f.notes_agree)
       refl refl same
 
   -- a step on the shared words
@@ -144,11 +143,10 @@ module _ (P A : Type 0) (shape : Shape) (images : Images) (t : Target P) (commit
         (noted_step shape t.desk.mode shown n a (Some (Some doing)) (Device (ReadExtent device e)) Fault contents)
     read_fails contents =
         let g = extent_steps_followed.read_fails (situation shape t devices actors) shape.geometry.origin_blocks a x extent part plan device e f.site.world (record { here = ex; task = xt; asks = sym next; agrees = f.phase.agrees }) claim.is_job suits holds in
-        let b = beside P A shape images t commit devices actors n known f a x ex in
         let mid = failing doing (ReadExtent device e) Fault in
         let s' = abstract_after_all f.site.world g.records in
         let m' = told f.notes g.records in
-        let once = notes_followed.quiet Stays a f.site.world _ _ g b.0 n f.notes b.1 (noted_within P A shape images t commit devices actors n known f a x ex) f.notes_agree in
+        let once = unnoted P A shape images t commit devices actors n known f a x ex notes_followed.quiet g f.notes_agree in
         let first = notes_followed.redone (size P A shape) n s' m' a doing mid once noted refl refl in
         let y = after_step (Read extent) plan Fault x in
         subst (λ (q : Job). Goes P A shape (record { devices = devices; commit = commit; phase = Stands (record { words = t.words; desk = t.desk }); actors = slice_set actors a (actor_then {P = P} {A = A} shape (Stands t) devices x (Device (ReadExtent device e)) Fault) }) (device_note shape t.desk.mode (put n a (Some mid)) a mid q (ReadExtent device e) Fault contents)) (sym job_is)
@@ -198,8 +196,7 @@ module _ (P A : Type 0) (shape : Shape) (images : Images) (t : Target P) (commit
       writes_on : (entered : Bool) → WorldFollows (cond entered (Writes written_part.block.0 (e.first % size P A shape) e.count content) Quietly) a f.site.world (situation shape t (with_device device devices list) actors) (after_step (Write extent content) plan got x) →
           Goes P A shape (record { devices = with_device device devices list; commit = commit; phase = Stands (record { words = t.words; desk = t.desk }); actors = slice_set actors a (after_step (Write extent content) plan got x) }) (cond entered n2 n1)
       writes_on false g =
-          let b = beside P A shape images t commit devices actors n known f a x ex in
-          let once = notes_followed.quiet Stays a f.site.world _ _ g b.0 n f.notes b.1 (noted_within P A shape images t commit devices actors n known f a x ex) f.notes_agree in
+          let once = unnoted P A shape images t commit devices actors n known f a x ex notes_followed.quiet g f.notes_agree in
           let first = notes_followed.redone (size P A shape) n (abstract_after_all f.site.world g.records) (told f.notes g.records) a doing mid once noted same_entered same_then in
           stays_on P A shape images t commit devices actors n known f a x ex Quietly t.words (with_device device devices list) (after_step (Write extent content) plan got x) n1 g first (length-set n.doings a (Some mid)) refl (data_device device holds devices list)
       writes_on true g =

@@ -22,10 +22,10 @@ use Rattle.wb_runs.proofs.Metadata.{MetadataKept, AtDesk, kept_readable}
 use Rattle.wb_link.specs.Tables.{Script, Order as AbstractOrder, abstract_want}
 use Rattle.wb_link.specs.World.{World, Record, Start, Again, Step, Release, release_order, AbstractActor, abstract_after_all, after_record, start_actor, again_actor, step_actor, step_task, actor_after, abstract_given}
 use Rattle.wb_simulation.specs.Noting.{NotesAgree}
-use Rattle.wb_simulation.specs.Noted.{told}
+use Rattle.wb_simulation.specs.Noted.{Kept, told}
 use Rattle.wb_simulation.specs.Sites.{ImagesAgree, locations, StateTakesClean}
 use Rattle.wb_simulation.specs.Telling.{Telling}
-use Rattle.wb_simulation.specs.Worlds.{Agrees, Turn, Stays, WorldFollowsBy, WorldFollows}
+use Rattle.wb_simulation.specs.Worlds.{Agrees, Situation, Turn, Stays, WorldFollowsBy, WorldFollows}
 use Rattle.wb_simulation.proofs.Opening.{images_followed}
 use Rattle.wb_headline.specs.Desks.{DeskAgrees, live_orders}
 use Rattle.wb_contents.proofs.Lists.{there_is as there}
@@ -113,6 +113,10 @@ module _ (P A : Type 0) (shape : Shape) (images : Images) (t : Target P) (commit
 
     pub noted_within : a < length n.doings
     noted_within = a_less
+
+    -- the run's notes stay where nothing is noted
+    pub unnoted : {telling : Telling} → Kept telling (λ size n a y Then. Then n) → {turn : Turn} {now : Situation} {y : Actor} (g : WorldFollowsBy turn telling a f.site.world now y) → NotesAgree now.size n f.site.world f.notes → NotesAgree now.size n (abstract_after_all f.site.world g.records) (told f.notes g.records)
+    unnoted kept g agree = kept _ a f.site.world _ _ g beside.0 n f.notes beside.1 noted_within agree
 
     -- nobody is at a replacement
     pub never_replaces : (old new : OBlock) (plan : Plan) → x.task ≡ Some (Replace old new, plan) → ⊥

@@ -149,23 +149,21 @@ module _ (P A : Type 0) (shape : Shape) where
         here Gone i = blank_set y (card ∙ i a x e) i
         here (Opens mode reading) i = (blank_set y (card ∙ i.0 a x e) i.0, open_set y (subst OpensOrRests (sym task) (opens_still got i.1)) i.1)
 
-    -- on a device, done or failed
-    on_device : (phase : Phase P A) (step : DeviceStep) (got : Got) (chosen : Chosen P A) → InPhase phase actors → Device step ≡ want plan → Fits (Device step) got →
-        UsedRightly (phase_then shape phase (Device step) got chosen) (slice_set actors a (actor_then {P = P} {A = A} shape phase devices x (Device step) got))
-    on_device phase step got chosen i h f = keeps_card _ (Device step) got (actor_then {P = P} {A = A} shape phase devices x (Device step) got) (still phase i).0 (ap (λ (o : Option (Job × Plan)). task_then o (Device step) got) xt) (left (Device step) got) h f refl (still phase i).1
-      where
-        still : (phase : Phase P A) → InPhase phase actors → (card_then shape phase x.card (Device step) ≡ x.card) × InPhase (phase_then shape phase (Device step) got chosen) actors
-        still (Stands t) i = (refl, i)
-        still phase i = (refl, i)
+    -- as on a device, done or failed, or of the desk
+    abbrev KeepsCard : Want → Type 0
+    KeepsCard (Device step) = Unit {0}
+    KeepsCard (Desk step) = Unit {0}
+    KeepsCard next = ⊥
 
-    -- of the desk
-    on_desk : (phase : Phase P A) (step : DeskStep) (got : Got) (chosen : Chosen P A) → InPhase phase actors → Desk step ≡ want plan → Fits (Desk step) got →
-        UsedRightly (phase_then shape phase (Desk step) got chosen) (slice_set actors a (actor_then {P = P} {A = A} shape phase devices x (Desk step) got))
-    on_desk phase step got chosen i h f = keeps_card _ (Desk step) got (actor_then {P = P} {A = A} shape phase devices x (Desk step) got) (still phase i).0 (ap (λ (o : Option (Job × Plan)). task_then o (Desk step) got) xt) (left (Desk step) got) h f refl (still phase i).1
+    on_plain : (phase : Phase P A) (next : Want) (got : Got) (chosen : Chosen P A) → KeepsCard next → InPhase phase actors → next ≡ want plan → Fits next got → UsedRightly (phase_then shape phase next got chosen) (slice_set actors a (actor_then {P = P} {A = A} shape phase devices x next got))
+    on_plain phase next got chosen k i h f = let s = still phase next k i in keeps_card _ next got (actor_then {P = P} {A = A} shape phase devices x next got) s.0 (ap (λ (o : Option (Job × Plan)). task_then o next got) xt ∙ s.1) (left next got) h f s.2 s.3
       where
-        still : (phase : Phase P A) → InPhase phase actors → (card_then shape phase x.card (Desk step) ≡ x.card) × InPhase (phase_then shape phase (Desk step) got chosen) actors
-        still (Stands t) i = (refl, i)
-        still phase i = (refl, i)
+        still : (phase : Phase P A) (next : Want) → KeepsCard next → InPhase phase actors → (card_then shape phase x.card next ≡ x.card) × (task_then (Some (job, plan)) next got ≡ Some (job, after plan got)) × MayMake next got x.card x.card × InPhase (phase_then shape phase next got chosen) actors
+        still (Stands t) (Device step) k i = (refl, refl, refl, i)
+        still (Stands t) (Desk step) k i = (refl, refl, refl, i)
+        still phase (Device step) k i = (refl, refl, refl, i)
+        still phase (Desk step) k i = (refl, refl, refl, i)
+        still phase next k i = absurd k
 
     -- on the words
     on_words : (phase : Phase P A) (step : CellStep) (got : Got) (chosen : Chosen P A) → InPhase phase actors → Cell step ≡ want plan → Fits (Cell step) got → OfTarget phase (λ t. got ≡ got_of (result_of t.words step)) →
@@ -262,8 +260,8 @@ module _ (P A : Type 0) (shape : Shape) where
 
     steps : (next : Want) → UsedRightly w.phase w.actors → next ≡ want plan → Gives shape w x job next got read chosen → Then w.phase next
     steps (Cell step) u h g = on_words w.devices w.actors a x e job plan xt u.suited u.orders w.phase step got chosen u.here h (gives_fits P A shape w x got read chosen job (Cell step) tt g) (given_word job step g)
-    steps (Device step) u h g = on_device w.devices w.actors a x e job plan xt u.suited u.orders w.phase step got chosen u.here h (gives_fits P A shape w x got read chosen job (Device step) tt g)
-    steps (Desk step) u h g = on_desk w.devices w.actors a x e job plan xt u.suited u.orders w.phase step got chosen u.here h (gives_fits P A shape w x got read chosen job (Desk step) tt g)
+    steps (Device step) u h g = on_plain w.devices w.actors a x e job plan xt u.suited u.orders w.phase (Device step) got chosen tt u.here h (gives_fits P A shape w x got read chosen job (Device step) tt g)
+    steps (Desk step) u h g = on_plain w.devices w.actors a x e job plan xt u.suited u.orders w.phase (Desk step) got chosen tt u.here h (gives_fits P A shape w x got read chosen job (Desk step) tt g)
     steps (End answer) u h g = answers w.phase answer refl u.suited u.orders u.here h g
 
   -- whoever takes it
@@ -285,7 +283,7 @@ module _ (P A : Type 0) (shape : Shape) where
   faulted_used w a choice next chosen (Some x) e u h = by_task x.task refl h
     where
       by_next : (job : Job) (plan : Plan) (next : Want) → x.task ≡ Some (job, plan) → next ≡ want plan → MayFailAt w.devices choice next → UsedRightly (phase_then shape w.phase next Fault chosen) (slice_set w.actors a (actor_then {P = P} {A = A} shape w.phase w.devices x next Fault))
-      by_next job plan (Device step) xt h m = on_device w.devices w.actors a x e job plan xt u.suited u.orders w.phase step Fault chosen u.here h tt
+      by_next job plan (Device step) xt h m = on_plain w.devices w.actors a x e job plan xt u.suited u.orders w.phase (Device step) Fault chosen tt u.here h tt
       by_next job plan next xt h m = absurd m
 
       by_task : (t : Option (Job × Plan)) → x.task ≡ t → OfSome t (λ doing. (next ≡ want doing.1) × MayFailAt w.devices choice next × Falters w choice next chosen) →
