@@ -165,9 +165,6 @@ module _ (P A : Type 0) (s : Setting P 1 Writeback) where
     abbrev refused : List Want → Option (Job × Plan)
     refused steps = Some (Flush, record { job = task_job shape1 Writeback (replacement ∷ []) Flush [] []; steps = steps; answer = IsRefused Memory })
 
-    abbrev given : Scene P
-    given = here (words 0 0 1 0) (given_up P 1 Writeback s) (refused []) [] []
-
     abbrev served : Scene P
     served = here (words 0 0 1 0) (settled P 1 Writeback s) (over Flush (task_job shape1 Writeback (replacement ∷ []) Flush [] [])) [] (replacement ∷ [])
 

@@ -30,7 +30,7 @@ use Rattle.wb_desk.specs.Desks.{DeskState}
 use Rattle.wb_runs.proofs.Given.{given_keeps}
 use Rattle.wb_promise.specs.States.{Shape, State, Actor, Target, Phase, Stands, Gone, Opens, OfTarget, mode_of, resting, start}
 use Rattle.wb_promise.specs.Happenings.{Chosen, Cut, Opened, Happening, OfSome, Gives, MayFailAt, Falters, DoesNotApply, MayBe, task_job, begun_as, StartsAs, Looks}
-use Rattle.wb_promise.specs.Effects.{phase_then, phase_opened, phase_given, task_then, actor_then, stepped, with_actor, cleared, given, job_of, cut_of, device_done, device_failed, all_resting, after_what, after_happening, after_all, IsRun, looks_of}
+use Rattle.wb_promise.specs.Effects.{phase_then, phase_opened, phase_given, task_then, actor_then, stepped, with_actor, cleared, given, job_of, cut_of, device_done, device_failed, all_resting, after_what, after_happening, IsRun, looks_of}
 use Rattle.wb_promise.specs.Clerk.{Notes, Doing, noted_step, noted_what, finished_note, begun, nobody, put, formatted}
 use Rattle.wb_promise.specs.Headline.{SkipsRightly, AllSkipRightly, note_happening, noted}
 use Rattle.wb_runs.specs.Laws.{RefusedBy, RefusedRightly, AllAlong, RefusesByCause, IsCovered, DoingCovers, AnswerCovers}
@@ -401,10 +401,6 @@ module _ (P A : Type 0) (shape : Shape) where
 
   pub base_start : (metadata : List History) → IsFormatted shape.geometry metadata → length metadata ≡ shape.geometry.meta_sectors → Base (start shape metadata) (formatted shape)
   base_start metadata f size = record { known = known_at_start P A shape metadata f size; used = used_start P A shape metadata; linked = links_start metadata }
-
-  pub base_always : (w : State P A) (n : Notes) (hs : List (Happening P A)) → Base w n → IsRun shape w hs → Base (after_all shape w hs) (noted shape w n hs)
-  base_always w n [] b r = b
-  base_always w n (h ∷ hs) b r = base_always (after_happening shape w h) (note_happening shape w n h) hs (base_after w n h b r.0) r.1
 
   -- ---- answers
 

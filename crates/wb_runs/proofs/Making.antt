@@ -1,5 +1,5 @@
 -- Where a desk may begin a commit there is an image to begin it with, and each image can be spelled.
-use Rattle.std.proofs.Common.{Global, ◌≡◌, ◌∙◌, ◌≤◌, ◌<◌, ◌+◌, ◌-◌, ◌*◌, ◌/◌, ◌%◌, ◌^◌, ◌++◌, inl, inr, ℕ, zero, suc, Bool, true, false, is_some, List, [], ◌∷◌, Option, Some, None, refl, sym, ap, subst, arith, length, map, get_or, slice_get, slice_index, slice_index_or, append_assoc}
+use Rattle.std.proofs.Common.{Global, ◌≡◌, ◌∙◌, ◌≤◌, ◌<◌, ◌+◌, ◌-◌, ◌*◌, ◌/◌, ◌%◌, ◌^◌, ◌++◌, inl, inr, ℕ, zero, suc, Bool, true, false, is_some, List, [], ◌∷◌, Option, Some, None, refl, sym, ap, subst, arith, length, get_or, slice_get, slice_index, slice_index_or, append_assoc}
 use Rattle.std.specs.List.{AllByRecursion}
 use Rattle.std.specs.Prelude.{All}
 use Rattle.std.proofs.lemmas.Bool.{cases_Bool, cases_eq}
@@ -53,11 +53,6 @@ all_at : {X : Type 0} (Q : X → Type 0) (xs : List X) (k : ℕ) (x : X) → All
 all_at Q [] k x a e = absurd (cc)
 all_at Q (y ∷ ys) zero x a e = let same : y ≡ x = cc in subst Q same a.0
 all_at Q (y ∷ ys) (suc k) x a e = all_at Q ys k x a.1 e
-
-named_at : (Q : NodeName → Type 0) (nodes : List (Place × Node)) (k : ℕ) (node : Place × Node) → AllByRecursion Q (map (λ (n : Place × Node). name_of n.1) nodes) → slice_get nodes k ≡ Some node → Q (name_of node.1)
-named_at Q [] k node a e = absurd (cc)
-named_at Q (y ∷ ys) zero node a e = let same : y ≡ node = cc in subst (λ (n : Place × Node). Q (name_of n.1)) same a.0
-named_at Q (y ∷ ys) (suc k) node a e = named_at Q ys k node a.1 e
 
 both_of : {X : Type 0} (Q R S : X → Type 0) → ((x : X) → Q x → R x → S x) → (xs : List X) → AllByRecursion Q xs → AllByRecursion R xs → AllByRecursion S xs
 both_of Q R S f [] q r = tt

@@ -125,9 +125,6 @@ pub record CanRead (P A : Type 0) (mode : Mode) (g : Geometry) (second : Bool) (
   pub does : DoesRead mode g second left was device None got chosen
 
 module _ (P A : Type 0) (mode : Mode) (g : Geometry) (second : Bool) (device : List History) where
-  seen : List Bytes
-  seen = map newest device
-
   no_memory : (left : ℕ) (was : ReadSteps A) → StopsBy was device Memory → CanRead P A mode g second left was device
   no_memory left was stops = record { got = GotRefused Memory; chosen = Reaches None None; does = (λ e. absurd (cc), inr (Memory, tt, stops, refl, refl, refl)) }
 

@@ -102,9 +102,6 @@ module _ (blocks : ℕ) (clean : Bool) (a : ℕ) where
     none_given : NoneTaken given_words.cells
     none_given = taken_back words.cells b.0 none
 
-    abbrev three : List CellStep
-    three = Take Owned b 0 ∷ Seal b place dirty ∷ Release Owned b ∷ []
-
     three_words : (later : List CellStep) → words_by words (Take Owned b 0 ∷ Seal b place dirty ∷ Release Owned b ∷ later) ≡ words_by given_words later
     three_words later = ap (λ (ws : Words). words_by ws (Seal b place dirty ∷ Release Owned b ∷ later)) won_words
 
