@@ -12,7 +12,7 @@ use Rattle.wb_words.specs.declared.step.CellStep.{CellStep}
 use Rattle.wb_words.specs.Effects.{result_of}
 use Rattle.wb_tasks.specs.Tables.{BlockJob, Reading as ReadingPart, OnBlock, TaskJob}
 use Rattle.wb_tasks.specs.Plan.{Plan, want, after, got_of}
-use Rattle.wb_tasks.specs.Ready.{Suits, IsOwnStep}
+use Rattle.wb_tasks.specs.Ready.{IsOpenings, Suits, IsOwnStep}
 use Rattle.wb_tasks.proofs.Readiness.{is_own_step}
 use Rattle.wb_tasks.specs.declared.step.DeviceStep.{DeviceStep}
 use Rattle.wb_tasks.specs.declared.step.DeviceStep.TheVariants.{Read as ReadExtent, Write as WriteExtent, Sync, ReadMetadata, WriteNode, WriteRoot}
@@ -31,7 +31,7 @@ use Rattle.wb_promise.specs.Clerk.{Notes, Doing, Entering, put, failing, write_n
 use Rattle.wb_contents.proofs.Lists.{set_other, set_there}
 use Rattle.wb_runs.proofs.Images.{Images}
 use Rattle.wb_runs.proofs.Metadata.{MetadataKept}
-use Rattle.wb_runs.proofs.Opening.{InPhase, Comes, Causes, IsOpenNext, open_next, open_on, failing_same, still_refuses, fault_why, reading_comes, reading_why}
+use Rattle.wb_runs.proofs.Opening.{InPhase, Comes, Causes, open_next, open_on, failing_same, still_refuses, fault_why, reading_comes, reading_why}
 use Rattle.wb_runs.proofs.Passing.{WritesOwn, write_own}
 use Rattle.wb_runs.proofs.Claims.{JobClaim, NotedClaim, TaskClaim, AllClaim, entered_at, read_words, write_words, read_extent, write_extent, write_unmaps, read_fails, write_fails}
 
@@ -234,7 +234,7 @@ module _ (P A : Type 0) (shape : Shape) where
     unclaimed job next got read u z j = absurd u
 
     open_goes : (opened_in : Mode) (second : Bool) (next : Want) (got : Got) (read : List Bytes) (chosen : Chosen P A) → NoAnswer next → doing.job ≡ Open opened_in second → JobClaim shape mode (Open opened_in second) plan doing → next ≡ want plan → Gives shape w x (Open opened_in second) next got read chosen → InPhase w.phase (Open opened_in second) → Then_of (Open opened_in second) next got read
-    open_goes opened_in second next got read chosen z j c h g at = by_next next z (subst (λ (v : Want). IsOpenNext v) (sym h) (open_next plan doing c)) h g
+    open_goes opened_in second next got read chosen z j c h g at = by_next next z (subst (λ (v : Want). IsOpenings v) (sym h) (open_next plan doing c)) h g
       where
         on : (step : DeviceStep) → Device step ≡ want plan → Comes got → ((refusal : Refusal) → Causes step got refusal → Rattle.wb_promise.specs.Headline.MayRefuse (failing doing step got) refusal) → Then_of (Open opened_in second) (Device step) got read
         on step h comes why = plain_device shape mode shown n a x doing noted (Open opened_in second) plan j step got read tt (open_on plan doing (failing doing step got) step got c h comes (still_refuses doing step got) why)
@@ -242,7 +242,7 @@ module _ (P A : Type 0) (shape : Shape) where
         done : (step : DeviceStep) → got ≡ Done → (refusal : Refusal) → Causes step got refusal → Rattle.wb_promise.specs.Headline.MayRefuse (failing doing step got) refusal
         done step e refusal c = absurd (subst (λ (v : Got). Causes step v refusal) e c)
 
-        by_next : (next : Want) → NoAnswer next → IsOpenNext next → next ≡ want plan → Gives shape w x (Open opened_in second) next got read chosen → Then_of (Open opened_in second) next got read
+        by_next : (next : Want) → NoAnswer next → IsOpenings next → next ≡ want plan → Gives shape w x (Open opened_in second) next got read chosen → Then_of (Open opened_in second) next got read
         by_next (Device (Sync Metadata)) z i h g = on (Sync Metadata) h (subst Comes (sym g.1) tt) (done (Sync Metadata) g.1)
         by_next (Device (Sync Cache)) z i h g = on (Sync Cache) h (subst Comes (sym g.1) tt) (done (Sync Cache) g.1)
         by_next (Device (Sync Origin)) z i h g = on (Sync Origin) h (subst Comes (sym g.1) tt) (done (Sync Origin) g.1)

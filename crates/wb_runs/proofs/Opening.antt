@@ -17,6 +17,7 @@ use Rattle.wb_tasks.specs.declared.step.Want.TheVariants.{Device, End}
 use Rattle.wb_tasks.specs.declared.step.Got.{Got}
 use Rattle.wb_tasks.specs.declared.step.Got.TheVariants.{Done, Fault, Refused as GotRefused, Began, More}
 use Rattle.wb_devices.specs.declared.running.RunningCommit.{RunningCommit}
+use Rattle.wb_tasks.specs.Ready.{IsOpenings}
 use Rattle.wb_devices.specs.Opened.{HasCome, got_of_refusal}
 use Rattle.wb_promise.specs.declared.job.Job.{Job}
 use Rattle.wb_promise.specs.declared.job.Job.TheVariants.{Open}
@@ -59,16 +60,8 @@ Causes step Fault refusal = refusal ≡ Io (device_of step)
 Causes step (GotRefused because) refusal = refusal ≡ because
 Causes step got refusal = ⊥
 
-abbrev pub IsOpenNext : Want → Type 0
-IsOpenNext (Device (Sync device)) = Unit {0}
-IsOpenNext (Device (ReadMetadata m)) = Unit {0}
-IsOpenNext (Device (WriteNode number)) = Unit {0}
-IsOpenNext (Device WriteRoot) = Unit {0}
-IsOpenNext (End answer) = Unit {0}
-IsOpenNext w = ⊥
-
 -- its first step is such a one, and so are those behind it
-opens_by : (w : Want) (ws : List Want) → OpensOnly (w ∷ ws) → IsOpenNext w × OpensOnly ws
+opens_by : (w : Want) (ws : List Want) → OpensOnly (w ∷ ws) → IsOpenings w × OpensOnly ws
 opens_by (Device (Sync d)) ws f = (tt, f)
 opens_by (Device (ReadMetadata m)) ws f = (tt, f)
 opens_by (Device (WriteNode number)) ws f = (tt, f)
@@ -84,12 +77,12 @@ nodes_open (suc left) from = nodes_open left (from + 1)
 parts : (plan : Plan) (n : ℕ) (steps : List Want) → plan.job ≡ Opening n → plan.steps ≡ steps → plan ≡ plan_of (Opening n) steps plan.answer
 parts plan n steps j s = λ k. record { job = j k; steps = s k; answer = plan.answer }
 
-pub open_next : (plan : Plan) (doing : Doing) → OpenClaim plan doing → IsOpenNext (want plan)
+pub open_next : (plan : Plan) (doing : Doing) → OpenClaim plan doing → IsOpenings (want plan)
 open_next plan doing c = by_steps plan.steps refl c.fine
   where
-    by_steps : (steps : List Want) → plan.steps ≡ steps → OpensOnly steps → IsOpenNext (want plan)
-    by_steps [] s f = subst (λ (p : Plan). IsOpenNext (want p)) (sym (parts plan c.left [] c.job_is s)) tt
-    by_steps (w ∷ ws) s f = subst (λ (p : Plan). IsOpenNext (want p)) (sym (parts plan c.left (w ∷ ws) c.job_is s)) (opens_by w ws f).0
+    by_steps : (steps : List Want) → plan.steps ≡ steps → OpensOnly steps → IsOpenings (want plan)
+    by_steps [] s f = subst (λ (p : Plan). IsOpenings (want p)) (sym (parts plan c.left [] c.job_is s)) tt
+    by_steps (w ∷ ws) s f = subst (λ (p : Plan). IsOpenings (want p)) (sym (parts plan c.left (w ∷ ws) c.job_is s)) (opens_by w ws f).0
 
 -- an opening that answers with a refusal has a cause
 pub open_refuses : (plan : Plan) (doing : Doing) (refusal : Refusal) → OpenClaim plan doing → End (Refuses refusal) ≡ want plan → MayRefuse doing refusal

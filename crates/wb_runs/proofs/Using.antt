@@ -346,26 +346,18 @@ module _ (P A : Type 0) (shape : Shape) where
       OrdersInside shape.geometry (Rattle.wb_promise.specs.Happenings.orders_in actor) → StartGives shape phase actor (Migrate migration block) Started chosen → OrderInside shape.geometry (order_for migration block)
   order_inside i (Stands t) commit m actor migration block (Cut cut) k o g = kept_inside t (Rattle.wb_promise.specs.Happenings.orders_in actor) migration block o g.1
   order_inside i (Stands t) commit m actor migration block (Orders cut cache) k o g = order_given P shape.geometry t.desk cache (order_for migration block) k.is g.1
-  order_inside i (Stands t) commit m actor migration block chosen k o g = absurd g
-  order_inside i Gone commit m actor migration block (Cut cut) k o g = absurd g.1
-  order_inside i Gone commit m actor migration block (Orders cut cache) k o g = absurd g.1
-  order_inside i Gone commit m actor migration block chosen k o g = absurd g
-  order_inside i (Opens mode reading) commit m actor migration block (Cut cut) k o g = absurd g.1
-  order_inside i (Opens mode reading) commit m actor migration block (Orders cut cache) k o g = absurd g.1
-  order_inside i (Opens mode reading) commit m actor migration block chosen k o g = absurd g
+  order_inside i phase commit m actor migration block (Cut cut) k o g = absurd g.1
+  order_inside i phase commit m actor migration block (Orders cut cache) k o g = absurd g.1
+  order_inside i phase commit m actor migration block chosen k o g = absurd g
 
   -- and of a replacement, with the cache block that it takes
   pub replacement_inside : (i : _) (phase : Phase P A) (commit : _) (m : List History) (actor : Option Actor) (old new : OBlock) (chosen : Chosen P A) → Rattle.wb_runs.proofs.Metadata.MetadataKept shape.geometry i phase commit m →
       OrdersInside shape.geometry (Rattle.wb_promise.specs.Happenings.orders_in actor) → StartGives shape phase actor (Replace old new) Started chosen → (cache : CBlock) × OrderInside shape.geometry (ReplaceOrder old new cache)
   replacement_inside i (Stands t) commit m actor old new (Cut cut) k o g = (g.1.0, o (ReplaceOrder old new g.1.0) g.1.1)
   replacement_inside i (Stands t) commit m actor old new (Orders cut cache) k o g = (cache, order_given P shape.geometry t.desk cache (ReplaceOrder old new cache) k.is g.1)
-  replacement_inside i (Stands t) commit m actor old new chosen k o g = absurd g
-  replacement_inside i Gone commit m actor old new (Cut cut) k o g = absurd g.1
-  replacement_inside i Gone commit m actor old new (Orders cut cache) k o g = absurd g.1
-  replacement_inside i Gone commit m actor old new chosen k o g = absurd g
-  replacement_inside i (Opens mode reading) commit m actor old new (Cut cut) k o g = absurd g.1
-  replacement_inside i (Opens mode reading) commit m actor old new (Orders cut cache) k o g = absurd g.1
-  replacement_inside i (Opens mode reading) commit m actor old new chosen k o g = absurd g
+  replacement_inside i phase commit m actor old new (Cut cut) k o g = absurd g.1
+  replacement_inside i phase commit m actor old new (Orders cut cache) k o g = absurd g.1
+  replacement_inside i phase commit m actor old new chosen k o g = absurd g
 
   -- one order more is inside, where it is and all others are
   one_more : (order : Order) (orders : List Order) → OrderInside shape.geometry order → OrdersInside shape.geometry orders → OrdersInside shape.geometry (order ∷ orders)
