@@ -3,7 +3,6 @@ use Rattle.std.proofs.Common.{◌≡◌, ◌≢◌, ◌∙◌, ◌≤◌, ◌<�
 use Rattle.std.proofs.lemmas.List.{length-set}
 use Rattle.std.proofs.lemmas.List.Elements.{Contains-append_cases, Contains-append_left, Contains-append_right}
 use Rattle.wb_types.specs.declared.number.OBlock.{OBlock}
-use Rattle.wb_types.specs.declared.mode.Mode.{Mode}
 use Rattle.wb_types.specs.declared.mode.Dev.{Dev}
 use Rattle.wb_types.specs.declared.mode.Dev.TheVariants.{Metadata}
 use Rattle.wb_types.specs.declared.refusal.Refusal.{Refusal}
@@ -11,7 +10,7 @@ use Rattle.wb_types.specs.declared.refusal.Refusal.TheVariants.{Busy, Failed, Me
 use Rattle.wb_disk.specs.Device.{Content as Bytes, History, synced}
 use Rattle.wb_disk.specs.Failing.{synced_where, lands}
 use Rattle.wb_words.specs.Rule.{LockRule}
-use Rattle.wb_words.specs.SharedWords.{Words, word_at, place_in}
+use Rattle.wb_words.specs.SharedWords.{word_at, place_in}
 use Rattle.wb_words.specs.Effects.{result_of, words_after}
 use Rattle.wb_words.specs.declared.step.CellStep.{CellStep}
 use Rattle.wb_words.specs.declared.step.CellStep.TheVariants.{Look, SetFailed}
@@ -26,7 +25,6 @@ use Rattle.wb_policy.specs.declared.order.Order.{Order}
 use Rattle.wb_desk.specs.Desks.{DeskState}
 use Rattle.wb_desk.specs.Commits.{HasBegun, IsBeginRefused, commit_begun, commit_broken, commit_ended}
 use Rattle.wb_tasks.specs.Plan.{Plan, want, got_of, device_of}
-use Rattle.wb_tasks.specs.Tables.{TaskJob}
 use Rattle.wb_tasks.specs.Ready.{HoldsBlocks, Suits, IsOwnStep}
 use Rattle.wb_tasks.specs.declared.step.Answer.{Answer}
 use Rattle.wb_tasks.specs.declared.step.Answer.TheVariants.{Done as Finished, Refused as Refuses}
@@ -66,7 +64,7 @@ use Rattle.wb_simulation.specs.Noting.{NotesAgree}
 use Rattle.wb_simulation.specs.Noted.{told}
 use Rattle.wb_simulation.specs.Sites.{ImagesAgree, IsRunning, locations, StateTakesClean}
 use Rattle.wb_simulation.specs.Telling.{Quietly, Answers}
-use Rattle.wb_simulation.specs.Worlds.{Commits as DeskCommits, Situation, TurnedTo, DeskTurnedTo, Turn, Stays, Begins, Puts, Ends, WorldFollowsBy, WorldFollows, one_begun, IsLeftOut, TakesIn}
+use Rattle.wb_simulation.specs.Worlds.{Situation, TurnedTo, DeskTurnedTo, Turn, Stays, Begins, Puts, Ends, WorldFollowsBy, WorldFollows, one_begun, IsLeftOut, TakesIn}
 use Rattle.wb_simulation.specs.Laws.{WantsNext, AsksToLead, flush_or_suspend, stepped_actor, after_step, turn_of}
 use Rattle.wb_simulation.proofs.Commits.{commit_steps_followed}
 use Rattle.wb_simulation.proofs.Noted.{notes_followed}
@@ -83,12 +81,12 @@ use Rattle.wb_promise.specs.Sealed.{number_of}
 use Rattle.wb_format.specs.declared.root.Root.{Root}
 use Rattle.wb_headline.proofs.Targets.{landed_or, standing, actor_is, beside, failing_same, noted_within, leads_on, stays_on, unnoted}
 use Rattle.wb_disk.specs.Crash.{Choice}
-use Rattle.wb_tasks.proofs.Readiness.{is_own_step}
 use Rattle.wb_stage.specs.Stages.{is_all_done}
 use Rattle.wb_promise.specs.Happenings.{Chosen, Plain, Puts, DoesPut, DoesSync, FailsPut, FailsSync, sector_put}
 use Rattle.wb_promise.specs.Headline.{shown}
 use Rattle.wb_types.proofs.Truth.{and_true}
 use Rattle.wb_runs.proofs.Stepping.{data_device}
+use Rattle.wb_runs.proofs.Plans.{own_next}
 use Rattle.wb_headline.proofs.Underway.{failed_read, IsStill, written_before, failed_written, written_there, runs_there, still, not_noted, finished_durable, marks, begun_places, shown_places, begun_takes, some_is}
 
 module _ (P A : Type 0) (shape : Shape) (images : Images) (t : Target P) (commit : Option RunningCommit) (devices : Devices (List History)) (actors : List Actor) (n : Notes) (known : MetadataKept {P = P} {A = A} shape.geometry images (Stands t) commit devices.metadata)
@@ -454,7 +452,7 @@ module _ (P A : Type 0) (shape : Shape) (images : Images) (t : Target P) (commit
         (noted_step shape t.desk.mode (shown shape (stepped shape w a x next Fault chosen (λ step. device_failed (lands (device_of step) choice) (flush_or_suspend clean) x.buffer step chosen))) n a (Some (Some doing)) next Fault read)
 
     pub mine : (next : Want) → next ≡ want plan → IsOwnStep (commit_task clean its_task.0 (most P A shape clean)) next
-    mine next e = subst (λ (v : Want). IsOwnStep (commit_task clean its_task.0 (most P A shape clean)) v) (sym e) (subst (λ (q : TaskJob). IsOwnStep q (want plan)) its_task.1 (is_own_step shape.geometry.origin_blocks plan x.card suits))
+    mine next e = own_next shape.geometry.origin_blocks plan x.card suits _ next its_task.1 e
 
     -- a step of the commit, done or failing
     module _ (step : DeviceStep) (of_metadata : device_of step ≡ Metadata) (next : Device step ≡ want plan) (read : List Bytes) where

@@ -9,7 +9,6 @@ use Rattle.wb_words.specs.declared.step.CellStep.TheVariants.{Look}
 use Rattle.wb_tasks.specs.Tables.{BlockRange, Migrating, OnBlock, TaskJob}
 use Rattle.wb_tasks.specs.Plan.{Plan, want}
 use Rattle.wb_tasks.specs.Ready.{Has, Suits, SuitsJob, IsOwnStep}
-use Rattle.wb_tasks.proofs.Readiness.{is_own_step}
 use Rattle.wb_tasks.specs.declared.step.Migration.{Migration}
 use Rattle.wb_tasks.specs.declared.step.Want.{Want}
 use Rattle.wb_tasks.specs.declared.step.Want.TheVariants.{Cell}
@@ -19,6 +18,7 @@ use Rattle.wb_promise.specs.States.{Actor}
 use Rattle.wb_simulation.specs.Steps.{AreOfBlock}
 use Rattle.wb_simulation.specs.Worlds.{Situation, Agrees}
 use Rattle.wb_simulation.proofs.Followed.{begins_by, IsWithin, never_late, never_over}
+use Rattle.wb_runs.proofs.Plans.{own_next}
 use Rattle.wb_contents.proofs.Lists.{there_is as there}
 
 module _ (now : Situation) (blocks : ℕ) (s : World) (g : Agrees now s)
@@ -47,7 +47,7 @@ module _ (now : Situation) (blocks : ℕ) (s : World) (g : Agrees now s)
 
     -- so the step is one of its own
     pub own : (m : Migration) × (part : BlockRange) × IsOwnStep (OnBlock (Migrating m part)) next
-    own = (carried.kind, carried.part, subst (λ (v : Want). IsOwnStep (OnBlock (Migrating carried.kind carried.part)) v) (sym e) (subst (λ (q : TaskJob). IsOwnStep q (want plan)) carried.job (is_own_step blocks plan x.card suits)))
+    own = (carried.kind, carried.part, own_next blocks plan x.card suits _ next carried.job e)
 
     -- and what it has is what such a task needs
     pub has : Has (Migrating carried.kind carried.part) x.card (next ∷ first.0)

@@ -32,7 +32,6 @@ use Rattle.wb_stage.specs.declared.share.Share.{Share}
 use Rattle.wb_stage.specs.declared.share.Share.TheVariants.{Waiting}
 use Rattle.wb_stage.specs.Sharing.{ShareIsCovered, share_then}
 use Rattle.wb_stage.specs.Asking.{DidRelease, IsGivenUp, ended}
-use Rattle.wb_promise.specs.declared.job.Job.{Job}
 use Rattle.wb_promise.specs.declared.job.Job.TheVariants.{Flush, Suspend}
 use Rattle.wb_promise.specs.States.{Shape, Actor, Target, Stands}
 use Rattle.wb_promise.specs.Effects.{actor_then, dropped}
@@ -65,7 +64,7 @@ use Rattle.wb_promise.specs.Headline.{place_of}
 use Rattle.wb_promise.specs.Sealed.{number_of}
 use Rattle.wb_headline.proofs.Seeing.{orders_set, slot_there, slot_within}
 use Rattle.wb_headline.proofs.Orders.{found_of, none_dropped}
-use Rattle.wb_headline.proofs.Targets.{standing, actor_is, beside, noted_within, leads_on, stays_on, unnoted}
+use Rattle.wb_headline.proofs.Targets.{standing, actor_is, beside, leads_on, stays_on, unnoted}
 use Rattle.wb_disk.specs.Crash.{Choice}
 use Rattle.wb_promise.specs.Happenings.{Chosen, Plain, Commits, Asks, Gives, Falters, MayFailAt}
 use Rattle.wb_headline.proofs.Advancing.{by_end, by_put, by_sync, by_put_fault, syncs, by_sync_fault, Failed_by, Done_by, mine, sync_fails, goes_still, asked_then, begins, begin_refused, lead_refused, is_served, gets_ticket, breaks, told_so, told_still, looks_at_fail, sets_failed, answers}

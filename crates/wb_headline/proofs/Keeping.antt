@@ -22,7 +22,7 @@ use Rattle.wb_words.specs.declared.card.Hold.TheVariants.{Nothing, Held}
 use Rattle.wb_words.specs.declared.card.Card.{Card}
 use Rattle.wb_words.specs.declared.step.CellStep.{CellStep}
 use Rattle.wb_words.specs.declared.step.CellStep.TheVariants.{Look, Take, Seal, Count, SetFailed, SetSuspended}
-use Rattle.wb_words.specs.declared.word.Kind.TheVariants.{ReadHit, ReadMiss, WriteHit, WriteMiss}
+use Rattle.wb_words.specs.declared.word.Kind.TheVariants.{ReadHit}
 use Rattle.wb_words.specs.SharedWords.{Words, word_at, place_in, seal_word}
 use Rattle.wb_words.specs.Cards.{failing_at}
 use Rattle.wb_words.specs.Effects.{result_of, words_after, card_after}
@@ -38,10 +38,10 @@ use Rattle.wb_desk.specs.Entries.{entry_of, mapped, MayMap, Removes, is_replacem
 use Rattle.wb_desk.proofs.Entering.{entrance, named_inside}
 use Rattle.wb_desk.proofs.Leaving.{mapped_within}
 use Rattle.wb_stage.specs.Asking.{DidRelease, DidUnmap, IsGivenUp, is_of, order_of as order_found}
-use Rattle.wb_tasks.specs.Tables.{BlockJob, Reading, Writing, Displacing, Invalidating, Migrating, OnBlock, Flushing, Suspending, Opening, TaskJob, access_of, range_of}
+use Rattle.wb_tasks.specs.Tables.{BlockJob, Reading, OnBlock, Flushing, Suspending, Opening, TaskJob, access_of, range_of}
 use Rattle.wb_tasks.specs.Plan.{Plan, want, after, after_fault, after_fault_of, after_refusal, first_step, later_steps, lets_go, got_of}
 use Rattle.wb_tasks.specs.Ready.{Has, MayTake, Suits, SuitsJob, IsOwnStep, IsJobs, block_of}
-use Rattle.wb_tasks.proofs.Readiness.{is_own_step, is_ready}
+use Rattle.wb_tasks.proofs.Readiness.{is_ready}
 use Rattle.wb_tasks.specs.declared.step.Answer.{Answer}
 use Rattle.wb_tasks.specs.declared.step.Answer.TheVariants.{Done as Finished, Refused as Refuses}
 use Rattle.wb_tasks.specs.declared.step.DeviceStep.{DeviceStep}
@@ -86,6 +86,7 @@ use Rattle.wb_simulation.specs.Worlds.{Situation, GivesUp}
 use Rattle.wb_headline.proofs.Orders.{leaves_from, left, of_order, owned_then, stands_so, at_there, live_at, AreParted, for_block, one_of_block, only_held, over, found_of, only_of, replacing_is, true_not}
 use Rattle.wb_runs.proofs.Located.{stands_alone, unmapped_there}
 use Rattle.wb_headline.proofs.Targets.{standing, beside}
+use Rattle.wb_runs.proofs.Plans.{task_suits, own_next}
 use Rattle.wb_headline.proofs.Telling.{IsSealed, SealsRight, RightWhere, lets_go_right, on_words, owned_alone}
 
 -- ---- a target
@@ -236,13 +237,13 @@ module _ (P A : Type 0) (shape : Shape) (images : Images) (t : Target P) (commit
 
   module _ (job : Job) (plan : Plan) (xt : x.task ≡ Some (job, plan)) where
     pub suits : Suits shape.geometry.origin_blocks plan x.card
-    suits = subst (λ (o : Option (Job × Plan)). TaskSuits shape.geometry.origin_blocks x.card o) xt (all_suited a x ex)
+    suits = task_suits shape.geometry.origin_blocks x xt (all_suited a x ex)
 
     right : RightWhere (place_of t.desk.tree.entries) x.card plan.steps
     right = subst (λ (o : Option (Job × Plan)). TaskRight t.desk.tree.entries x.card o) xt (k.right a x ex)
 
     pub own : (q : TaskJob) (next : Want) → plan.job ≡ q → next ≡ want plan → IsOwnStep q next
-    own q next j e = subst (λ (v : Want). IsOwnStep q v) (sym e) (subst (λ (r : TaskJob). IsOwnStep r (want plan)) j (is_own_step shape.geometry.origin_blocks plan x.card suits))
+    own q next j e = own_next shape.geometry.origin_blocks plan x.card suits q next j e
 
     pub ready : (next : Want) → next ≡ want plan → MayTake shape.geometry.origin_blocks x.card next
     ready next e = subst (λ (v : Want). MayTake shape.geometry.origin_blocks x.card v) (sym e) (is_ready shape.geometry.origin_blocks plan x.card suits)

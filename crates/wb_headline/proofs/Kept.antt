@@ -16,7 +16,7 @@ use Rattle.std.proofs.lemmas.List.Elements.{Contains-append_left, Contains-appen
 use Rattle.std.proofs.lemmas.Option.{get_or_from_slice_get}
 use Rattle.wb_desk.specs.Desks.{DeskState, MayReserve}
 use Rattle.wb_desk.specs.Commits.{HasBegun, commit_begun, commit_broken, commit_ended}
-use Rattle.wb_tasks.specs.Tables.{BlockJob, Reading, Writing, Displacing, Invalidating, Migrating, OnBlock}
+use Rattle.wb_tasks.specs.Tables.{BlockJob, Reading, OnBlock}
 use Rattle.wb_tasks.specs.Plan.{Plan, want, after}
 use Rattle.wb_tasks.specs.Ready.{IsJobs}
 use Rattle.wb_tasks.specs.declared.step.DeviceStep.{DeviceStep}
@@ -37,7 +37,7 @@ use Rattle.wb_promise.specs.Happenings.{Chosen, Plain, Cut, Orders, Looks, Asks,
 use Rattle.wb_promise.specs.Effects.{actor_then, phase_then, phase_given, given, job_of, begun_desk, all_resting}
 use Rattle.wb_promise.specs.Clerk.{Notes}
 use Rattle.wb_promise.specs.Headline.{place_of}
-use Rattle.wb_runs.specs.Holding.{cards_of, AllSuited, TaskSuits}
+use Rattle.wb_runs.specs.Holding.{cards_of, AllSuited}
 use Rattle.wb_promise.specs.Sealed.{SealsNext, number_of}
 use Rattle.wb_desk.specs.Marks.{bits_in_tree}
 use Rattle.wb_runs.proofs.Imaged.{begun_entries}
@@ -59,6 +59,7 @@ use Rattle.wb_tree.specs.Mapping.{Mapping}
 use Rattle.wb_types.specs.declared.refusal.Refusal.{Refusal}
 use Rattle.wb_words.specs.declared.step.CellStep.TheVariants.{Look}
 use Rattle.wb_words.specs.declared.word.Word.TheVariants.{Fail}
+use Rattle.wb_runs.proofs.Plans.{task_suits}
 use Rattle.wb_types.specs.declared.mode.Dev.TheVariants.{Metadata}
 
 -- ---- where no target stands nobody has an order
@@ -147,7 +148,7 @@ module _ (P A : Type 0) (shape : Shape) (images : Images) (t : Target P) (commit
       }
 
       nothing : x.card.hold ≡ Nothing
-      nothing = subst (λ (o : Option (Job × Plan)). TaskSuits shape.geometry.origin_blocks x.card o) xt (all_suited a x ex)
+      nothing = task_suits shape.geometry.origin_blocks x xt (all_suited a x ex)
 
       kept : (t' : Target P) (y : Actor) (job : Job) (plan : Plan) → GoesAmong P A shape images t commit devices actors n known f rule all_suited k a x ex t' y → y.task ≡ Some (job, plan) → y.card ≡ x.card → t'.words.seals ≡ t.words.seals → ((b : ℕ) → place_of t'.desk.tree.entries b ≡ place_of t.desk.tree.entries b) → Owned t'.desk (slice_set actors a y) → AreParted y → KeepingAt t' (slice_set actors a y)
       kept t' y job plan goes task card seals places owned parted = plainly P A shape images t commit devices actors n known f rule all_suited k a x ex t' y goes seals places

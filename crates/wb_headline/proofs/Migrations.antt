@@ -2,7 +2,6 @@
 use Rattle.std.proofs.Common.{◌≡◌, ◌∙◌, ◌<◌, ◌≤◌, ◌+◌, ℕ, Bool, List, [], Option, Some, None, refl, sym, subst, length, slice_get, slice_set, ◌≢◌, if◌then◌else◌, false, inl, inr, true, ◌++◌, ap, arith, Contains}
 use Rattle.std.proofs.lemmas.List.{length-set}
 use Rattle.wb_types.specs.declared.extent.Extent.{Extent}
-use Rattle.wb_types.specs.declared.mode.Mode.{Mode}
 use Rattle.wb_types.specs.declared.mode.Dev.{Dev}
 use Rattle.wb_types.specs.declared.number.OBlock.{OBlock}
 use Rattle.wb_types.specs.declared.number.CBlock.{CBlock}
@@ -10,7 +9,7 @@ use Rattle.wb_types.specs.declared.refusal.Refusal.{Refusal}
 use Rattle.wb_disk.specs.Device.{Content as Bytes, History}
 use Rattle.wb_disk.specs.Extents.{written_each, written_where}
 use Rattle.wb_words.specs.Rule.{LockRule}
-use Rattle.wb_words.specs.SharedWords.{Words, word_at, place_in}
+use Rattle.wb_words.specs.SharedWords.{word_at, place_in}
 use Rattle.wb_words.specs.Effects.{result_of, words_after}
 use Rattle.wb_words.specs.declared.step.CellStep.{CellStep}
 use Rattle.wb_policy.specs.declared.order.Order.{Order}
@@ -32,16 +31,15 @@ use Rattle.wb_promise.specs.declared.job.Job.{Job}
 use Rattle.wb_promise.specs.declared.job.Job.TheVariants.{Migrate}
 use Rattle.wb_promise.specs.States.{Shape, Actor, Target, Stands, with_device, State}
 use Rattle.wb_promise.specs.Effects.{actor_then, awaiting_then, contents_at, orders_then, dropped, replacing}
-use Rattle.wb_runs.specs.Holding.{cards_of, TaskSuits}
+use Rattle.wb_runs.specs.Holding.{cards_of}
 use Rattle.wb_promise.specs.Clerk.{Notes, Doing, noted_step, device_note, finished_note, failing, put}
 use Rattle.wb_runs.proofs.Images.{Images, later_of}
 use Rattle.wb_runs.proofs.Metadata.{MetadataKept, AtDesk, unknowing, kept_readable}
 use Rattle.wb_link.specs.World.{abstract_after_all, Shared, removed}
 use Rattle.wb_simulation.specs.Sites.{StateTakesClean}
-use Rattle.wb_simulation.specs.Noting.{NotesAgree}
 use Rattle.wb_simulation.specs.Noted.{told}
 use Rattle.wb_simulation.specs.Telling.{Carries, Rests}
-use Rattle.wb_simulation.specs.Worlds.{Commits, Situation, Turn, Stays, WorldFollowsBy, WorldFollows, Maps, Unmaps, GivesUp, TurnedTo}
+use Rattle.wb_simulation.specs.Worlds.{Situation, Turn, Stays, WorldFollowsBy, WorldFollows, Maps, Unmaps, GivesUp, TurnedTo}
 use Rattle.wb_simulation.specs.Laws.{WantsNext, stepped_actor, after_step}
 use Rattle.wb_simulation.specs.Migrating.{SeesWhere, EndsOrder}
 use Rattle.wb_simulation.proofs.Noted.{notes_followed}
@@ -91,6 +89,7 @@ use Rattle.wb_headline.proofs.Carried.{own, looks_seal, looks_number}
 use Rattle.wb_headline.proofs.Desking.{desk_maps, desk_releases, desk_unmaps}
 use Rattle.wb_headline.proofs.Seeing.{named, orders_set, seal_tells_order, slot_within}
 use Rattle.wb_headline.proofs.Whole.{Whole, Stepped_to, Faulted_to, at_target, held_tells}
+use Rattle.wb_runs.proofs.Plans.{task_suits}
 use Rattle.wb_runs.proofs.Stepping.{data_device}
 
 -- a migration that is answered leaves its actor the orders that it has
@@ -200,7 +199,7 @@ module _ (P A : Type 0) (shape : Shape) (t : Target P) (commit : Option RunningC
   place_told = held_tells P A shape t commit devices actors n b a x (Migrate migration block) plan ex xt block
 
   suits : Suits shape.geometry.origin_blocks plan x.card
-  suits = subst (λ (o : Option (Job × Plan)). TaskSuits shape.geometry.origin_blocks x.card o) xt (b.used.suited a x ex)
+  suits = task_suits shape.geometry.origin_blocks x xt (b.used.suited a x ex)
 
   abbrev job : Job
   job = Migrate migration block

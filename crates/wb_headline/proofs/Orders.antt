@@ -16,7 +16,7 @@ use Rattle.wb_orders.specs.Named.{first_of, IsNamed}
 use Rattle.wb_orders.specs.Orders.{AreOrders, order_at, Orders, without_order}
 use Rattle.wb_desk.specs.Desks.{DeskState, IsLive, DeskInvariant, Names, holdings}
 use Rattle.wb_tasks.specs.declared.step.Migration.{Migration}
-use Rattle.wb_tasks.specs.declared.step.Migration.TheVariants.{Promote, Demote, Clean}
+use Rattle.wb_tasks.specs.declared.step.Migration.TheVariants.{Promote, Demote}
 use Rattle.wb_promise.specs.States.{Actor}
 use Rattle.wb_promise.specs.Happenings.{order_for}
 use Rattle.wb_runs.proofs.Ordering.{held_of}

@@ -54,7 +54,7 @@ use Rattle.wb_headline.proofs.Desking.{desk_unmaps}
 use Rattle.wb_headline.proofs.Following.{situation, size, many, Followed, Goes}
 use Rattle.wb_headline.proofs.Orders.{stands_so}
 use Rattle.wb_headline.proofs.Seeing.{slot_there}
-use Rattle.wb_headline.proofs.Targets.{standing, actor_is, beside, noted_within, leads_on, unnoted}
+use Rattle.wb_headline.proofs.Targets.{standing, actor_is, leads_on, unnoted}
 
 module _ (P A : Type 0) (shape : Shape) (images : Images) (t : Target P) (commit : Option RunningCommit) (devices : Devices (List History)) (actors : List Actor) (n : Notes) (known : MetadataKept {P = P} {A = A} shape.geometry images (Stands t) commit devices.metadata)
     (f : Followed P A shape images (standing P A shape images t commit devices actors n) n) (a : ℕ) (x : Actor) (ex : slice_get actors a ≡ Some x) (job : Job) (request : IsRequestJob job) (plan : Plan) (xt : x.task ≡ Some (job, plan)) (suits : Suits shape.geometry.origin_blocks plan x.card)

@@ -57,6 +57,7 @@ use Rattle.wb_headline.proofs.Arriving.{crash_goes}
 use Rattle.wb_headline.proofs.Starts.{any_start, any_replacement, read_starts, write_starts, invalidation_starts, flush_starts, suspend_starts, opening_starts}
 use Rattle.wb_simulation.specs.Actors.{IsAmong, IsAmongOthers, AreAmongOthers}
 use Rattle.wb_headline.proofs.Commits.{commit_steps, commit_faults}
+use Rattle.wb_runs.proofs.Plans.{task_suits}
 use Rattle.wb_headline.proofs.Migrations.{any_step, any_fault}
 
 module _ (P A : Type 0) (shape : Shape) where
@@ -79,7 +80,7 @@ module _ (P A : Type 0) (shape : Shape) where
         (by_job job xt d g, step_keeps P A shape b.goes.images t commit devices actors n b.goes.known b.goes.followed b.used.here b.used.suited b.keeping a x ex plan job xt next got read chosen e g)
       where
         suits : Suits shape.geometry.origin_blocks plan x.card
-        suits = subst (λ (o : Option (Job × Plan)). TaskSuits shape.geometry.origin_blocks x.card o) xt (b.used.suited a x ex)
+        suits = task_suits shape.geometry.origin_blocks x xt (b.used.suited a x ex)
 
         asked : (doing : Doing) → slice_get n.doings a ≡ Some (Some doing) → length doing.then_finished ≡ length n.floors
         asked doing noted = (b.noted_so a doing noted).0 ∙ sym b.goes.followed.sized.sectors ∙ sym b.goes.followed.notes_agree.floors_as_many
@@ -114,7 +115,7 @@ module _ (P A : Type 0) (shape : Shape) where
     fault_by_phase (Stands t) b job plan xt d choice next read chosen e m g = by_job job xt d
       where
         suits : Suits shape.geometry.origin_blocks plan x.card
-        suits = subst (λ (o : Option (Job × Plan)). TaskSuits shape.geometry.origin_blocks x.card o) xt (b.used.suited a x ex)
+        suits = task_suits shape.geometry.origin_blocks x xt (b.used.suited a x ex)
 
         inside : Rattle.wb_runs.specs.Inside.StepInside shape next
         inside = subst (λ (v : Want). Rattle.wb_runs.specs.Inside.StepInside shape v) (sym e) (want_inside shape plan (subst (λ (o : Option (Job × Plan)). Rattle.wb_runs.proofs.InsideRuns.PlanInside shape o) xt (b.inside.tasks a x ex)).1)
@@ -169,7 +170,7 @@ module _ (P A : Type 0) (shape : Shape) where
     w_now = at_target P A shape t commit devices actors
 
     holds_none : TaskSuits shape.geometry.origin_blocks x.card None
-    holds_none = subst (λ (o : Option (Job × Plan)). TaskSuits shape.geometry.origin_blocks x.card o) xt (b.used.suited a x ex)
+    holds_none = task_suits shape.geometry.origin_blocks x xt (b.used.suited a x ex)
 
     module _ (among : AreAmongOthers actors) where
       goes_and : (job : Job) (chosen : Chosen P A) → StartsAs shape w_now a job Started chosen → Goes P A shape (record w_now { phase = phase_given {P = P} {A = A} (Stands t) job chosen; actors = slice_set actors a (given shape t.desk.mode x job chosen) }) (put n a (Some (begun n (begun_as job)))) →
@@ -240,7 +241,7 @@ module _ (P A : Type 0) (shape : Shape) where
   read_by_phase : (devices : Devices (List History)) (commit : Option RunningCommit) (phase : Phase P A) (actors : List Actor) (n : Notes) → Whole P A shape (record { devices = devices; commit = commit; phase = phase; actors = actors }) n → (a : ℕ) (x : Actor) (job : Job) (plan : Plan) → slice_get actors a ≡ Some x → x.task ≡ Some (job, plan) →
       (d : Noted shape (mode_of phase) job plan (slice_get n.doings a)) (device : Dev) (e : Extent) (read : List Bytes) (chosen : Chosen P A) → Device (ReadExtent device e) ≡ want plan → Gives shape (record { devices = devices; commit = commit; phase = phase; actors = actors }) x job (Device (ReadExtent device e)) Done read chosen → GivesLatest shape n job e read
   read_by_phase devices commit (Stands t) actors n b a x (Read extent) plan ex xt d device e read chosen next g =
-      given_latest P A shape b.goes.images t commit devices actors n b.goes.known b.goes.followed a x ex plan (subst (λ (o : Option (Job × Plan)). TaskSuits shape.geometry.origin_blocks x.card o) xt (b.used.suited a x ex)) d.doing d.is extent xt d.job_is d.claim device e next g.0 read g.3 g.4
+      given_latest P A shape b.goes.images t commit devices actors n b.goes.known b.goes.followed a x ex plan (task_suits shape.geometry.origin_blocks x xt (b.used.suited a x ex)) d.doing d.is extent xt d.job_is d.claim device e next g.0 read g.3 g.4
   read_by_phase devices commit (Stands t) actors n b a x (Migrate migration block) plan ex xt d device e read chosen next g = g.1.0
   read_by_phase devices commit Gone actors n b a x job plan ex xt d device e read chosen next g = absurd (subst (λ (o : Option (Job × Plan)). TaskHere {P = P} {A = A} Gone o) xt (b.linked.here a x ex))
   read_by_phase devices commit (Opens mode reading) actors n b a x job plan ex xt d device e read chosen next g = by_job job (subst (λ (o : Option (Job × Plan)). TaskHere {P = P} {A = A} (Opens mode reading) o) xt (b.linked.here a x ex)) g

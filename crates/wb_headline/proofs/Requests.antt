@@ -68,8 +68,8 @@ use Rattle.wb_headline.proofs.Events.{records_happen, is_right}
 use Rattle.wb_types.specs.declared.mode.Dev.TheVariants.{Metadata, Cache, Origin}
 use Rattle.wb_disk.specs.Crash.{Choice}
 use Rattle.wb_disk.specs.Failing.{lands}
-use Rattle.wb_tasks.proofs.Readiness.{is_own_step}
 use Rattle.wb_runs.specs.Inside.{StepInside}
+use Rattle.wb_runs.proofs.Plans.{own_next}
 use Rattle.wb_runs.proofs.Stepping.{data_device}
 
 -- a read or write sees nothing of seals, as a suspend does
@@ -329,7 +329,7 @@ module _ (P A : Type 0) (shape : Shape) (images : Images) (t : Target P) (commit
       (noted_step shape t.desk.mode (shown shape (stepped shape w a x next Fault chosen (λ step. device_failed (lands (device_of step) choice) job x.buffer step chosen))) n a (Some (Some doing)) next Fault read)
 
   own : (job : TaskJob) (next : Want) → plan.job ≡ job → next ≡ want plan → IsOwnStep job next
-  own job next j h = subst (λ (v : Want). IsOwnStep job v) (sym h) (subst (λ (q : TaskJob). IsOwnStep q (want plan)) j (is_own_step shape.geometry.origin_blocks plan x.card suits))
+  own job next j h = own_next shape.geometry.origin_blocks plan x.card suits job next j h
 
   -- ---- reads
 

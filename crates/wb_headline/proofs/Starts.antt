@@ -61,7 +61,6 @@ use Rattle.wb_desk.proofs.Leaving.{mapped_state}
 use Rattle.wb_tasks.specs.declared.step.Migration.{Migration}
 use Rattle.wb_tasks.specs.declared.step.Migration.TheVariants.{Promote, Demote, Clean}
 use Rattle.wb_promise.specs.declared.event.What.TheVariants.{Started}
-use Rattle.wb_runs.specs.Holding.{TaskSuits}
 use Rattle.wb_runs.proofs.InsideRuns.{some_there, in_one_block}
 use Rattle.wb_runs.proofs.Desks.{reserved_stands}
 use Rattle.wb_contents.specs.Volume.{Locations}
@@ -75,6 +74,7 @@ use Rattle.wb_simulation.proofs.Orders.{cache_there}
 use Rattle.wb_headline.proofs.Desking.{desk_stays, desk_reserves}
 use Rattle.wb_runs.proofs.Located.{stands_there, unmapped_there}
 use Rattle.wb_headline.proofs.Seeing.{live_here, named, orders_set, slot_there, slot_within, vacant_there}
+use Rattle.wb_runs.proofs.Plans.{task_suits}
 use Rattle.wb_headline.proofs.Whole.{Whole, at_target}
 
 -- ---- the extents of a request are of its block
@@ -216,7 +216,7 @@ plain_there l m block c = refl
 
 module _ (P A : Type 0) (shape : Shape) (t : Target P) (commit : Option RunningCommit) (devices : Devices (List History)) (actors : List Actor) (n : Notes) (b : Whole P A shape (at_target P A shape t commit devices actors) n) (a : ℕ) (x : Actor) (ex : slice_get actors a ≡ Some x) (xt : x.task ≡ None) (among : AreAmongOthers actors) where
   holds : x.card.hold ≡ Nothing
-  holds = subst (λ (o : Option (Job × Plan)). TaskSuits shape.geometry.origin_blocks x.card o) xt (b.used.suited a x ex)
+  holds = task_suits shape.geometry.origin_blocks x xt (b.used.suited a x ex)
 
   are_orders : AreOrders t.desk.orders
   are_orders = b.goes.known.is.orders

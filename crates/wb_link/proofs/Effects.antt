@@ -1,7 +1,7 @@
 -- What a step does to what is shared, whatever task takes it: what it leaves to others, and the desk's rules after it.
 use Rattle.std.proofs.Common.{◌≡◌, ◌≢◌, inl, inr, ℕ, Bool, true, false, List, [], ◌∷◌, Option, Some, None, refl, sym, ap, subst, ◌∙◌}
 use Rattle.std.proofs.lemmas.Bool.{cases_eq}
-use Rattle.wb_disk.specs.Device.{Content}
+use Rattle.wb_disk.specs.Device.{Content, History}
 use Rattle.wb_contents.specs.Volume.{Locations, Volume, changed}
 use Rattle.wb_contents.specs.Conditions.{IsUnnamed}
 use Rattle.wb_contents.proofs.Positions.{changed_same, changed_other}
@@ -29,12 +29,15 @@ pub record SameDesk (s t : Shared) : Type 0 where
   pub root_written : t.root_written ≡ s.root_written
   pub fail : t.fail ≡ s.fail
 
+devices_desk : (s : Shared) (origin cache : ℕ → ℕ → History) → SameDesk s (record s { origin = origin; cache = cache })
+devices_desk s origin cache = record { seals = refl; mapping = refl; blocks = refl; committing = refl; committed = refl; running = refl; root_written = refl; fail = refl }
+
 desk_same : (s : Shared) → SameDesk s s
-desk_same s = record { seals = refl; mapping = refl; blocks = refl; committing = refl; committed = refl; running = refl; root_written = refl; fail = refl }
+desk_same s = devices_desk s s.origin s.cache
 
 pub put_sector_desk : (s : Shared) (location : Option ℕ) (b o : ℕ) (c : Content) → SameDesk s (put_sector s location b o c)
-put_sector_desk s None b o c = record { seals = refl; mapping = refl; blocks = refl; committing = refl; committed = refl; running = refl; root_written = refl; fail = refl }
-put_sector_desk s (Some k) b o c = record { seals = refl; mapping = refl; blocks = refl; committing = refl; committed = refl; running = refl; root_written = refl; fail = refl }
+put_sector_desk s None b o c = devices_desk s _ _
+put_sector_desk s (Some k) b o c = devices_desk s _ _
 
 landed_desk : (t : Bool) (s : Shared) (location : Option ℕ) (b o : ℕ) (c : Content) → SameDesk s (if_landed t (put_sector s location b o c) s)
 landed_desk true s location b o c = put_sector_desk s location b o c
@@ -53,13 +56,13 @@ write_desk s job buffer location b os (Fault lands) = where_desk (lands b) s loc
 write_desk s job buffer location b os got = desk_same s
 
 pub sync_cached_desk : (s : Shared) (job : Job) (buffer : ℕ → Content) (got : Got) → SameDesk s (effect s job buffer Sync_cache_device got)
-sync_cached_desk s job buffer Done = record { seals = refl; mapping = refl; blocks = refl; committing = refl; committed = refl; running = refl; root_written = refl; fail = refl }
-sync_cached_desk s job buffer (Fault lands) = record { seals = refl; mapping = refl; blocks = refl; committing = refl; committed = refl; running = refl; root_written = refl; fail = refl }
+sync_cached_desk s job buffer Done = devices_desk s _ _
+sync_cached_desk s job buffer (Fault lands) = devices_desk s _ _
 sync_cached_desk s job buffer got = desk_same s
 
 pub sync_based_desk : (s : Shared) (job : Job) (buffer : ℕ → Content) (got : Got) → SameDesk s (effect s job buffer Sync_origin_device got)
-sync_based_desk s job buffer Done = record { seals = refl; mapping = refl; blocks = refl; committing = refl; committed = refl; running = refl; root_written = refl; fail = refl }
-sync_based_desk s job buffer (Fault lands) = record { seals = refl; mapping = refl; blocks = refl; committing = refl; committed = refl; running = refl; root_written = refl; fail = refl }
+sync_based_desk s job buffer Done = devices_desk s _ _
+sync_based_desk s job buffer (Fault lands) = devices_desk s _ _
 sync_based_desk s job buffer got = desk_same s
 
 by_desk : (x : AbstractActor) (s t : Shared) → SameDesk s t → KeepsShared x s t

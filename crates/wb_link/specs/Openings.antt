@@ -6,7 +6,7 @@ use Rattle.wb_contents.specs.Volume.{Locations, at_location}
 use Rattle.wb_types.specs.declared.mode.Mode.{Mode}
 use Rattle.wb_types.specs.declared.mode.Mode.TheVariants.{Passthrough}
 use Rattle.wb_contents.specs.Acts.{all_synced, partly_synced}
-use Rattle.wb_contents.specs.Conditions.{IsUnnamed}
+use Rattle.wb_contents.specs.Conditions.{IsUnnamed, Admits}
 use Rattle.wb_contents.specs.Promises.{IsEntryFrom}
 use Rattle.wb_link.specs.World.{Block, Free, Mapped, Shared, World, Record, abstract_resting, abstract_begins, after_record, AbstractMay}
 use Rattle.wb_link.specs.Clerk.{AbstractNotes, abstract_note, abstract_opened, AbstractRight}
@@ -83,8 +83,7 @@ stopped s r = record (abstract_decided s r.new_root) { origin = λ b o. only (r.
 
 -- passthrough opens only what is clean
 abbrev pub Admitted : Mode → Learnt → Type 0
-Admitted Passthrough i = (b k : ℕ) → i.locations b ≡ Some k → i.clean b ≡ true
-Admitted mode i = Unit {0}
+Admitted mode i = Admits mode (record { locations = i.locations; clean = i.clean })
 
 abbrev pub opened_on : Shared → Mode → Learnt → (ℕ → Block) → Shared
 opened_on s mode i blocks = record {

@@ -38,7 +38,6 @@ use Rattle.wb_promise.specs.States.{Shape, State, Actor, Target, Phase, Stands, 
 use Rattle.wb_promise.specs.Happenings.{Chosen, Plain, Cut, Orders, Happening, OfSome, OnTask, MayFailAt, DoesNotApply, Gives, Falters, KeepsMigration, KeepsReplacement, MayOrder, MigrationStarts, job_refusal, extent_refusal, block_range, write_job, orders_in, order_for, StartsAs, Looks, AreMapped, NoTaskRuns, Awaits, WaitsForCommit}
 use Rattle.wb_promise.specs.Effects.{after_all, IsRun}
 use Rattle.wb_runs.specs.Progress.{GivesSomething}
-use Rattle.wb_runs.specs.Holding.{TaskSuits}
 use Rattle.wb_runs.specs.Inside.{StepInside, TaskInside, StaysInside, size_on}
 use Rattle.wb_runs.specs.Progress.{HasHappening, IsFree}
 use Rattle.wb_runs.proofs.Metadata.{AtDesk, AtOpening, MetadataKept}
@@ -56,6 +55,7 @@ use Rattle.wb_types.specs.declared.entry.Entry.{Entry}
 use Rattle.wb_types.specs.declared.number.OBlock.{OBlock}
 use Rattle.wb_policy.specs.Law.{IsMappedAt, origins}
 use Rattle.wb_runs.proofs.Lists.{first_or}
+use Rattle.wb_runs.proofs.Plans.{task_suits}
 use Rattle.wb_types.proofs.Lists.{Contains-first, Contains-behind}
 
 -- ---- who has a task
@@ -169,7 +169,7 @@ module _ (P A : Type 0) (shape : Shape) (policy : P) (first : ReadSteps A) (begi
 
     -- it is at one of its own steps, on sectors that are there
     own : (job : BlockJob) → k.plan.job ≡ OnBlock job → IsOwnStep (OnBlock job) (want k.plan)
-    own job j = own_step P A shape k.actor.card k.plan job j (subst (λ (t : Option (Job × Plan)). TaskSuits shape.geometry.origin_blocks k.actor.card t) k.task (kept.base.used.suited a k.actor k.there))
+    own job j = own_step P A shape k.actor.card k.plan job j (task_suits shape.geometry.origin_blocks k.actor k.task (kept.base.used.suited a k.actor k.there))
 
     inside : StepInside shape (want k.plan)
     inside = subst (λ (t : Option (Job × Plan)). TaskInside shape t) k.task (stays.tasks a k.actor k.there)

@@ -54,6 +54,10 @@ leads_on : (nodes : ℕ) (commit : Option RunningCommit) (steps : CommitSteps) �
 leads_on nodes None steps r steps' f = absurd r
 leads_on nodes (Some c) steps r steps' f = (r.0, r.1, ap (λ (s : CommitSteps). steps_after c.image s) r.2 ∙ f c.image r.0)
 
+-- so does a step that is done
+leads_done : (nodes : ℕ) (commit : Option RunningCommit) {got : Got} → got ≡ Done → (steps steps' : CommitSteps) → Runs nodes steps commit → ((image : Image) → length image.nodes.items ≡ nodes → steps_after image steps ≡ steps') → Runs nodes steps' (Rattle.wb_promise.specs.Effects.led commit got)
+leads_done nodes commit e steps steps' r f = subst (λ (g : Got). Runs nodes steps' (Rattle.wb_promise.specs.Effects.led commit g)) (sym e) (leads_on nodes commit steps r steps' f)
+
 -- another node is written
 node_over : (left from : ℕ) (image : Image) → length image.nodes.items ≡ from + suc left → steps_after image (NodesWritten from) ≡ NodesWritten (from + 1)
 node_over left from image e = by_case (slice_get_cases image.nodes.items from).1
@@ -198,9 +202,6 @@ module _ (P A : Type 0) (shape : Shape) (t : Target P) (commit : Option RunningC
     done : (next : Want) (ws : List Want) → got ≡ Done → (commit' : Option RunningCommit) → Then commit' (F ws) → Then commit' (after (F (next ∷ ws)) got)
     done next ws e commit' k = subst (λ (g : Got). Then commit' (after (F (next ∷ ws)) g)) (sym e) k
 
-    led_done : (nodes : ℕ) → got ≡ Done → (steps steps' : CommitSteps) → Runs nodes steps commit → ((image : Image) → length image.nodes.items ≡ nodes → steps_after image steps ≡ steps') → Runs nodes steps' (Rattle.wb_promise.specs.Effects.led commit got)
-    led_done nodes e steps steps' r f = subst (λ (g : Got). Runs nodes steps' (Rattle.wb_promise.specs.Effects.led commit g)) (sym e) (leads_on nodes commit steps r steps' f)
-
     begin_moves : (job' : CommitJob) → job ≡ job' → Gives shape v x (doing_of job') (begin_of job') got read chosen → After (begin_of job') (F (begin_of job' ∷ []))
     begin_moves (Flushes serves most) e g = arrives got chosen g.1
       where
@@ -248,14 +249,14 @@ module _ (P A : Type 0) (shape : Shape) (t : Target P) (commit : Option RunningC
     flush_moves (ToWriteNodes zero from) of at l g =
         let all : from + 0 ≡ from = omega arith in
         let d = data_sync P A shape v x got read chosen (doing_of job) Metadata g in
-        done _ _ d _ (leading _ answer (ToWriteRoot (from + 0)) _ tt refl (led_done (from + 0) d (NodesWritten from) NodesSynced at (λ i e. nodes_over from i (e ∙ all))) (l tt))
+        done _ _ d _ (leading _ answer (ToWriteRoot (from + 0)) _ tt refl (leads_done (from + 0) commit d (NodesWritten from) NodesSynced at (λ i e. nodes_over from i (e ∙ all))) (l tt))
     flush_moves (ToWriteNodes (suc left) from) of at l g =
         let more : from + suc left ≡ from + 1 + left = omega arith in
         let d = (node_fact P A shape v x got read chosen (doing_of job) from g).0 in
         done _ _ d _ (leading _ answer (ToWriteNodes left (from + 1)) _ tt refl
-        (subst (λ (n : ℕ). Runs n (NodesWritten (from + 1)) (Rattle.wb_promise.specs.Effects.led commit got)) more (led_done (from + suc left) d (NodesWritten from) (NodesWritten (from + 1)) at (node_over left from))) (l tt))
-    flush_moves (ToWriteRoot nodes) of at l g = let d = (root_fact P A shape v x got read chosen (doing_of job) g).0 in done _ _ d _ (leading _ answer (ToSyncRoot nodes) _ tt refl (led_done nodes d NodesSynced RootWritten at (λ i e. refl)) (l tt))
-    flush_moves (ToSyncRoot nodes) of at l g = let d = data_sync P A shape v x got read chosen (doing_of job) Metadata g in done _ _ d _ (leading _ answer (ToEnd nodes) _ tt refl (led_done nodes d RootWritten Committed at (λ i e. refl)) (l tt))
+        (subst (λ (n : ℕ). Runs n (NodesWritten (from + 1)) (Rattle.wb_promise.specs.Effects.led commit got)) more (leads_done (from + suc left) commit d (NodesWritten from) (NodesWritten (from + 1)) at (node_over left from))) (l tt))
+    flush_moves (ToWriteRoot nodes) of at l g = let d = (root_fact P A shape v x got read chosen (doing_of job) g).0 in done _ _ d _ (leading _ answer (ToSyncRoot nodes) _ tt refl (leads_done nodes commit d NodesSynced RootWritten at (λ i e. refl)) (l tt))
+    flush_moves (ToSyncRoot nodes) of at l g = let d = data_sync P A shape v x got read chosen (doing_of job) Metadata g in done _ _ d _ (leading _ answer (ToEnd nodes) _ tt refl (leads_done nodes commit d RootWritten Committed at (λ i e. refl)) (l tt))
     flush_moves (ToEnd nodes) of at l g = done _ _ (end_given P A shape v x got read chosen (doing_of job) g) _ (followed job refl (l tt))
     flush_moves ToSetSuspended of at l g = done _ _ (word_given P A shape v x got read chosen (doing_of job) SetSuspended g) commit (quietly answer (ToRelease []) _ tt refl tt (λ i. absurd i))
     flush_moves ToSetFailed of at l g = done _ _ (word_given P A shape v x got read chosen (doing_of job) SetFailed g) commit (quietly answer ToBreak _ tt refl tt (λ i. absurd i))
@@ -358,9 +359,6 @@ module _ (P A : Type 0) (shape : Shape) (mode m' : Mode) (second : Bool) (readin
     on_reading left (Some was) e g = reads left was e chosen g
     on_reading left None e g = absurd g
 
-    led_on : (nodes : ℕ) → got ≡ Done → (steps steps' : CommitSteps) → Runs nodes steps commit → ((image : Image) → length image.nodes.items ≡ nodes → steps_after image steps ≡ steps') → Runs nodes steps' (Rattle.wb_promise.specs.Effects.led commit got)
-    led_on nodes e steps steps' r f = subst (λ (g : Got). Runs nodes steps' (Rattle.wb_promise.specs.Effects.led commit g)) (sym e) (leads_on nodes commit steps r steps' f)
-
     on_to : (p q : OpenPoint) (r' : Option (ReadSteps A)) (c' : Option RunningCommit) → got ≡ Done → after (O p) Done ≡ O q → AtOpen n q r' c' → OpenAt r' c' (after (O p) got)
     on_to p q r' c' e is at = subst (λ (x : Got). OpenAt r' c' (after (O p) x)) (sym e) (record { sectors = n; point = q; is = is; at = at })
 
@@ -376,13 +374,13 @@ module _ (P A : Type 0) (shape : Shape) (mode m' : Mode) (second : Bool) (readin
     open_moves (AtRead left) at g = on_reading left reading at.0 g.2
     open_moves (AtNodes zero from) at g =
         let all : from + 0 ≡ from = omega arith in
-        on_to (AtNodes zero from) AtRoot _ _ g.1 refl (from + 0, led_on (from + 0) g.1 (NodesWritten from) NodesSynced at (λ i e. nodes_over from i (e ∙ all)))
+        on_to (AtNodes zero from) AtRoot _ _ g.1 refl (from + 0, leads_done (from + 0) commit g.1 (NodesWritten from) NodesSynced at (λ i e. nodes_over from i (e ∙ all)))
     open_moves (AtNodes (suc left) from) at g =
         let more : from + suc left ≡ from + 1 + left = omega arith in
         on_to (AtNodes (suc left) from) (AtNodes left (from + 1)) _ _ g.1 refl
-        (subst (λ (k : ℕ). Runs k (NodesWritten (from + 1)) (Rattle.wb_promise.specs.Effects.led commit got)) more (led_on (from + suc left) g.1 (NodesWritten from) (NodesWritten (from + 1)) at (node_over left from)))
-    open_moves AtRoot at g = on_to AtRoot AtRootSync _ _ g.1 refl (at.0, led_on at.0 g.1 NodesSynced RootWritten at.1 (λ i e. refl))
-    open_moves AtRootSync at g = on_to AtRootSync AtEnd _ _ g.1 refl (at.0, led_on at.0 g.1 RootWritten Committed at.1 (λ i e. refl))
+        (subst (λ (k : ℕ). Runs k (NodesWritten (from + 1)) (Rattle.wb_promise.specs.Effects.led commit got)) more (leads_done (from + suc left) commit g.1 (NodesWritten from) (NodesWritten (from + 1)) at (node_over left from)))
+    open_moves AtRoot at g = on_to AtRoot AtRootSync _ _ g.1 refl (at.0, leads_done at.0 commit g.1 NodesSynced RootWritten at.1 (λ i e. refl))
+    open_moves AtRootSync at g = on_to AtRootSync AtEnd _ _ g.1 refl (at.0, leads_done at.0 commit g.1 RootWritten Committed at.1 (λ i e. refl))
     open_moves AtEnd at g = tt
     open_moves (AtRefusal refusal) at g = tt
 

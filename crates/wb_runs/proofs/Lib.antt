@@ -14,12 +14,12 @@ pub mod Located
 pub mod Extents
 pub mod Ruling
 pub mod Suiting
-mod Sealing
+pub mod Sealing
 pub mod Ordering
 pub mod Given
 pub mod Owning
 pub mod Using
-mod Plans
+pub mod Plans
 pub mod Modes
 mod Refusing
 pub mod Covering

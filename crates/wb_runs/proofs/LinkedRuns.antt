@@ -1,7 +1,7 @@
 -- Every run is linked: so whoever answers done has moved each of its sectors once, and an opening that is refused has a cause.
 use Rattle.std.proofs.Common.{◌≡◌, ◌≢◌, ◌∙◌, inl, inr, ℕ, zero, suc, Bool, List, [], ◌∷◌, Option, Some, None, refl, sym, ap, subst, arith, length, slice_get, slice_set, replicate}
 use Rattle.std.proofs.lemmas.Bool.{cases_eq}
-use Rattle.std.proofs.lemmas.Option.{slice_get_within}
+use Rattle.std.proofs.lemmas.Option.{slice_get_within, slice_get-map}
 use Rattle.wb_types.specs.declared.mode.Mode.{Mode}
 use Rattle.wb_types.specs.declared.mode.Mode.TheVariants.{Writeback}
 use Rattle.wb_types.specs.declared.refusal.Refusal.{Refusal}
@@ -34,7 +34,6 @@ use Rattle.wb_promise.specs.Effects.{phase_then, phase_opened, phase_given, task
 use Rattle.wb_promise.specs.Clerk.{Notes, Doing, noted_step, noted_what, finished_note, begun, nobody, put, formatted}
 use Rattle.wb_promise.specs.Headline.{SkipsRightly, AllSkipRightly, note_happening, noted}
 use Rattle.wb_runs.specs.Laws.{RefusedBy, RefusedRightly, AllAlong, RefusesByCause, IsCovered, DoingCovers, AnswerCovers}
-use Rattle.wb_runs.specs.Holding.{TaskSuits}
 use Rattle.wb_contents.proofs.Lists.{set_other, set_there, replicated, replicated_there}
 use Rattle.wb_runs.proofs.Lists.{rests, there_rests, free}
 use Rattle.wb_runs.proofs.MetadataRuns.{IsKnown, known_after, known_at_start}
@@ -44,12 +43,12 @@ use Rattle.wb_runs.proofs.Claims.{JobClaim, NotedClaim, TaskClaim, AllClaim, Not
 use Rattle.wb_runs.proofs.Ruling.{each_set}
 use Rattle.wb_runs.proofs.Using.{UsedRightly, used_what, used_start}
 use Rattle.wb_runs.proofs.Opening.{IsServed, InPhase, open_refuses, opens_in}
+use Rattle.wb_runs.proofs.Plans.{task_suits}
+use Rattle.std.specs.Option.{option_map}
 use Rattle.wb_runs.proofs.Linking.{TaskHere, IsTask, AtPhase, Linked, others_stay, claims_on, claims_failed}
 
 all_none : (doings : List (Option Doing)) (b : ℕ) (o : Option Doing) → slice_get doings b ≡ Some o → slice_get (nobody doings) b ≡ Some None
-all_none [] b o e = absurd (cc)
-all_none (d ∷ ds) zero o e = refl
-all_none (d ∷ ds) (suc b) o e = all_none ds b o e
+all_none doings b o e = slice_get-map (λ (d : Option Doing). None) doings b ∙ ap (option_map (λ (d : Option Doing). None)) e
 
 -- something is noted of each actor
 noted_there : (shape : Shape) (mode : Mode) (t : Option (Job × Plan)) (d : Option (Option Doing)) → TaskClaim shape mode t d → (o : Option Doing) × (d ≡ Some o)
@@ -217,7 +216,7 @@ module _ (P A : Type 0) (shape : Shape) where
     noted_for x job plan e xt = noted_of shape (mode_of w.phase) job plan (slice_get n.doings a) (subst (λ (t : Option (Job × Plan)). TaskClaim shape (mode_of w.phase) t (slice_get n.doings a)) xt (l.claims a x e))
 
     suits_for : (x : Actor) (job : Job) (plan : Plan) → slice_get w.actors a ≡ Some x → x.task ≡ Some (job, plan) → Suits shape.geometry.origin_blocks plan x.card
-    suits_for x job plan e xt = subst (λ (t : Option (Job × Plan)). TaskSuits shape.geometry.origin_blocks x.card t) xt (u.suited a x e)
+    suits_for x job plan e xt = task_suits shape.geometry.origin_blocks x xt (u.suited a x e)
 
     one_steps : (x : Actor) (job : Job) (plan : Plan) (next : Want) (got : Got) (read : List Bytes) (chosen : Chosen P A) → slice_get w.actors a ≡ Some x → x.task ≡ Some (job, plan) → next ≡ want plan → Gives shape w x job next got read chosen →
         Linked shape (phase_then shape w.phase next got chosen) (slice_set w.actors a (actor_then shape w.phase w.devices x next got)) (noted_step shape (mode_of w.phase) shown n a (slice_get n.doings a) next got read)
@@ -424,7 +423,7 @@ module _ (P A : Type 0) (shape : Shape) where
         by_task None xt h = absurd h
         by_task (Some doing) xt h =
             let d = noted_of shape (mode_of w.phase) doing.0 doing.1 (slice_get n.doings a) (subst (λ (t : Option (Job × Plan)). TaskClaim shape (mode_of w.phase) t (slice_get n.doings a)) xt (b.linked.claims a x e)) in
-            let s = subst (λ (t : Option (Job × Plan)). TaskSuits shape.geometry.origin_blocks x.card t) xt (b.used.suited a x e) in
+            let s = task_suits shape.geometry.origin_blocks x xt (b.used.suited a x e) in
             (d.doing, d.is, subst (λ (j : Job). Says d.doing j) (sym d.job_is) (says x doing.0 doing.1 d.doing s d.claim h.0))
 
   refuses_rightly : (w : State P A) (n : Notes) (event : Event) (what : What) (read : List Bytes) (chosen : Chosen P A) → Base w n → MayBe shape w event what read chosen → RefusesByCause n event what

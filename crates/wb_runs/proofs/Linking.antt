@@ -10,10 +10,9 @@ use Rattle.wb_disk.specs.Device.{Content as Bytes}
 use Rattle.wb_words.specs.SharedWords.{Words}
 use Rattle.wb_words.specs.declared.step.CellStep.{CellStep}
 use Rattle.wb_words.specs.Effects.{result_of}
-use Rattle.wb_tasks.specs.Tables.{BlockJob, Reading as ReadingPart, OnBlock, TaskJob}
+use Rattle.wb_tasks.specs.Tables.{BlockJob, Reading as ReadingPart, OnBlock}
 use Rattle.wb_tasks.specs.Plan.{Plan, want, after, got_of}
 use Rattle.wb_tasks.specs.Ready.{IsOpenings, Suits, IsOwnStep}
-use Rattle.wb_tasks.proofs.Readiness.{is_own_step}
 use Rattle.wb_tasks.specs.declared.step.DeviceStep.{DeviceStep}
 use Rattle.wb_tasks.specs.declared.step.DeviceStep.TheVariants.{Read as ReadExtent, Write as WriteExtent, Sync, ReadMetadata, WriteNode, WriteRoot}
 use Rattle.wb_tasks.specs.declared.step.DeskStep.{DeskStep}
@@ -33,6 +32,7 @@ use Rattle.wb_runs.proofs.Images.{Images}
 use Rattle.wb_runs.proofs.Metadata.{MetadataKept}
 use Rattle.wb_runs.proofs.Opening.{InPhase, Comes, Causes, open_next, open_on, failing_same, still_refuses, fault_why, reading_comes, reading_why}
 use Rattle.wb_runs.proofs.Passing.{WritesOwn, write_own}
+use Rattle.wb_runs.proofs.Plans.{own_next}
 use Rattle.wb_runs.proofs.Claims.{JobClaim, NotedClaim, TaskClaim, AllClaim, entered_at, read_words, write_words, read_extent, write_extent, write_unmaps, read_fails, write_fails}
 
 abbrev pub TaskHere : {P A : Type 0} → Phase P A → Option (Job × Plan) → Type 0
@@ -158,7 +158,7 @@ module _ (P A : Type 0) (shape : Shape) where
       (mode : Mode) (shown : List Bytes) where
     -- a request takes its own steps alone
     own : (part : BlockJob) (next : Want) → plan.job ≡ OnBlock part → next ≡ want plan → IsOwnStep (OnBlock part) next
-    own part next j h = subst (λ (v : Want). IsOwnStep (OnBlock part) v) (sym h) (subst (λ (q : TaskJob). IsOwnStep q (want plan)) j (is_own_step shape.geometry.origin_blocks plan x.card suits))
+    own part next j h = own_next shape.geometry.origin_blocks plan x.card suits (OnBlock part) next j h
 
     write_owns : (extent : Extent) (cut : List Extent) (next : Want) → plan.job ≡ OnBlock (write_job mode (block_range shape mode extent cut)) → next ≡ want plan → WritesOwn next
     write_owns extent cut next j h = write_own mode (block_range shape mode extent cut) next (own (write_job mode (block_range shape mode extent cut)) next j h)

@@ -1,11 +1,13 @@
 -- Lists of one thing, and lists of which one element changed.
-use Rattle.std.proofs.Common.{◌≡◌, inl, inr, ℕ, zero, suc, List, [], ◌∷◌, Some, None, Option, refl, sym, ap, slice_get, map, Contains}
+use Rattle.std.proofs.Common.{◌≡◌, ◌∙◌, inl, inr, ℕ, zero, suc, List, [], ◌∷◌, Some, None, Option, refl, sym, ap, slice_get, map, Contains}
 use Rattle.std.proofs.lemmas.List.Elements.{Contains-append_cases}
 use Rattle.wb_types.proofs.Lists.{Contains-one}
 use Rattle.wb_tasks.specs.Plan.{Plan}
 use Rattle.wb_promise.specs.declared.job.Job.{Job}
 use Rattle.wb_promise.specs.declared.event.Event.TheVariants.{Start}
 use Rattle.wb_promise.specs.States.{State, Actor, resting}
+use Rattle.std.proofs.lemmas.Option.{slice_get-map}
+use Rattle.std.specs.Option.{option_map}
 use Rattle.wb_promise.specs.Happenings.{DoesNotApply}
 
 -- what a list has is its first element, or another one
@@ -19,9 +21,7 @@ rests (x ∷ xs) zero z e = let same : resting ≡ z = cc in (ap (λ (v : Actor)
 rests (x ∷ xs) (suc b) z e = rests xs b z e
 
 pub there_rests : (actors : List Actor) (a : ℕ) (x : Actor) → slice_get actors a ≡ Some x → slice_get (map (λ (x : Actor). resting) actors) a ≡ Some resting
-there_rests [] a x e = absurd (cc)
-there_rests (z ∷ zs) zero x e = refl
-there_rests (z ∷ zs) (suc a) x e = there_rests zs a x e
+there_rests actors a x e = slice_get-map (λ (x : Actor). resting) actors a ∙ ap (option_map (λ (x : Actor). resting)) e
 
 -- an actor to which a start applies has no task
 pub free : (P A : Type 0) (w : State P A) (a : ℕ) (job : Job) → (¬ DoesNotApply w (Start a job)) → (x : Actor) × (slice_get w.actors a ≡ Some x) × (x.task ≡ None)

@@ -15,7 +15,7 @@ use Rattle.wb_tasks.specs.declared.step.Got.{Got}
 use Rattle.wb_tasks.specs.declared.step.Got.TheVariants.{Done, Refused as GotRefused}
 use Rattle.wb_promise.specs.declared.job.Job.{Job}
 use Rattle.wb_promise.specs.declared.job.Job.TheVariants.{Flush, Migrate, Replace, Invalidate, Write}
-use Rattle.wb_promise.specs.States.{Shape, State, Actor, Phase, Stands, Gone, Opens, OfTarget, mode_of}
+use Rattle.wb_promise.specs.States.{Shape, State, Actor, Phase, Stands, Gone, Opens, OfTarget, mode_of, Target}
 use Rattle.wb_promise.specs.Happenings.{Chosen, Plain, Orders, Commits, Asks, Gives, DoesMap, DoesUnmap, DoesRelease}
 use Rattle.wb_promise.specs.Effects.{desk_then, begun_desk, phase_then, phase_given}
 use Rattle.wb_runs.proofs.Desks.{is_unmappable, is_live}
@@ -74,37 +74,18 @@ module _ (P A : Type 0) where
   by_release Gone orders b chosen d = tt
   by_release (Opens mode reading) orders b chosen d = tt
 
-  by_begin : (phase : Phase P A) (most : _) (chosen : Chosen P A) → Keeps phase (Desk (BeginCommit most)) chosen
-  by_begin (Stands t) most chosen = begun_mode t.desk chosen
-  by_begin Gone most chosen = tt
-  by_begin (Opens mode reading) most chosen = tt
-
-  by_arrival : (phase : Phase P A) (most : _) (chosen : Chosen P A) → Keeps phase (Desk (Arrive most)) chosen
-  by_arrival (Stands t) most chosen = begun_mode t.desk chosen
-  by_arrival Gone most chosen = tt
-  by_arrival (Opens mode reading) most chosen = tt
-
-  by_asking : (phase : Phase P A) (most : _) (chosen : Chosen P A) → Keeps phase (Desk (Ask most)) chosen
-  by_asking (Stands t) most chosen = begun_mode t.desk chosen
-  by_asking Gone most chosen = tt
-  by_asking (Opens mode reading) most chosen = tt
-
-  by_break : (phase : Phase P A) (chosen : Chosen P A) → Keeps phase (Desk BreakCommit) chosen
-  by_break (Stands t) chosen = refl
-  by_break Gone chosen = tt
-  by_break (Opens mode reading) chosen = tt
-
-  by_end : (phase : Phase P A) (chosen : Chosen P A) → Keeps phase (Desk EndCommit) chosen
-  by_end (Stands t) chosen = ended_mode t.desk
-  by_end Gone chosen = tt
-  by_end (Opens mode reading) chosen = tt
+  -- so where a target stands
+  where_stands : (phase : Phase P A) (next : Want) (chosen : Chosen P A) → ((t : Target P) → Keeps (Stands t) next chosen) → Keeps phase next chosen
+  where_stands (Stands t) next chosen keeps = keeps t
+  where_stands Gone next chosen keeps = tt
+  where_stands (Opens mode reading) next chosen keeps = tt
 
   by_desk : (shape : Shape) (w : State P A) (x : Actor) (job : Job) (step : DeskStep) (got : Got) (read : List Bytes) (chosen : Chosen P A) → Gives shape w x job (Desk step) got read chosen → Keeps w.phase (Desk step) chosen
-  by_desk shape w x job (Arrive most) got read chosen g = by_arrival w.phase most chosen
-  by_desk shape w x job (Ask most) got read chosen g = by_asking w.phase most chosen
-  by_desk shape w x job (BeginCommit most) got read chosen g = by_begin w.phase most chosen
-  by_desk shape w x job EndCommit got read chosen g = by_end w.phase chosen
-  by_desk shape w x job BreakCommit got read chosen g = by_break w.phase chosen
+  by_desk shape w x job (Arrive most) got read chosen g = where_stands w.phase (Desk (Arrive most)) chosen (λ t. begun_mode t.desk chosen)
+  by_desk shape w x job (Ask most) got read chosen g = where_stands w.phase (Desk (Ask most)) chosen (λ t. begun_mode t.desk chosen)
+  by_desk shape w x job (BeginCommit most) got read chosen g = where_stands w.phase (Desk (BeginCommit most)) chosen (λ t. begun_mode t.desk chosen)
+  by_desk shape w x job EndCommit got read chosen g = where_stands w.phase (Desk EndCommit) chosen (λ t. ended_mode t.desk)
+  by_desk shape w x job BreakCommit got read chosen g = where_stands w.phase (Desk BreakCommit) chosen (λ t. refl)
   by_desk shape w x (Migrate migration block) (Map b c) got read chosen g = by_map w.phase b c got chosen g.1
   by_desk shape w x (Migrate migration block) (Unmap b) got read chosen g = by_unmap w.phase b chosen g.2
   by_desk shape w x (Write extent content) (Unmap b) got read chosen g = by_unmap w.phase b chosen g.2
@@ -119,24 +100,14 @@ module _ (P A : Type 0) where
   stays (Opens mode reading) shape (End answer) got chosen o k = absurd (o tt)
   stays phase shape next got chosen o k = refl
 
-  device_keeps : (phase : Phase P A) (step : _) (chosen : Chosen P A) → Keeps phase (Device step) chosen
-  device_keeps (Stands t) step chosen = refl
-  device_keeps Gone step chosen = tt
-  device_keeps (Opens mode reading) step chosen = tt
-
-  cell_keeps : (phase : Phase P A) (step : _) (chosen : Chosen P A) → Keeps phase (Cell step) chosen
-  cell_keeps (Stands t) step chosen = refl
-  cell_keeps Gone step chosen = tt
-  cell_keeps (Opens mode reading) step chosen = tt
-
   pub mode_stays : (shape : Shape) (w : State P A) (x : Actor) (job : Job) (next : Want) (got : Got) (read : List Bytes) (chosen : Chosen P A) → ¬ IsAnswer next → Gives shape w x job next got read chosen → mode_of (phase_then shape w.phase next got chosen) ≡ mode_of w.phase
-  mode_stays shape w x job (Cell step) got read chosen o g = stays w.phase shape (Cell step) got chosen o (cell_keeps w.phase step chosen)
-  mode_stays shape w x job (Device step) got read chosen o g = stays w.phase shape (Device step) got chosen o (device_keeps w.phase step chosen)
+  mode_stays shape w x job (Cell step) got read chosen o g = stays w.phase shape (Cell step) got chosen o (where_stands w.phase (Cell step) chosen (λ t. refl))
+  mode_stays shape w x job (Device step) got read chosen o g = stays w.phase shape (Device step) got chosen o (where_stands w.phase (Device step) chosen (λ t. refl))
   mode_stays shape w x job (Desk step) got read chosen o g = stays w.phase shape (Desk step) got chosen o (by_desk shape w x job step got read chosen g)
   mode_stays shape w x job (End answer) got read chosen o g = absurd (o tt)
 
   pub mode_faults : (shape : Shape) (phase : Phase P A) (step : _) (got : Got) (chosen : Chosen P A) → mode_of (phase_then shape phase (Device step) got chosen) ≡ mode_of phase
-  mode_faults shape phase step got chosen = stays phase shape (Device step) got chosen (λ z. z) (device_keeps phase step chosen)
+  mode_faults shape phase step got chosen = stays phase shape (Device step) got chosen (λ z. z) (where_stands phase (Device step) chosen (λ t. refl))
 
   -- an order that is given leaves it
   pub mode_given : (phase : Phase P A) (job : Job) (chosen : Chosen P A) → mode_of (phase_given phase job chosen) ≡ mode_of phase

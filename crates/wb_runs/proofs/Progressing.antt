@@ -33,7 +33,7 @@ use Rattle.wb_promise.specs.Happenings.{Chosen, Happening, OfSome, Gives, Falter
 use Rattle.wb_promise.specs.Effects.{device_done, device_failed, commit_then, reading_then, task_then, phase_then, phase_opened, phase_given, actor_then, stepped, with_actor, cleared, given, started, job_of, cut_of, after_what, after_happening, after_all, IsRun, looks_of}
 use Rattle.wb_promise.specs.Clerk.{Notes, formatted}
 use Rattle.wb_promise.specs.Headline.{note_happening}
-use Rattle.wb_runs.specs.Holding.{TaskSuits, AllSuited}
+use Rattle.wb_runs.specs.Holding.{AllSuited}
 use Rattle.wb_contents.proofs.Lists.{set_other, set_there}
 use Rattle.wb_runs.proofs.Lists.{rests, free}
 use Rattle.wb_runs.proofs.Images.{Images}
@@ -42,7 +42,7 @@ use Rattle.wb_runs.proofs.Claims.{TaskClaim, Noted, noted_of}
 use Rattle.wb_runs.proofs.Opening.{IsOpeningJob, IsServed}
 use Rattle.wb_runs.proofs.Linking.{TaskHere, IsTask, Linked}
 use Rattle.wb_runs.proofs.LinkedRuns.{Base, base_after, base_start}
-use Rattle.wb_runs.proofs.Plans.{plan_of}
+use Rattle.wb_runs.proofs.Plans.{plan_of, task_suits}
 use Rattle.wb_tasks.specs.Points.{AtFirst}
 use Rattle.wb_runs.proofs.Points.{ToLook, FlushAt, FlushJob, FlushTask, OpenAt, OpenTask, Going, CommitJob, Flushes, Suspends, task_of, doing_of, commit_left, FlushPoint, IsOf, AtFlush, IsLeading}
 use Rattle.wb_runs.proofs.Passing.{target_stands}
@@ -171,7 +171,7 @@ module _ (P A : Type 0) (shape : Shape) where
     -- whatever a step of a job of a block gave
     block_goes : (job : Job) (plan : Plan) (next : Want) (got : Got) (chosen : Chosen P A) → OnSome plan → IsOther job → x.task ≡ Some (job, plan) → next ≡ want plan → Then next got chosen
     block_goes job plan next got chosen o f xt h =
-        let suits = subst (λ (k : Option (Job × Plan)). TaskSuits shape.geometry.origin_blocks x.card k) xt (suited a x e) in
+        let suits = task_suits shape.geometry.origin_blocks x xt (suited a x e) in
         let own = subst (λ (v : Want). IsOwnStep (OnBlock o.0) v) (sym h) (own_step x.card plan o.0 o.1 suits) in
         from_moved next got chosen _ (ap (λ k. task_then k next got) xt) (not_flush _ _ (same_commit t commit o.0 next got chosen own) (block_task job plan next got o (mine job plan xt) f))
 

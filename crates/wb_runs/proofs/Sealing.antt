@@ -17,6 +17,7 @@ use Rattle.wb_words.specs.Cards.{holding, losing, sealing}
 use Rattle.wb_words.specs.Rule.{LockRule}
 use Rattle.wb_words.specs.Effects.{words_after, card_after}
 use Rattle.wb_words.proofs.RuleKept.{step_keeps}
+use Rattle.wb_contents.proofs.Lists.{set_twice}
 use Rattle.wb_promise.specs.Effects.{sealing_steps, words_by, card_by}
 
 set_card : (cards : List Card) (a : ℕ) (c : Card) → get_elem? cards a ≡ some c → slice_set cards a c ≡ cards
@@ -28,11 +29,6 @@ card_set : (cards : List Card) (a : ℕ) (c d : Card) → get_elem? cards a ≡ 
 card_set [] a c d e = absurd (cc)
 card_set (x ∷ cards) zero c d e = refl
 card_set (x ∷ cards) (suc a) c d e = card_set cards a c d e
-
-set_again : (cards : List Card) (a : ℕ) (c d : Card) → slice_set (slice_set cards a c) a d ≡ slice_set cards a d
-set_again [] a c d = refl
-set_again (x ∷ cards) zero c d = refl
-set_again (x ∷ cards) (suc a) c d = ap (λ cs. x ∷ cs) (set_again cards a c d)
 
 -- nobody has taken a block
 abbrev pub NoneTaken : List ℕ → Type 0
@@ -86,7 +82,7 @@ module _ (blocks : ℕ) (clean : Bool) (a : ℕ) where
     seals = sealing b (seal_word place dirty) owning
 
     rule_sealed : LockRule blocks sealed (slice_set cards a seals)
-    rule_sealed = subst (λ (cs : List Card). LockRule blocks sealed cs) (set_again cards a owning seals)
+    rule_sealed = subst (λ (cs : List Card). LockRule blocks sealed cs) (set_twice cards a owning seals)
         (step_keeps blocks owned (slice_set cards a owning) a owning (Seal b place dirty) rule_owned (card_set cards a card owning here) (inside, refl))
 
     abbrev given_words : Words
@@ -96,7 +92,7 @@ module _ (blocks : ℕ) (clean : Bool) (a : ℕ) where
     given_card = holding Nothing seals
 
     rule_given : LockRule blocks given_words (slice_set cards a given_card)
-    rule_given = subst (λ (cs : List Card). LockRule blocks given_words cs) (set_again cards a seals given_card)
+    rule_given = subst (λ (cs : List Card). LockRule blocks given_words cs) (set_twice cards a seals given_card)
         (step_keeps blocks sealed (slice_set cards a seals) a seals (Release Owned b) rule_sealed (card_set cards a card seals here) (inside, refl))
 
     none_given : NoneTaken given_words.cells
@@ -125,4 +121,4 @@ module _ (blocks : ℕ) (clean : Bool) (a : ℕ) where
       let rest = all_sealed (suc c) entries ws cards' cd (λ i e f. inside (suc i) e f) (rule_given words cards card b place dirty in_b r here nothing none) (card_set cards a card cd here) refl (none_given words cards card b place dirty in_b r here nothing none) in
       subst (λ (x : Words). Sealed x cards (card_by words card (sealing_steps clean c (Some entry ∷ entries)))) (sym (three_words words cards card b place dirty in_b r here nothing none steps))
       (subst (λ (x : Card). Sealed (words_by ws steps) cards x) (sym (three_card words cards card b place dirty in_b r here nothing none steps))
-      (record { rule = subst (λ (cs : List Card). LockRule blocks (words_by ws steps) cs) (set_again cards a cd (card_by ws cd steps)) rest.rule; nothing = rest.nothing; none = rest.none }))
+      (record { rule = subst (λ (cs : List Card). LockRule blocks (words_by ws steps) cs) (set_twice cards a cd (card_by ws cd steps)) rest.rule; nothing = rest.nothing; none = rest.none }))

@@ -59,9 +59,10 @@ use Rattle.wb_runs.proofs.Sealing.{EntriesInside, fresh_taken, all_sealed, Seale
 use Rattle.wb_runs.proofs.MetadataRuns.{IsKnown, known_after, known_at_start}
 use Rattle.wb_runs.proofs.Stepping.{done_kept}
 use Rattle.wb_runs.proofs.Ruling.{rule_after, rule_same, AllBlank, fresh_ruled, each_set, all_rest, cards_set, card_at}
-use Rattle.wb_runs.proofs.Suiting.{gives_fits}
+use Rattle.wb_runs.proofs.Suiting.{gives_fits, word_given}
 use Rattle.wb_policy.specs.declared.order.Order.TheVariants.{Promote as PromoteOrder, Replace as ReplaceOrder, Demote as DemoteOrder, Clean as CleanOrder}
 use Rattle.wb_types.specs.declared.number.CBlock.{CBlock}
+use Rattle.wb_runs.proofs.Plans.{task_suits}
 use Rattle.wb_desk.proofs.Leaving.{mapped_within}
 
 -- an actor that has a task opens
@@ -103,7 +104,7 @@ module _ (P A : Type 0) (shape : Shape) where
 
   module _ (devices : Devices (List History)) (actors : List Actor) (a : ℕ) (x : Actor) (e : slice_get actors a ≡ Some x) (job : Job) (plan : Plan) (xt : x.task ≡ Some (job, plan)) (all : AllSuited blocks actors) (ords : AllOrdersInside shape.geometry actors) where
     suits : Suits blocks plan x.card
-    suits = subst (λ (t : Option (Job × Plan)). TaskSuits blocks x.card t) xt (all a x e)
+    suits = task_suits blocks x xt (all a x e)
 
     set_suited : (y : Actor) → TaskSuits blocks y.card y.task → AllSuited blocks (slice_set actors a y)
     set_suited y s = each_set actors a x y (λ (z : Actor). TaskSuits blocks z.card z.task) e s all
@@ -254,11 +255,8 @@ module _ (P A : Type 0) (shape : Shape) where
     answers Gone answer p all ords i h g = gone_answer w.devices w.actors a x e job plan xt all ords answer got chosen i h
     answers (Opens mode reading) answer p all ords i h g = opens mode reading answer p all ords i h g
 
-    given_word : (j : Job) (step : CellStep) → Gives shape w x j (Cell step) got read chosen → OfTarget w.phase (λ t. got ≡ got_of (result_of t.words step))
-    given_word j step g = g.1
-
     steps : (next : Want) → UsedRightly w.phase w.actors → next ≡ want plan → Gives shape w x job next got read chosen → Then w.phase next
-    steps (Cell step) u h g = on_words w.devices w.actors a x e job plan xt u.suited u.orders w.phase step got chosen u.here h (gives_fits P A shape w x got read chosen job (Cell step) tt g) (given_word job step g)
+    steps (Cell step) u h g = on_words w.devices w.actors a x e job plan xt u.suited u.orders w.phase step got chosen u.here h (gives_fits P A shape w x got read chosen job (Cell step) tt g) (word_given P A shape w x got read chosen job step g)
     steps (Device step) u h g = on_plain w.devices w.actors a x e job plan xt u.suited u.orders w.phase (Device step) got chosen tt u.here h (gives_fits P A shape w x got read chosen job (Device step) tt g)
     steps (Desk step) u h g = on_plain w.devices w.actors a x e job plan xt u.suited u.orders w.phase (Desk step) got chosen tt u.here h (gives_fits P A shape w x got read chosen job (Desk step) tt g)
     steps (End answer) u h g = answers w.phase answer refl u.suited u.orders u.here h g
@@ -305,8 +303,8 @@ module _ (P A : Type 0) (shape : Shape) where
   rest_orders actors a x e = subst (λ (v : Actor). OrdersInside shape.geometry (held_of v)) (sym (all_rest actors a x e)) (λ order m. absurd (omega (arith, m.1)))
 
   -- an order that is given leaves the words
-  same_here : (phase : Phase P A) (job : Job) (chosen : Chosen P A) (actors : List Actor) → InPhase phase actors → InPhase (phase_given phase job chosen) actors
-  same_here phase job chosen actors = given_keeps (λ (q : Phase P A). InPhase q actors) (λ t desk here. here) phase job chosen
+  used_given : (phase : Phase P A) (job : Job) (chosen : Chosen P A) {actors : List Actor} → UsedRightly phase actors → UsedRightly (phase_given phase job chosen) actors
+  used_given phase job chosen {actors} = given_keeps (λ (q : Phase P A). UsedRightly q actors) (λ t desk u. record { suited = u.suited; here = u.here; orders = u.orders }) phase job chosen
 
   -- a task of an actor that has none
   starts_task : (phase : Phase P A) (actors : List Actor) (a : ℕ) (x y : Actor) → slice_get actors a ≡ Some x → y.card ≡ x.card → TaskSuits blocks y.card y.task → OrdersInside shape.geometry (held_of y) → (¬ ¬ OfTarget phase (λ t. Unit {0})) → UsedRightly phase actors → UsedRightly phase (slice_set actors a y)
@@ -319,7 +317,7 @@ module _ (P A : Type 0) (shape : Shape) where
   starts_task (Opens mode reading) actors a x y e c s o n u = absurd (n (λ z. z))
 
   holds_nothing : (w : State P A) (x : Actor) (a : ℕ) → UsedRightly w.phase w.actors → slice_get w.actors a ≡ Some x → x.task ≡ None → x.card.hold ≡ Nothing
-  holds_nothing w x a u e f = subst (λ (t : Option (Job × Plan)). TaskSuits blocks x.card t) f (u.suited a x e)
+  holds_nothing w x a u e f = task_suits blocks x f (u.suited a x e)
 
   abbrev AfterWhat : State P A → Type 0
   AfterWhat w = UsedRightly w.phase w.actors
@@ -400,58 +398,37 @@ module _ (P A : Type 0) (shape : Shape) where
   starts w a Flush chosen k u applies gives =
       let f = free P A w a Flush applies in
       subst (λ (o : Option Actor). Started_so w a Flush chosen o) (sym f.1)
-      (over Flush chosen w.phase w.actors (given shape (mode_of w.phase) f.0 Flush chosen) a (starts_task w.phase w.actors a f.0 (given shape (mode_of w.phase) f.0 Flush chosen) f.1 refl (flush_begins blocks (blocks_left f.0.awaiting) (Rattle.wb_promise.specs.Happenings.most_for shape.geometry false) f.0.card (holds_nothing w f.0 a u f.1 f.2)) (u.orders a f.0 f.1) (λ m. applies (inr (inr (inr m)))) u))
-    where
-      over : (job : Job) (chosen : Chosen P A) (phase : Phase P A) (actors : List Actor) (y : Actor) (a : ℕ) → UsedRightly phase (slice_set actors a y) → UsedRightly (phase_given phase job chosen) (slice_set actors a y)
-      over job chosen phase actors y a u = record { suited = u.suited; here = same_here phase job chosen (slice_set actors a y) u.here; orders = u.orders }
+      (used_given w.phase Flush chosen (starts_task w.phase w.actors a f.0 (given shape (mode_of w.phase) f.0 Flush chosen) f.1 refl (flush_begins blocks (blocks_left f.0.awaiting) (Rattle.wb_promise.specs.Happenings.most_for shape.geometry false) f.0.card (holds_nothing w f.0 a u f.1 f.2)) (u.orders a f.0 f.1) (λ m. applies (inr (inr (inr m)))) u))
   starts w a Suspend (Looks looks) k u applies gives =
       let f = free P A w a Suspend applies in
       subst (λ (o : Option Actor). Started_so w a Suspend (Looks looks) o) (sym f.1)
-      (over Suspend (Looks looks) w.phase w.actors (given {P = P} {A = A} shape (mode_of w.phase) f.0 Suspend (Looks looks)) a (starts_task w.phase w.actors a f.0 (given {P = P} {A = A} shape (mode_of w.phase) f.0 Suspend (Looks looks)) f.1 refl (suspend_begins blocks looks (Rattle.wb_promise.specs.Happenings.most_for shape.geometry true) f.0.card (looks_below w looks k gives.1) (holds_nothing w f.0 a u f.1 f.2)) (u.orders a f.0 f.1) (λ m. applies (inr (inr (inr m)))) u))
-    where
-      over : (job : Job) (chosen : Chosen P A) (phase : Phase P A) (actors : List Actor) (y : Actor) (a : ℕ) → UsedRightly phase (slice_set actors a y) → UsedRightly (phase_given phase job chosen) (slice_set actors a y)
-      over job chosen phase actors y a u = record { suited = u.suited; here = same_here phase job chosen (slice_set actors a y) u.here; orders = u.orders }
+      (used_given w.phase Suspend (Looks looks) (starts_task w.phase w.actors a f.0 (given {P = P} {A = A} shape (mode_of w.phase) f.0 Suspend (Looks looks)) f.1 refl (suspend_begins blocks looks (Rattle.wb_promise.specs.Happenings.most_for shape.geometry true) f.0.card (looks_below w looks k gives.1) (holds_nothing w f.0 a u f.1 f.2)) (u.orders a f.0 f.1) (λ m. applies (inr (inr (inr m)))) u))
   starts w a (Read extent) (Cut cut) k u applies gives =
       let f = free P A w a (Read extent) applies in
       subst (λ (o : Option Actor). Started_so w a (Read extent) (Cut cut) o) (sym f.1)
-      (over (starts_task w.phase w.actors a f.0 (given {P = P} {A = A} shape (mode_of w.phase) f.0 (Read extent) (Cut cut)) f.1 refl (starts_inside shape extent (may_start shape extent gives.0), (holds_nothing w f.0 a u f.1 f.2, refl)) (u.orders a f.0 f.1) (λ m. applies (inr (inr (inr m)))) u))
-    where
-      over : {actors : List Actor} → UsedRightly w.phase actors → UsedRightly (phase_given w.phase (Read extent) (Cut cut)) actors
-      over {actors} u = record { suited = u.suited; here = same_here w.phase (Read extent) (Cut cut) actors u.here; orders = u.orders }
+      (used_given w.phase (Read extent) (Cut cut) (starts_task w.phase w.actors a f.0 (given {P = P} {A = A} shape (mode_of w.phase) f.0 (Read extent) (Cut cut)) f.1 refl (starts_inside shape extent (may_start shape extent gives.0), (holds_nothing w f.0 a u f.1 f.2, refl)) (u.orders a f.0 f.1) (λ m. applies (inr (inr (inr m)))) u))
   starts w a (Write extent content) (Cut cut) k u applies gives =
       let f = free P A w a (Write extent content) applies in
       subst (λ (o : Option Actor). Started_so w a (Write extent content) (Cut cut) o) (sym f.1)
-      (over (starts_task w.phase w.actors a f.0 (given {P = P} {A = A} shape (mode_of w.phase) f.0 (Write extent content) (Cut cut)) f.1 refl (write_suits (mode_of w.phase) (block_range shape (mode_of w.phase) extent cut) f.0.card (starts_inside shape extent (may_start shape extent gives.0)) (holds_nothing w f.0 a u f.1 f.2)) (u.orders a f.0 f.1) (λ m. applies (inr (inr (inr m)))) u))
-    where
-      over : {actors : List Actor} → UsedRightly w.phase actors → UsedRightly (phase_given w.phase (Write extent content) (Cut cut)) actors
-      over {actors} u = record { suited = u.suited; here = same_here w.phase (Write extent content) (Cut cut) actors u.here; orders = u.orders }
+      (used_given w.phase (Write extent content) (Cut cut) (starts_task w.phase w.actors a f.0 (given {P = P} {A = A} shape (mode_of w.phase) f.0 (Write extent content) (Cut cut)) f.1 refl (write_suits (mode_of w.phase) (block_range shape (mode_of w.phase) extent cut) f.0.card (starts_inside shape extent (may_start shape extent gives.0)) (holds_nothing w f.0 a u f.1 f.2)) (u.orders a f.0 f.1) (λ m. applies (inr (inr (inr m)))) u))
   starts w a (Invalidate block) Plain k u applies gives =
       let f = free P A w a (Invalidate block) applies in
       subst (λ (o : Option Actor). Started_so w a (Invalidate block) Plain o) (sym f.1)
-      (over (starts_task w.phase w.actors a f.0 (given {P = P} {A = A} shape (mode_of w.phase) f.0 (Invalidate block) Plain) f.1 refl (block_there shape block gives, (holds_nothing w f.0 a u f.1 f.2, refl)) (u.orders a f.0 f.1) (λ m. applies (inr (inr (inr (λ o. m (target_stands w.phase o)))))) u))
-    where
-      over : {actors : List Actor} → UsedRightly w.phase actors → UsedRightly (phase_given w.phase (Invalidate block) Plain) actors
-      over {actors} u = record { suited = u.suited; here = same_here w.phase (Invalidate block) Plain actors u.here; orders = u.orders }
+      (used_given w.phase (Invalidate block) Plain (starts_task w.phase w.actors a f.0 (given {P = P} {A = A} shape (mode_of w.phase) f.0 (Invalidate block) Plain) f.1 refl (block_there shape block gives, (holds_nothing w f.0 a u f.1 f.2, refl)) (u.orders a f.0 f.1) (λ m. applies (inr (inr (inr (λ o. m (target_stands w.phase o)))))) u))
   starts w a (Migrate migration block) chosen k u applies gives =
       let f = free P A w a (Migrate migration block) applies in
       let kept = subst (λ (o : Option Actor). OrdersInside shape.geometry (Rattle.wb_promise.specs.Happenings.orders_in o)) (sym f.1) (λ order m. u.orders a f.0 f.1 order (in_orders f.0 order m)) in
       let inside = order_inside k.images w.phase w.commit w.devices.metadata (slice_get w.actors a) migration block chosen k.known kept gives in
       subst (λ (o : Option Actor). Started_so w a (Migrate migration block) chosen o) (sym f.1)
-      (over (starts_task w.phase w.actors a f.0 (given {P = P} {A = A} shape (mode_of w.phase) f.0 (Migrate migration block) chosen) f.1 refl (block_inside migration block inside, (holds_nothing w f.0 a u f.1 f.2, refl))
+      (used_given w.phase (Migrate migration block) chosen (starts_task w.phase w.actors a f.0 (given {P = P} {A = A} shape (mode_of w.phase) f.0 (Migrate migration block) chosen) f.1 refl (block_inside migration block inside, (holds_nothing w f.0 a u f.1 f.2, refl))
       (given_orders migration block f.0 chosen inside (u.orders a f.0 f.1)) (λ m. applies (inr (inr (inr m)))) u))
-    where
-      over : {actors : List Actor} → UsedRightly w.phase actors → UsedRightly (phase_given w.phase (Migrate migration block) chosen) actors
-      over {actors} u = record { suited = u.suited; here = same_here w.phase (Migrate migration block) chosen actors u.here; orders = u.orders }
   starts w a (Replace old new) chosen k u applies gives =
       let f = free P A w a (Replace old new) applies in
       let kept = subst (λ (o : Option Actor). OrdersInside shape.geometry (Rattle.wb_promise.specs.Happenings.orders_in o)) (sym f.1) (λ order m. u.orders a f.0 f.1 order (in_orders f.0 order m)) in
       let inside = replacement_inside k.images w.phase w.commit w.devices.metadata (slice_get w.actors a) old new chosen k.known kept gives in
       subst (λ (o : Option Actor). Started_so w a (Replace old new) chosen o) (sym f.1)
-      (over (starts_task w.phase w.actors a f.0 (given {P = P} {A = A} shape (mode_of w.phase) f.0 (Replace old new) chosen) f.1 refl (inside.1.0, (holds_nothing w f.0 a u f.1 f.2, refl))
+      (used_given w.phase (Replace old new) chosen (starts_task w.phase w.actors a f.0 (given {P = P} {A = A} shape (mode_of w.phase) f.0 (Replace old new) chosen) f.1 refl (inside.1.0, (holds_nothing w f.0 a u f.1 f.2, refl))
       (replacement_given k.images w.phase w.commit w.devices.metadata old new f.0 chosen k.known (subst (λ (o : Option Actor). StartGives shape w.phase o (Replace old new) Started chosen) f.1 gives) (u.orders a f.0 f.1)) (λ m. applies (inr (inr (inr m)))) u))
-    where
-      over : {actors : List Actor} → UsedRightly w.phase actors → UsedRightly (phase_given w.phase (Replace old new) chosen) actors
-      over {actors} u = record { suited = u.suited; here = same_here w.phase (Replace old new) chosen actors u.here; orders = u.orders }
   starts w a job chosen k u applies gives = absurd gives
 
   -- ---- every event

@@ -25,6 +25,7 @@ use Rattle.wb_simulation.specs.Worlds.{OrdersAgree, OrderIsThere}
 use Rattle.wb_promise.specs.States.{Actor}
 use Rattle.wb_link.specs.Openings.{opened_on}
 use Rattle.wb_simulation.specs.Opened.{OpenedFollowed, is_clean_in, TakesClean}
+use Rattle.wb_runs.proofs.Sealing.{fresh_taken}
 use Rattle.wb_tasks.proofs.Seals.{place_told}
 
 -- ---- the seals once each entry was sealed
@@ -157,13 +158,8 @@ once_of (Some entry ∷ entries) once = (
 -- ---- what a seal tells
 
 -- no block is sealed at first
-none_at : (n k : ℕ) → unwrap_or (slice_get (replicate n zero) k) zero ≡ zero
-none_at zero k = refl
-none_at (suc n) zero = refl
-none_at (suc n) (suc k) = none_at n k
-
 pub fresh_at : (blocks : ℕ) (block : OBlock) → word_at (replicate blocks 0) block ≡ 0
-fresh_at blocks block = none_at blocks block.0
+fresh_at blocks block = fresh_taken blocks block.0
 
 -- and tells that it is on the origin
 pub nowhere : (dirty : Bool) → SealAgrees 0 (record { location = None; dirty = dirty })
