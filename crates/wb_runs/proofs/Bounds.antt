@@ -88,9 +88,8 @@ seals_after shape words SetFailed i all = all
 seals_after shape words SetSuspended i all = all
 
 pub fresh_inside : (n k : ℕ) → SealsInside n (replicate k 0)
-fresh_inside n zero i c e = absurd (cc)
-fresh_inside n (suc k) zero c e = absurd (cc)
 fresh_inside n (suc k) (suc i) c e = fresh_inside n k i c e
+fresh_inside n k i c e = absurd (cc)
 
 -- who opens a target seals within the cache
 pub sealed_inside : (shape : Shape) (clean : Bool) (c : ℕ) (entries : List (Option Entry)) (words : Words) → c + length entries ≤ shape.geometry.cache_blocks → SealsInside shape.geometry.cache_blocks words.seals → SealsInside shape.geometry.cache_blocks (words_by words (sealing_steps clean c entries)).seals

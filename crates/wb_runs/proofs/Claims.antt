@@ -81,8 +81,7 @@ pub record Noted (shape : Shape) (mode : Mode) (job : Job) (plan : Plan) (noted 
 
 pub noted_of : (shape : Shape) (mode : Mode) (job : Job) (plan : Plan) (noted : Option (Option Doing)) → NotedClaim shape mode job plan noted → Noted shape mode job plan noted
 noted_of shape mode job plan (Some (Some doing)) c = record { doing = doing; is = refl; job_is = c.0; claim = c.1 }
-noted_of shape mode job plan (Some None) c = absurd c
-noted_of shape mode job plan None c = absurd c
+noted_of shape mode job plan noted c = absurd c
 
 -- what is left of a job of a block, by what its actor has
 pub has_steps : (blocks : ℕ) (job : BlockJob) (plan : Plan) (x : Actor) → Suits blocks plan x.card → plan.job ≡ OnBlock job → Has job x.card plan.steps

@@ -187,7 +187,6 @@ module _ (shape : Shape) (mode : Mode) (whole : Extent) (part : BlockRange) (cut
       by_test : (t : Bool) → Then (if t then plan_of (OnBlock job) (gives_back (OnBlock job)) (Refuses Worn) else plan_of (OnBlock job) ws answer) moved
       by_test true f = undone _ Worn f
       by_test false f = begun_covers shape mode whole ws moved (rest_begun job true ws h.2) c
-  cell_covers job m (Look (CountWord kind)) ws answer h c = absurd h.1.1
   cell_covers job m (Take access b seen) ws answer h c = by_test (eqb (word_at words.cells b) seen)
     where
       by_test : (t : Bool) → Then (after (plan_of (OnBlock job) (Cell (Take access b seen) ∷ ws) answer) (got_of (if t then Won else CellLost))) moved
@@ -198,7 +197,7 @@ module _ (shape : Shape) (mode : Mode) (whole : Extent) (part : BlockRange) (cut
   cell_covers job m (Finish b) ws answer h c = onward_covers ws answer (rest_begun job false ws h.1.1.3) c
   cell_covers job m (Count kind) ws answer h c = onward_covers ws answer (rest_begun job h.1.0 ws h.1.1) c
   cell_covers job m SetFailed ws answer h c = onward_covers ws answer (ap is_begun h.1) c
-  cell_covers job m SetSuspended ws answer h c = absurd h.1.1
+  cell_covers job m step ws answer h c = absurd h.1.1
 
   -- one on an extent moves its sectors, where it is done
   pub read_covers : (job : BlockJob) (d : _) (e : Extent) (ws : List Want) (answer : Answer) → Has job card (Device (ReadExtent d e) ∷ ws) → Covers shape mode whole (Device (ReadExtent d e) ∷ ws) moved → answer ≡ Finished → Covers shape mode whole ws (moved ++ sectors_in (home shape whole e))

@@ -32,12 +32,10 @@ module _ (P A : Type 0) (shape : Shape) where
   sync_failed : (i : Images) (phase : Phase P A) (commit : Option RunningCommit) (m : List History) (landed : ℕ → Bool) → Known P A shape i phase commit m → FailsSync phase commit m →
       KnownNext P A shape i (phase_then shape phase (Device (Sync Metadata)) Fault Plain) (commit_then phase commit (Device (Sync Metadata)) Fault Plain) (synced_where landed m)
   sync_failed i (Stands t) (Some c) m landed k s = commit_stops i t c m (synced_where landed m) k (stopped shape.geometry i c k.stands.of m (synced_where landed m) k.stands.under (sync_fails c.image c.steps landed m s.0))
-  sync_failed i (Stands t) None m landed k s = absurd s
-  sync_failed i Gone (Some c) m landed k s = absurd k
-  sync_failed i Gone None m landed k s = absurd s
-  sync_failed i (Opens mode None) (Some c) m landed k s = absurd k
   sync_failed i (Opens mode (Some reading)) (Some c) m landed k s = opening_stops i mode (synced_where landed m) (stopped shape.geometry i c k.of m (synced_where landed m) k.under (sync_fails c.image c.steps landed m s.0))
   sync_failed i (Opens mode reading) None m landed k s = stays_known P A shape i (Opens mode None) None (synced_where landed m) (partly_readable shape.geometry i landed m (kept_readable shape.geometry i m P A (Opens mode reading) None k))
+  sync_failed i phase None m landed k s = absurd s
+  sync_failed i phase (Some c) m landed k s = absurd k
 
   -- what a failed write of a node or root did
   did : (landed : Bool) (c : RunningCommit) (old new : List History) → LandedOr landed (DoesStep c.image c.steps old new) (new ≡ old) → DoesStep c.image c.steps old new ⊎ (new ≡ old)
@@ -47,9 +45,8 @@ module _ (P A : Type 0) (shape : Shape) where
   put_failed : (i : Images) (phase : Phase P A) (c : RunningCommit) (old new : List History) (choice : Choice) (step : DeviceStep) → IsPut step → Known P A shape i phase (Some c) old → IsNextOf (Some c) step old
       (λ running. LandedOr (lands Metadata choice (sector_put (coming_step running.image running.steps))) (DoesStep running.image running.steps old new) (new ≡ old)) → Turns (λ j. Readable shape.geometry j new) i
   put_failed i (Stands t) c old new choice step p k s = stopped shape.geometry i c k.stands.of old new k.stands.under (put_fails c.image c.steps step old new p s.0 (did _ c old new s.1))
-  put_failed i Gone c old new choice step p k s = absurd k
-  put_failed i (Opens mode None) c old new choice step p k s = absurd k
   put_failed i (Opens mode (Some reading)) c old new choice step p k s = stopped shape.geometry i c k.of old new k.under (put_fails c.image c.steps step old new p s.0 (did _ c old new s.1))
+  put_failed i phase c old new choice step p k s = absurd k
 
   node_failed : (i : Images) (phase : Phase P A) (commit : Option RunningCommit) (m : List History) (choice : Choice) (number : ℕ) (landed : ℕ → Bool) (job : Job) (buffer : List Bytes) (chosen : Chosen P A) → Known P A shape i phase commit m → FailsPut commit choice (WriteNode number) m chosen →
       KnownNext P A shape i (phase_then shape phase (Device (WriteNode number)) Fault chosen) (commit_then phase commit (Device (WriteNode number)) Fault chosen) (device_failed landed job buffer (WriteNode number) chosen m)

@@ -138,11 +138,10 @@ mapped_each (None ∷ es) b h = let r = mapped_each es b h in (suc r.0, r.1)
 mapped_each (Some e ∷ es) b h = first_or e.origin b (mapped_in es) ((c : ℕ) × IsMappedAt (origins (Some e ∷ es)) b.0 c) h (λ s. (0, ap (λ (x : OBlock). Some (Some x.0)) (sym s))) (λ l. let r = mapped_each es b l in (suc r.0, r.1))
 
 mapped_all : (es : List (Option Entry)) (b : OBlock) (c : ℕ) → IsMappedAt (origins es) b.0 c → Contains (mapped_in es) b
-mapped_all [] b c m = absurd (cc)
-mapped_all (None ∷ es) b zero m = absurd (cc)
 mapped_all (None ∷ es) b (suc c) m = mapped_all es b c m
 mapped_all (Some e ∷ es) b zero m = let s : e.origin.0 ≡ b.0 = cc in subst (λ (x : OBlock). Contains (e.origin ∷ mapped_in es) x) (ap (λ (n : ℕ). record { 0 = n }) s) (Contains-first e.origin (mapped_in es))
 mapped_all (Some e ∷ es) b (suc c) m = Contains-behind e.origin (mapped_in es) b (mapped_all es b c m)
+mapped_all es b c m = absurd (cc)
 
 -- whether a step has to wait
 awaits : {P : Type 0} (desk : DeskState P) (share : Share) (next : Want) → Decided (Awaits desk share next)
@@ -295,8 +294,7 @@ module _ (P A : Type 0) (shape : Shape) (policy : P) (first : ReadSteps A) (begi
           | inr never ↦ record { what = Refused Busy; read = []; chosen = Plain; may = (refl, applies, gives (Refused Busy) Plain (subst (Comes (Refused Busy) Plain) (sym e) (none, never))) }
         ]
       ]
-      by_phase Gone e = absurd (place (λ o. subst (λ (p : Phase P A). OfTarget p (λ t. Unit {0})) e o))
-      by_phase (Opens mode reading) e = absurd (place (λ o. subst (λ (p : Phase P A). OfTarget p (λ t. Unit {0})) e o))
+      by_phase phase e = absurd (place (λ o. subst (λ (p : Phase P A). OfTarget p (λ t. Unit {0})) e o))
 
   starts : (w : State P A) (a : ℕ) (job : Job) → (¬ DoesNotApply w (Start a job)) → HasHappening shape w (Start a job)
   starts w a (Read extent) applies = by_refusal (extent_refusal shape extent) refl
@@ -317,8 +315,7 @@ module _ (P A : Type 0) (shape : Shape) (policy : P) (first : ReadSteps A) (begi
     where
       by_phase : NoTaskRuns w → (phase : Phase P A) → w.phase ≡ phase → HasHappening shape w (Start a Suspend)
       by_phase idle (Stands t) e = record { what = Started; read = []; chosen = Looks (mapped_in t.desk.tree.entries); may = (refl, applies, (idle, subst (λ (p : Phase P A). OfTarget p (λ u. AreMapped u.desk (mapped_in t.desk.tree.entries))) (sym e) (record { each = mapped_each t.desk.tree.entries; all = mapped_all t.desk.tree.entries }))) }
-      by_phase idle Gone e = absurd (applies (inr (inr (inr (λ o. subst (λ (p : Phase P A). OfTarget p (λ t. Unit {0})) e o)))))
-      by_phase idle (Opens mode reading) e = absurd (applies (inr (inr (inr (λ o. subst (λ (p : Phase P A). OfTarget p (λ t. Unit {0})) e o)))))
+      by_phase idle phase e = absurd (applies (inr (inr (inr (λ o. subst (λ (p : Phase P A). OfTarget p (λ t. Unit {0})) e o)))))
   starts w a (Open mode second) applies = by_refusal (job_refusal shape (Open mode second)) refl
     where
       by_refusal : (o : Option Refusal) → job_refusal shape (Open mode second) ≡ o → HasHappening shape w (Start a (Open mode second))

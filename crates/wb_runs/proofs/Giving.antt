@@ -468,8 +468,6 @@ module _ (P A : Type 0) (shape : Shape) (devices : Devices (List History)) (comm
 
     pub open_falters : (choice : Choice) (point : OpenPoint) → AtOpen n point reading commit → Rattle.wb_promise.specs.Happenings.MayFailAt devices choice (want (O point)) → CanFalter v choice (want (O point))
     open_falters choice AtFirst at m = record { chosen = Plain; falters = (refl, subst (λ (c : Option RunningCommit). Rattle.wb_promise.specs.Happenings.FailsSync {P = P} {A = A} (Opens mode reading) c devices.metadata) (sym at.0) tt) }
-    open_falters choice AtCache at m = record { chosen = Plain; falters = refl }
-    open_falters choice AtOrigin at m = record { chosen = Plain; falters = refl }
     open_falters choice (AtRead left) at m = record { chosen = Plain; falters = (refl, at.0) }
     open_falters choice (AtNodes zero from) at m = let all : from + 0 ≡ from = omega arith in let s = syncs_next P A (from + 0) commit devices.metadata (NodesWritten from) at opens_fit (λ i e. none_coming from i (e ∙ all)) in
         record { chosen = Plain; falters = (refl, subst (λ (c : Option RunningCommit). Rattle.wb_promise.specs.Happenings.FailsSync {P = P} {A = A} (Opens mode reading) c devices.metadata) (sym s.1) (s.2, tt)) }
@@ -479,3 +477,4 @@ module _ (P A : Type 0) (shape : Shape) (devices : Devices (List History)) (comm
         record { chosen = Plain; falters = (refl, subst (λ (c : Option RunningCommit). Rattle.wb_promise.specs.Happenings.FailsSync {P = P} {A = A} (Opens mode reading) c devices.metadata) (sym s.1) (s.2, tt)) }
     open_falters choice AtEnd at m = absurd m
     open_falters choice (AtRefusal refusal) at m = absurd m
+    open_falters choice point at m = record { chosen = Plain; falters = refl }

@@ -210,7 +210,6 @@ module _ (P A : Type 0) (shape : Shape) (t : Target P) (commit : Option RunningC
 
         arrives : (got : Got) (chosen : Chosen P A) → DoesArrive most t.desk got chosen → Then (Rattle.wb_promise.specs.Effects.begun_commit chosen commit) (after (F (Desk (Arrive most) ∷ [])) got)
         arrives Ticket Plain d = quietly answer ToAsk _ (subst (λ (j : CommitJob). IsOf ToAsk j) (sym e) tt) (ap (λ (ws : List Want). F ws) (subst (λ (j : CommitJob). Desk (Ask most) ∷ [] ≡ ask_of j) (sym e) refl)) tt (λ i. absurd i)
-        arrives Ticket chosen d = absurd d
         arrives (Began nodes) chosen d = leads most (Desk (Arrive most) ∷ []) (Began nodes) chosen (λ nodes. refl) none d
         arrives (GotRefused refusal) chosen d = leads most (Desk (Arrive most) ∷ []) (GotRefused refusal) chosen (λ nodes. refl) none d
         arrives got chosen d = absurd d
@@ -228,7 +227,6 @@ module _ (P A : Type 0) (shape : Shape) (t : Target P) (commit : Option RunningC
 
         asks : (got : Got) (chosen : Chosen P A) → DoesAsk x.share most t.desk got chosen → Then (Rattle.wb_promise.specs.Effects.begun_commit chosen commit) (after (F (Desk (Ask most) ∷ [])) got)
         asks Served Plain d = quietly Finished (ToRelease []) _ tt refl tt (λ i. absurd i)
-        asks Served chosen d = absurd d.1
         asks (Began nodes) chosen d = leads most (Desk (Ask most) ∷ []) (Began nodes) chosen (λ nodes. refl) none d.1
         asks (GotRefused refusal) chosen d = leads most (Desk (Ask most) ∷ []) (GotRefused refusal) chosen (λ nodes. refl) none d.1
         asks got chosen d = absurd d.1

@@ -176,8 +176,7 @@ module _ (P A : Type 0) (shape : Shape) where
       let found : Word v ≡ Word (word_at t.words.seals b) = sym f ∙ g ∙ ap (λ (x : CellStep). got_of (result_of t.words x)) e in
       let same : v ≡ word_at t.words.seals b = cc in
       subst (λ (x : ℕ). SealInside shape.geometry.cache_blocks x) (sym same) (s b.0)
-  seal_found Gone step got b v s g e f = absurd g
-  seal_found (Opens mode reading) step got b v s g e f = absurd g
+  seal_found phase step got b v s g e f = absurd g
 
   cell_given : (w : State P A) (actor : Actor) (got : Got) (read : List Bytes) (chosen : Chosen P A) (job : Job) (step : CellStep) → Gives shape w actor job (Cell step) got read chosen → OfTarget w.phase (λ t. got ≡ got_of (result_of t.words step))
   cell_given w actor got read chosen job step g = g.1

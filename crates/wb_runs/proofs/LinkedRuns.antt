@@ -298,8 +298,7 @@ module _ (P A : Type 0) (shape : Shape) where
     here = each_set actors a x y (λ (z : Actor). TaskHere (phase_given (Stands t) job chosen) z.task) e (same_here (Stands t) job chosen y.task (subst (λ (q : Option (Job × Plan)). TaskHere {P = P} {A = A} (Stands t) q) (sym yt) s)) (λ b z f. same_here (Stands t) job chosen z.task (l.here b z f));
     alone = same_alone t job chosen (slice_set actors a y);
   }
-  served_starts Gone actors n a x y job plan chosen l e xt yt s c there = absurd (there (λ z. z))
-  served_starts (Opens mode reading) actors n a x y job plan chosen l e xt yt s c there = absurd (there (λ z. z))
+  served_starts phase actors n a x y job plan chosen l e xt yt s c there = absurd (there (λ z. z))
 
   starts : (shown : List Bytes) (w : State P A) (n : Notes) (a : ℕ) (job : Job) (chosen : Chosen P A) → LinkedTo w n → (¬ DoesNotApply w (Start a job)) → StartsAs shape w a job Started chosen → Started_so shown w n a job chosen (slice_get (cleared w job).actors a)
   starts shown w n a (Open mode second) chosen l applies gives = by_actor (slice_get (all_resting w.actors) a) refl

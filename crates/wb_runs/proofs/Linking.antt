@@ -151,8 +151,7 @@ module _ (shape : Shape) (mode : Mode) (shown : List Bytes) (n : Notes) (a : ℕ
 module _ (P A : Type 0) (shape : Shape) where
   target_there : (phase : Phase P A) (step : CellStep) (got : Got) → OfTarget phase (λ t. got ≡ got_of (result_of t.words step)) → (words : Words) × (got ≡ got_of (result_of words step))
   target_there (Stands t) step got g = (t.words, g)
-  target_there Gone step got g = absurd g
-  target_there (Opens mode reading) step got g = absurd g
+  target_there phase step got g = absurd g
 
   module _ (w : State P A) (n : Notes) (images : Images) (known : MetadataKept shape.geometry images w.phase w.commit w.devices.metadata) (a : ℕ) (x : Actor) (doing : Doing) (noted : slice_get n.doings a ≡ Some (Some doing)) (plan : Plan) (suits : Suits shape.geometry.origin_blocks plan x.card)
       (mode : Mode) (shown : List Bytes) where

@@ -25,8 +25,6 @@ none_from (Some e ∷ entries) first block none =
     ap (λ (t : Bool). if t then Some first else cached_from block (suc first) entries) (ne_eqb e.origin.0 block (none 0 e refl)) ∙ none_from entries (suc first) block (λ i. none (suc i))
 
 alone_from : (entries : List (Option Entry)) (first at : ℕ) (entry : Entry) (block : ℕ) → StandsAlone entries at entry block → cached_from block first entries ≡ Some (first + at)
-alone_from [] first at entry block s = absurd (let bad = s.there in cc)
-alone_from (None ∷ entries) first zero entry block s = absurd (let bad = s.there in cc)
 alone_from (None ∷ entries) first (suc at) entry block s = alone_from entries (suc first) at entry block (alone_later None entries at entry block s) ∙ (let same : suc first + at ≡ first + suc at = omega arith in ap (λ k. Some k) same)
 alone_from (Some e ∷ entries) first zero entry block s =
     let here : e ≡ entry = (let both = s.there in cc) in
@@ -34,6 +32,7 @@ alone_from (Some e ∷ entries) first zero entry block s =
 alone_from (Some e ∷ entries) first (suc at) entry block s =
     ap (λ (t : Bool). if t then Some first else cached_from block (suc first) entries) (ne_eqb e.origin.0 block (λ is. let same = s.alone 0 e refl is in omega (arith, same)))
     ∙ alone_from entries (suc first) at entry block (alone_later (Some e) entries at entry block s) ∙ (let same : suc first + at ≡ first + suc at = omega arith in ap (λ k. Some k) same)
+alone_from entries first at entry block s = absurd (let bad = s.there in cc)
 
 pub alone_there : (entries : List (Option Entry)) (at : ℕ) (entry : Entry) (block : ℕ) → StandsAlone entries at entry block → place_of entries block ≡ Some at
 alone_there entries at entry block s = alone_from entries 0 at entry block s ∙ (let same : 0 + at ≡ at = omega arith in ap (λ k. Some k) same)

@@ -40,5 +40,4 @@ write_own Passthrough part next o = displacing_own part next o
 -- where the target passes through, one stands
 pub target_stands : {P A : Type 0} (phase : Phase P A) → OfTarget phase (λ t. t.desk.mode ≡ Passthrough) → OfTarget phase (λ t. Unit {0})
 target_stands (Stands t) o = tt
-target_stands Gone o = absurd o
-target_stands (Opens mode reading) o = absurd o
+target_stands phase o = absurd o

@@ -39,14 +39,13 @@ module _ (P A : Type 0) (g : Geometry) (i : Images) (device : List History) (was
 
   -- the root that was found has these sizes
   known_fits : HasReached g i was device → (now : ReadSteps A) → HasRead (map newest device) now → (root : Root) → known_root now ≡ Some root → AreSameSizes root.geometry g
-  known_fits k (Begun alloc global) come root e = absurd (cc)
-  known_fits k (FirstSlotRead alloc global first) come root e = absurd (cc)
   known_fits k (RootFound global found loader nodes) come root e =
       let same : found ≡ root = cc in
       sized_by root.geometry k.found.committed.root.geometry g (ap (λ (r : Root). r.geometry) (sym same ∙ one_newest (map newest device) found k.found.committed.root come.newest (represents k).newest)) k.found.read.sizes
   known_fits k (AllRead state) come root e =
       let same : state.root ≡ root = cc in
       sized_by root.geometry k.found.committed.root.geometry g (ap (λ (r : Root). r.geometry) (sym same ∙ one_newest (map newest device) state.root k.found.committed.root come.represents.newest (represents k).newest)) k.found.read.sizes
+  known_fits k now come root e = absurd (cc)
 
   pub finds_own : HasReached g i was device → FindsSizes g was device
   finds_own k now goes = known_fits k now (goes (map newest device) (agrees (coming_sector was)) k.come)

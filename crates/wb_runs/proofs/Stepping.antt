@@ -121,8 +121,6 @@ module _ (P A : Type 0) (shape : Shape) where
   sync_metadata : (i : Images) (phase : Phase P A) (commit : Option RunningCommit) (m : List History) (chosen : Chosen P A) → Known i phase commit m → DoesSync phase commit m chosen →
       KnownNext i (phase_then shape phase (Device (Sync Metadata)) Done chosen) (commit_then phase commit (Device (Sync Metadata)) Done chosen) (synced m)
   sync_metadata i (Stands t) (Some c) m chosen k s = leading_on i t c m (synced m) k (sync_does c.image c.steps m s.0)
-  sync_metadata i Gone (Some c) m chosen k s = absurd k
-  sync_metadata i (Opens mode None) (Some c) m chosen k s = absurd k
   sync_metadata i (Opens mode (Some reading)) (Some c) m chosen k s =
       subst (λ (ch : Chosen P A). KnownNext i (phase_then shape (Opens mode (Some reading)) (Device (Sync Metadata)) Done ch) (Some (record c { steps = steps_after c.image c.steps })) (synced m)) (sym s.1)
       (rooting_on i reading c m (synced m) k (sync_does c.image c.steps m s.0))
@@ -138,6 +136,7 @@ module _ (P A : Type 0) (shape : Shape) where
       begun (Begun alloc global) e = by (Begun alloc global) (record { found = base.kept; come = tt; on = tt })
       begun now e = absurd (omega (arith, e))
   sync_metadata i phase None m chosen k s = absurd s
+  sync_metadata i phase (Some c) m chosen k s = absurd k
 
   put_node : (i : Images) (phase : Phase P A) (commit : Option RunningCommit) (m : List History) (number : ℕ) (job : Job) (buffer : List Bytes) (chosen : Chosen P A) → Known i phase commit m → DoesPut commit (WriteNode number) m chosen →
       KnownNext i (phase_then shape phase (Device (WriteNode number)) Done chosen) (commit_then phase commit (Device (WriteNode number)) Done chosen) (device_done job buffer (WriteNode number) chosen m)
@@ -159,8 +158,7 @@ module _ (P A : Type 0) (shape : Shape) where
 
   read_nothing : (i : Images) (mode : _) (m : List History) → Readable shape.geometry i m → (after : Option (ReadSteps A)) (commit : Option RunningCommit) → after ≡ None → commit ≡ None → KnownNext i (Opens mode after) commit m
   read_nothing i mode m r None None e f = stays_known i (Opens mode None) None m r
-  read_nothing i mode m r None (Some c) e f = absurd (cc)
-  read_nothing i mode m r (Some x) commit e f = absurd (cc)
+  read_nothing i mode m r after commit e f = absurd (cc)
 
   read_metadata : (i : Images) (phase : Phase P A) (m : List History) (second : Bool) (left : ℕ) (got : Got) (chosen : Chosen P A) → Known i phase None m → OfReading phase (λ mode was. DoesRead mode shape.geometry second left was m None got chosen) →
       KnownNext i (phase_then shape phase (Device (ReadMetadata left)) got chosen) (commit_then phase None (Device (ReadMetadata left)) got chosen) m
@@ -210,8 +208,7 @@ module _ (P A : Type 0) (shape : Shape) where
   begin_commit : (seen : Option (List Bool)) (i : Images) (phase : Phase P A) (commit : Option RunningCommit) (m : List History) (most : ℕ) (got : Got) (chosen : Chosen P A) → Known i phase commit m → OfTarget phase (λ t. DoesBegin seen most t.desk got chosen) →
       KnownNext i (phase_then shape phase (Desk (BeginCommit most)) got chosen) (commit_then phase commit (Desk (BeginCommit most)) got chosen) m
   begin_commit seen i (Stands t) commit m most got chosen k s = begun i t commit m seen most got chosen k s
-  begin_commit seen i Gone commit m most got chosen k s = absurd s
-  begin_commit seen i (Opens mode reading) commit m most got chosen k s = absurd s
+  begin_commit seen i phase commit m most got chosen k s = absurd s
 
   -- a flush leads one, or changes nothing
   leads : (i : Images) (t : Target P) (commit : Option RunningCommit) (m : List History) (most : ℕ) (got : Got) (chosen : Chosen P A) → Known i (Stands t) commit m → DoesLead most t.desk got chosen → KnownNext i (Stands (record { words = t.words; desk = begun_desk chosen t.desk })) (begun_commit chosen commit) m
@@ -229,26 +226,22 @@ module _ (P A : Type 0) (shape : Shape) where
   asks : (share : Share) (i : Images) (phase : Phase P A) (commit : Option RunningCommit) (m : List History) (most : ℕ) (got : Got) (chosen : Chosen P A) → Known i phase commit m → OfTarget phase (λ t. DoesAsk share most t.desk got chosen) →
       KnownNext i (phase_then shape phase (Desk (Ask most)) got chosen) (commit_then phase commit (Desk (Ask most)) got chosen) m
   asks share i (Stands t) commit m most Served Plain k s = stays_known i (Stands t) commit m k
-  asks share i (Stands t) commit m most Served chosen k s = absurd s.1
   asks share i (Stands t) commit m most (Began nodes) chosen k s = leads i t commit m most (Began nodes) chosen k s.1
   asks share i (Stands t) commit m most (GotRefused refusal) chosen k s = leads i t commit m most (GotRefused refusal) chosen k s.1
   asks share i (Stands t) commit m most got chosen k s = absurd s.1
-  asks share i Gone commit m most got chosen k s = absurd s
-  asks share i (Opens mode reading) commit m most got chosen k s = absurd s
+  asks share i phase commit m most got chosen k s = absurd s
 
   -- commits are broken: what runs, and what is stored, stays
   breaks : (i : Images) (phase : Phase P A) (commit : Option RunningCommit) (m : List History) (got : Got) (chosen : Chosen P A) → Known i phase commit m → OfTarget phase (λ t. Unit {0}) →
       KnownNext i (phase_then shape phase (Desk BreakCommit) got chosen) (commit_then phase commit (Desk BreakCommit) got chosen) m
   breaks i (Stands t) commit m got chosen k s = stays_known i (Stands (record { words = t.words; desk = commit_broken t.desk })) commit m (broken_over P shape.geometry i t.desk commit m k)
-  breaks i Gone commit m got chosen k s = absurd s
-  breaks i (Opens mode reading) commit m got chosen k s = absurd s
+  breaks i phase commit m got chosen k s = absurd s
 
   end_commit : (i : Images) (phase : Phase P A) (commit : Option RunningCommit) (m : List History) (got : Got) (chosen : Chosen P A) → Known i phase commit m → OfTarget phase (λ t. is_all_done commit ≡ true) →
       KnownNext i (phase_then shape phase (Desk EndCommit) got chosen) (commit_then phase commit (Desk EndCommit) got chosen) m
   end_commit i (Stands t) (Some c) m got chosen k s = let e = ends_over P shape.geometry i t.desk m c k s in record { now = e.now; turn = e.turn; turned = e.turned; kept = e.kept.0 }
   end_commit i (Stands t) None m got chosen k s = absurd (cc)
-  end_commit i Gone commit m got chosen k s = absurd s
-  end_commit i (Opens mode reading) commit m got chosen k s = absurd s
+  end_commit i phase commit m got chosen k s = absurd s
 
   -- ---- a migration's steps on the desk
 

@@ -73,7 +73,6 @@ lead_refusal desk r (inr d) = by_cause r d.1 d.2
 -- of one that arrives, or asks with a ticket
 arrival_fits : {P A : Type 0} (most : ℕ) (desk : DeskState P) (got : Got) (chosen : Chosen P A) → DoesArrive most desk got chosen → Fits (Desk (Arrive most)) got
 arrival_fits most desk Ticket Plain d = tt
-arrival_fits most desk Ticket chosen d = absurd d
 arrival_fits most desk (Began nodes) (Commits c tree) d = d.1.0
 arrival_fits most desk (GotRefused refusal) Plain d = elim (lead_refusal desk refusal d) [
   | inl e ↦ subst (λ (r : Refusal). Fits (Desk (Arrive most)) (GotRefused r)) (sym e) tt
@@ -84,7 +83,6 @@ arrival_fits most desk got chosen d = absurd d
 
 asking_fits : {P A : Type 0} (share : Share) (most : ℕ) (desk : DeskState P) (got : Got) (chosen : Chosen P A) → DoesAsk share most desk got chosen → Fits (Desk (Ask most)) got
 asking_fits share most desk Served Plain d = tt
-asking_fits share most desk Served chosen d = absurd d.1
 asking_fits share most desk (Began nodes) (Commits c tree) d = d.1.1.0
 asking_fits share most desk (GotRefused refusal) Plain d = elim (lead_refusal desk refusal d.1) [
   | inl e ↦ subst (λ (r : Refusal). Fits (Desk (Ask most)) (GotRefused r)) (sym e) tt
@@ -127,14 +125,12 @@ read_fits shape mode second left was device commit got chosen d = absurd d
 module _ (P A : Type 0) (shape : Shape) (w : State P A) (actor : Actor) (got : Got) (read : List Bytes) (chosen : Chosen P A) where
   on_words : (phase : Phase P A) (step : CellStep) → OfTarget phase (λ t. got ≡ got_of (result_of t.words step)) → Fits (Cell step) got
   on_words (Stands t) step e = subst (λ (g : Got). Fits (Cell step) g) (sym e) (cell_fits t.words step)
-  on_words Gone step e = absurd e
-  on_words (Opens mode reading) step e = absurd e
+  on_words phase step e = absurd e
 
   -- what holds of the target that stands, whose desk is asked
   on_desk : (phase : Phase P A) (next : Want) (so : DeskState P → Type 0) → ((desk : DeskState P) → so desk → Fits next got) → OfTarget phase (λ t. so t.desk) → Fits next got
   on_desk (Stands t) next so fits d = fits t.desk d
-  on_desk Gone next so fits d = absurd d
-  on_desk (Opens mode reading) next so fits d = absurd d
+  on_desk phase next so fits d = absurd d
 
   on_metadata : (phase : Phase P A) (second : Bool) (left : ℕ) → OfReading phase (λ mode was. DoesRead mode shape.geometry second left was w.devices.metadata w.commit got chosen) → Fits (Device (ReadMetadata left)) got
   on_metadata (Opens mode (Some was)) second left d = read_fits shape mode second left was w.devices.metadata w.commit got chosen d
@@ -163,8 +159,7 @@ module _ (P A : Type 0) (shape : Shape) (w : State P A) (actor : Actor) (got : G
 
   map_given : (phase : Phase P A) (b c : _) → OfTarget phase (λ t. DoesMap b c t.desk got chosen) → Fits (Desk (Map b c)) got
   map_given (Stands t) b c d = map_fits t.desk b c got chosen d
-  map_given Gone b c d = absurd d
-  map_given (Opens mode reading) b c d = absurd d
+  map_given phase b c d = absurd d
 
   pub released_done : (job : Job) (b : _) → Gives shape w actor job (Desk (ReleaseOrder b)) got read chosen → got ≡ Done
   released_done Flush b g = g.1

@@ -135,9 +135,8 @@ sync_coming image (NodesWritten count) old e = by_node (slice_get image.nodes.it
     by_node : (o : Option (Place × Node)) → is_none o ≡ true → Rattle.wb_meta.specs.Steps.NodeOrSync o old (synced old)
     by_node None e = refl
     by_node (Some node) e = absurd (cc)
-sync_coming image NodesSynced old e = absurd (cc)
 sync_coming image RootWritten old e = refl
-sync_coming image Committed old e = absurd (cc)
+sync_coming image steps old e = absurd (cc)
 
 pub sync_does : (image : Image) (steps : CommitSteps) (old : List History) → goes_on (length old) image steps (Sync Metadata) ≡ true → DoesStep image steps old (synced old)
 sync_does image steps old e = sync_coming image steps old (and_true (is_coming image steps (Sync Metadata)) _ e).0
@@ -148,9 +147,8 @@ failed_coming image (NodesWritten count) old new partly e = by_node (slice_get i
     by_node : (o : Option (Place × Node)) → is_none o ≡ true → Rattle.wb_meta.specs.Steps.MayNodeOrSync o old new
     by_node None e = partly
     by_node (Some node) e = absurd (cc)
-failed_coming image NodesSynced old new partly e = absurd (cc)
 failed_coming image RootWritten old new partly e = partly
-failed_coming image Committed old new partly e = absurd (cc)
+failed_coming image steps old new partly e = absurd (cc)
 
 pub sync_fails : (image : Image) (steps : CommitSteps) (landed : ℕ → Bool) (old : List History) → goes_on (length old) image steps (Sync Metadata) ≡ true → FailsStep image steps old (synced_where landed old)
 sync_fails image steps landed old e = failed_coming image steps old (synced_where landed old) (partly_synced landed old) (and_true (is_coming image steps (Sync Metadata)) _ e).0

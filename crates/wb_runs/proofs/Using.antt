@@ -173,8 +173,7 @@ module _ (P A : Type 0) (shape : Shape) where
       here = rule_after blocks t.words actors a x _ step i e (subst (λ (v : Want). MayTake blocks x.card v) (sym h) (is_ready blocks plan x.card suits)) refl;
       orders = set_orders _ (left (Cell step) got);
     }
-    on_words Gone step got chosen i h f g = absurd g
-    on_words (Opens mode reading) step got chosen i h f g = absurd g
+    on_words phase step got chosen i h f g = absurd g
 
     -- an answer where a target stands, or none
     on_answer : (t : Target P) (answer : Answer) (got : Got) (chosen : Chosen P A) → InPhase (Stands t) actors → End answer ≡ want plan →
@@ -302,7 +301,7 @@ module _ (P A : Type 0) (shape : Shape) where
   rest_orders : (actors : List Actor) → AllOrdersInside shape.geometry (all_resting actors)
   rest_orders actors a x e = subst (λ (v : Actor). OrdersInside shape.geometry (held_of v)) (sym (all_rest actors a x e)) (λ order m. absurd (omega (arith, m.1)))
 
-  -- an order that is given leaves the words
+  -- an order that is given leaves all this
   used_given : (phase : Phase P A) (job : Job) (chosen : Chosen P A) {actors : List Actor} → UsedRightly phase actors → UsedRightly (phase_given phase job chosen) actors
   used_given phase job chosen {actors} = given_keeps (λ (q : Phase P A). UsedRightly q actors) (λ t desk u. record { suited = u.suited; here = u.here; orders = u.orders }) phase job chosen
 
@@ -313,8 +312,12 @@ module _ (P A : Type 0) (shape : Shape) where
     here = rule_same blocks t.words actors a x y u.here e c;
     orders = each_set actors a x y (λ (z : Actor). OrdersInside shape.geometry (held_of z)) e o u.orders;
   }
-  starts_task Gone actors a x y e c s o n u = absurd (n (λ z. z))
-  starts_task (Opens mode reading) actors a x y e c s o n u = absurd (n (λ z. z))
+  starts_task phase actors a x y e c s o n u = absurd (n (λ z. z))
+
+  -- so it begins what its start gives it
+  begins_used : (w : State P A) (a : ℕ) (job : Job) (chosen : Chosen P A) (x : Actor) → slice_get w.actors a ≡ Some x → TaskSuits blocks x.card (given {P = P} {A = A} shape (mode_of w.phase) x job chosen).task → OrdersInside shape.geometry (held_of (given {P = P} {A = A} shape (mode_of w.phase) x job chosen)) → ¬ (¬ OfTarget w.phase (λ t. Unit {0})) → UsedRightly w.phase w.actors →
+      UsedRightly (phase_given w.phase job chosen) (slice_set w.actors a (given {P = P} {A = A} shape (mode_of w.phase) x job chosen))
+  begins_used w a job chosen x e s o n u = used_given w.phase job chosen (starts_task w.phase w.actors a x _ e refl s o n u)
 
   holds_nothing : (w : State P A) (x : Actor) (a : ℕ) → UsedRightly w.phase w.actors → slice_get w.actors a ≡ Some x → x.task ≡ None → x.card.hold ≡ Nothing
   holds_nothing w x a u e f = task_suits blocks x f (u.suited a x e)
@@ -379,8 +382,7 @@ module _ (P A : Type 0) (shape : Shape) where
       by_phase : (phase : Phase P A) (commit : _) → Rattle.wb_runs.proofs.Metadata.MetadataKept shape.geometry k.images phase commit w.devices.metadata → OfTarget phase (λ t. AreMapped t.desk looks) → AreBelow blocks looks
       by_phase (Stands t) commit known m = λ block c. let at = m.each block c in
           subst (λ (n : ℕ). block.0 < n) known.is.sizes.origin_blocks (mapped_within {P = P} Rattle.wb_runs.proofs.Metadata.unknowing t.desk block.0 at.0 known.is.kept at.1).1
-      by_phase Gone commit known m = absurd m
-      by_phase (Opens mode reading) commit known m = absurd m
+      by_phase phase commit known m = absurd m
 
   starts : (w : State P A) (a : ℕ) (job : Job) (chosen : Chosen P A) → IsKnown P A shape w → UsedRightly w.phase w.actors → (¬ DoesNotApply w (Start a job)) → StartsAs shape w a job Started chosen → Started_so w a job chosen (slice_get (cleared w job).actors a)
   starts w a (Open mode second) chosen k u applies gives = by_actor (slice_get (all_resting w.actors) a) refl
@@ -398,37 +400,37 @@ module _ (P A : Type 0) (shape : Shape) where
   starts w a Flush chosen k u applies gives =
       let f = free P A w a Flush applies in
       subst (λ (o : Option Actor). Started_so w a Flush chosen o) (sym f.1)
-      (used_given w.phase Flush chosen (starts_task w.phase w.actors a f.0 (given shape (mode_of w.phase) f.0 Flush chosen) f.1 refl (flush_begins blocks (blocks_left f.0.awaiting) (Rattle.wb_promise.specs.Happenings.most_for shape.geometry false) f.0.card (holds_nothing w f.0 a u f.1 f.2)) (u.orders a f.0 f.1) (λ m. applies (inr (inr (inr m)))) u))
+      (begins_used w a Flush chosen f.0 f.1 (flush_begins blocks (blocks_left f.0.awaiting) (Rattle.wb_promise.specs.Happenings.most_for shape.geometry false) f.0.card (holds_nothing w f.0 a u f.1 f.2)) (u.orders a f.0 f.1) (λ m. applies (inr (inr (inr m)))) u)
   starts w a Suspend (Looks looks) k u applies gives =
       let f = free P A w a Suspend applies in
       subst (λ (o : Option Actor). Started_so w a Suspend (Looks looks) o) (sym f.1)
-      (used_given w.phase Suspend (Looks looks) (starts_task w.phase w.actors a f.0 (given {P = P} {A = A} shape (mode_of w.phase) f.0 Suspend (Looks looks)) f.1 refl (suspend_begins blocks looks (Rattle.wb_promise.specs.Happenings.most_for shape.geometry true) f.0.card (looks_below w looks k gives.1) (holds_nothing w f.0 a u f.1 f.2)) (u.orders a f.0 f.1) (λ m. applies (inr (inr (inr m)))) u))
+      (begins_used w a Suspend (Looks looks) f.0 f.1 (suspend_begins blocks looks (Rattle.wb_promise.specs.Happenings.most_for shape.geometry true) f.0.card (looks_below w looks k gives.1) (holds_nothing w f.0 a u f.1 f.2)) (u.orders a f.0 f.1) (λ m. applies (inr (inr (inr m)))) u)
   starts w a (Read extent) (Cut cut) k u applies gives =
       let f = free P A w a (Read extent) applies in
       subst (λ (o : Option Actor). Started_so w a (Read extent) (Cut cut) o) (sym f.1)
-      (used_given w.phase (Read extent) (Cut cut) (starts_task w.phase w.actors a f.0 (given {P = P} {A = A} shape (mode_of w.phase) f.0 (Read extent) (Cut cut)) f.1 refl (starts_inside shape extent (may_start shape extent gives.0), (holds_nothing w f.0 a u f.1 f.2, refl)) (u.orders a f.0 f.1) (λ m. applies (inr (inr (inr m)))) u))
+      (begins_used w a (Read extent) (Cut cut) f.0 f.1 (starts_inside shape extent (may_start shape extent gives.0), (holds_nothing w f.0 a u f.1 f.2, refl)) (u.orders a f.0 f.1) (λ m. applies (inr (inr (inr m)))) u)
   starts w a (Write extent content) (Cut cut) k u applies gives =
       let f = free P A w a (Write extent content) applies in
       subst (λ (o : Option Actor). Started_so w a (Write extent content) (Cut cut) o) (sym f.1)
-      (used_given w.phase (Write extent content) (Cut cut) (starts_task w.phase w.actors a f.0 (given {P = P} {A = A} shape (mode_of w.phase) f.0 (Write extent content) (Cut cut)) f.1 refl (write_suits (mode_of w.phase) (block_range shape (mode_of w.phase) extent cut) f.0.card (starts_inside shape extent (may_start shape extent gives.0)) (holds_nothing w f.0 a u f.1 f.2)) (u.orders a f.0 f.1) (λ m. applies (inr (inr (inr m)))) u))
+      (begins_used w a (Write extent content) (Cut cut) f.0 f.1 (write_suits (mode_of w.phase) (block_range shape (mode_of w.phase) extent cut) f.0.card (starts_inside shape extent (may_start shape extent gives.0)) (holds_nothing w f.0 a u f.1 f.2)) (u.orders a f.0 f.1) (λ m. applies (inr (inr (inr m)))) u)
   starts w a (Invalidate block) Plain k u applies gives =
       let f = free P A w a (Invalidate block) applies in
       subst (λ (o : Option Actor). Started_so w a (Invalidate block) Plain o) (sym f.1)
-      (used_given w.phase (Invalidate block) Plain (starts_task w.phase w.actors a f.0 (given {P = P} {A = A} shape (mode_of w.phase) f.0 (Invalidate block) Plain) f.1 refl (block_there shape block gives, (holds_nothing w f.0 a u f.1 f.2, refl)) (u.orders a f.0 f.1) (λ m. applies (inr (inr (inr (λ o. m (target_stands w.phase o)))))) u))
+      (begins_used w a (Invalidate block) Plain f.0 f.1 (block_there shape block gives, (holds_nothing w f.0 a u f.1 f.2, refl)) (u.orders a f.0 f.1) (λ m. applies (inr (inr (inr (λ o. m (target_stands w.phase o)))))) u)
   starts w a (Migrate migration block) chosen k u applies gives =
       let f = free P A w a (Migrate migration block) applies in
       let kept = subst (λ (o : Option Actor). OrdersInside shape.geometry (Rattle.wb_promise.specs.Happenings.orders_in o)) (sym f.1) (λ order m. u.orders a f.0 f.1 order (in_orders f.0 order m)) in
       let inside = order_inside k.images w.phase w.commit w.devices.metadata (slice_get w.actors a) migration block chosen k.known kept gives in
       subst (λ (o : Option Actor). Started_so w a (Migrate migration block) chosen o) (sym f.1)
-      (used_given w.phase (Migrate migration block) chosen (starts_task w.phase w.actors a f.0 (given {P = P} {A = A} shape (mode_of w.phase) f.0 (Migrate migration block) chosen) f.1 refl (block_inside migration block inside, (holds_nothing w f.0 a u f.1 f.2, refl))
-      (given_orders migration block f.0 chosen inside (u.orders a f.0 f.1)) (λ m. applies (inr (inr (inr m)))) u))
+      (begins_used w a (Migrate migration block) chosen f.0 f.1 (block_inside migration block inside, (holds_nothing w f.0 a u f.1 f.2, refl))
+      (given_orders migration block f.0 chosen inside (u.orders a f.0 f.1)) (λ m. applies (inr (inr (inr m)))) u)
   starts w a (Replace old new) chosen k u applies gives =
       let f = free P A w a (Replace old new) applies in
       let kept = subst (λ (o : Option Actor). OrdersInside shape.geometry (Rattle.wb_promise.specs.Happenings.orders_in o)) (sym f.1) (λ order m. u.orders a f.0 f.1 order (in_orders f.0 order m)) in
       let inside = replacement_inside k.images w.phase w.commit w.devices.metadata (slice_get w.actors a) old new chosen k.known kept gives in
       subst (λ (o : Option Actor). Started_so w a (Replace old new) chosen o) (sym f.1)
-      (used_given w.phase (Replace old new) chosen (starts_task w.phase w.actors a f.0 (given {P = P} {A = A} shape (mode_of w.phase) f.0 (Replace old new) chosen) f.1 refl (inside.1.0, (holds_nothing w f.0 a u f.1 f.2, refl))
-      (replacement_given k.images w.phase w.commit w.devices.metadata old new f.0 chosen k.known (subst (λ (o : Option Actor). StartGives shape w.phase o (Replace old new) Started chosen) f.1 gives) (u.orders a f.0 f.1)) (λ m. applies (inr (inr (inr m)))) u))
+      (begins_used w a (Replace old new) chosen f.0 f.1 (inside.1.0, (holds_nothing w f.0 a u f.1 f.2, refl))
+      (replacement_given k.images w.phase w.commit w.devices.metadata old new f.0 chosen k.known (subst (λ (o : Option Actor). StartGives shape w.phase o (Replace old new) Started chosen) f.1 gives) (u.orders a f.0 f.1)) (λ m. applies (inr (inr (inr m)))) u)
   starts w a job chosen k u applies gives = absurd gives
 
   -- ---- every event
