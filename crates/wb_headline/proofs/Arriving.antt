@@ -37,8 +37,6 @@ pub record Quietens (v : Site) (e : Event) (m : AbstractNotes) : Type 0 where
 -- so it is of every event after which no target stands
 pub quietens : (size : ℕ) (v : Site) (e : Event) (m : AbstractNotes) → MayHappen size v e → (after_event v e).phase ≢ StandsThere → Quietens v e m
 quietens size v (On r) m may down = absurd (down may.0)
-quietens size v (Stopped r) m may down = record { shared = _; world_is = refl; notes_are = refl }
-quietens size v (Begins mode) m may down = record { shared = _; world_is = refl; notes_are = refl }
 quietens size v (Advances outcome) m may down = by_outcome outcome may.3 (λ e. down (ap (λ (p : PhaseThere). (advance v.world p outcome).phase) may.2 ∙ e))
   where
     world : (o : Outcome) → (advance v.world v.phase o).world ≡ emptied v.world (advanced v.world.shared may.0 may.1 o)
@@ -51,6 +49,7 @@ quietens size v (Advances outcome) m may down = by_outcome outcome may.3 (λ e. 
 
     by_outcome : (o : Outcome) → Yields v.world.shared may.0 may.1 o → next_phase may.0 may.1 o ≢ StandsThere → Quietens v (Advances o) m
     by_outcome o y d = record { shared = advanced v.world.shared may.0 may.1 o; world_is = world o; notes_are = no_showing may.1 may.0 v.world.shared o y d }
+quietens size v e m may down = record { shared = _; world_is = refl; notes_are = refl }
 
 -- who has nothing to do there has no task
 pub rests_there : (w : World) (s : Shared) (a : ℕ) (y : AbstractActor) → slice_get (emptied w s).actors a ≡ Some y → y.task ≡ None
@@ -168,8 +167,7 @@ module _ (P A : Type 0) (shape : Shape) where
     later = later_of images;
     agree = record { origin = p.agrees.origin; cache = p.agrees.cache; images = p.images_agree };
   }
-  agreeing images Gone commit devices actors v known p = record { later = p.later; agree = p.devices_follow.agree }
-  agreeing images (Opens mode reading) commit devices actors v known p = record { later = p.later; agree = p.devices_follow.agree }
+  agreeing images phase commit devices actors v known p = record { later = p.later; agree = p.devices_follow.agree }
 
 -- nobody is at anything
 pub ended_same : (n : Notes) → SameSectors n (record n { doings = nobody n.doings })

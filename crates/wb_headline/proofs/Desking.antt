@@ -115,13 +115,12 @@ located_entered entries at entry l none free block = elim (cases_eq block entry.
 
 -- a tree with one entry less has its block nowhere, and the others where they were
 left_from : (entries : List (Option Entry)) (first at : ℕ) (entry : Entry) (block b : ℕ) → StandsAlone entries at entry block → block ≢ b → cached_from b first (slice_set entries at None) ≡ cached_from b first entries
-left_from [] first at entry block b s n = absurd (let bad = s.there in cc)
-left_from (None ∷ entries) first zero entry block b s n = absurd (let bad = s.there in cc)
 left_from (None ∷ entries) first (suc at) entry block b s n = left_from entries (suc first) at entry block b (alone_later None entries at entry block s) n
 left_from (Some e ∷ entries) first zero entry block b s n =
     let here : e ≡ entry = (let both = s.there in cc) in
     sym (ap (λ (t : Bool). if t then Some first else cached_from b (suc first) entries) (ne_eqb e.origin.0 b (λ is. n (sym s.is ∙ ap (λ (x : Entry). x.origin.0) (sym here) ∙ is))))
 left_from (Some e ∷ entries) first (suc at) entry block b s n = ap (λ (o : Option ℕ). if e.origin.0 == b then Some first else o) (left_from entries (suc first) at entry block b (alone_later (Some e) entries at entry block s) n)
+left_from entries first at entry block b s n = absurd (let bad = s.there in cc)
 
 left_none : (entries : List (Option Entry)) (at : ℕ) (entry : Entry) (block i : ℕ) (other : Entry) → StandsAlone entries at entry block → slice_index_or (slice_set entries at None) i None ≡ Some other → other.origin.0 ≢ block
 left_none [] at entry block i other s there is = absurd (let bad = s.there in cc)

@@ -51,9 +51,8 @@ module _ (sectors : ℕ) where
   ]
 
   nobody_each : (doings : List (Option Doing)) → AllNotedSo (nobody doings)
-  nobody_each [] a d e = absurd (cc)
-  nobody_each (o ∷ os) zero d e = absurd (cc)
   nobody_each (o ∷ os) (suc a) d e = nobody_each os a d e
+  nobody_each doings a d e = absurd (cc)
 
   -- what a step of a read gave is the latest, if it was done
   abbrev Gave : Shape → Notes → Job → DeviceStep → Got → List Bytes → Type 0

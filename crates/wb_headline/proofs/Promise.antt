@@ -193,8 +193,7 @@ module _ (P A : Type 0) (shape : Shape) where
             where
               by : (mode : Mode) → t.desk.mode ≡ mode → (¬ (¬ (mode ≡ Passthrough))) → t.desk.mode ≡ Passthrough
               by Passthrough e not = e
-              by Writeback e not = absurd (not (λ f. absurd (cc)))
-              by Writethrough e not = absurd (not (λ f. absurd (cc)))
+              by mode e not = absurd (not (λ f. absurd (cc)))
       start_at_target Flush Plain place g = goes_and Flush Plain g (flush_starts P A shape b.goes.images t commit devices actors n b.goes.known b.goes.followed a x ex xt [] among)
       start_at_target Suspend (Looks blocks) place g = goes_and Suspend (Looks blocks) g (suspend_starts P A shape b.goes.images t commit devices actors n b.goes.known b.goes.followed a x ex xt blocks (λ c z ez. at_nothing P A w_now c z ez (g.0 c)))
       start_at_target (Migrate migration block) chosen place g = goes_and (Migrate migration block) chosen g (any_start P A shape t commit devices actors n b a x ex xt among migration block chosen (its (Migrate migration block) chosen g))
@@ -325,8 +324,7 @@ module _ (P A : Type 0) (shape : Shape) where
       by_job (Open mode second) Finished c r s = s refl
       by_job (Open mode second) (Refuses refusal) c r s = r refusal refl
       by_job job answer c r s = tt
-  right_doing n shown_now (Some None) answer latest covers refuses _ = absurd covers
-  right_doing n shown_now None answer latest covers refuses _ = absurd covers
+  right_doing n shown_now o answer latest covers refuses _ = absurd covers
 
   right_answer : (shown_now : List Bytes) (n : Notes) (event : Event) (what : What) → ((a : ℕ) (d : Doing) → slice_get n.doings a ≡ Some (Some d) → All IsLatest d.readings) → AnswerCovers n event what → RefusesByCause n event what → OpensRightly shown_now n event what → AnswersRightly shown_now n event what
   right_answer shown_now n (Step a) (Stepped (End Finished) got) l c r o = right_doing n shown_now (slice_get n.doings a) Finished (λ d e. l a d e) c (λ refusal e. absurd (cc)) (λ e. o)

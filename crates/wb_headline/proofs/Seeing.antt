@@ -29,32 +29,28 @@ use Rattle.wb_headline.specs.Desks.{live_order, orders_living, live_orders}
 -- ---- orders by cache block
 
 pub live_here : (slots : List (Option LiveOrder)) (c : ℕ) (o : Order) → slice_get (orders_living slots) c ≡ Some (Some o) → (l : LiveOrder) × (order_at slots c ≡ Some l) × (l.order ≡ o)
-live_here [] c o e = absurd (cc)
-live_here (None ∷ slots) zero o e = absurd (cc)
 live_here (Some l ∷ slots) zero o e = (l, refl, (let both : Some (Some l.order) ≡ Some (Some o) = e in cc))
 live_here (s ∷ slots) (suc c) o e = live_here slots c o e
+live_here slots c o e = absurd (cc)
 
 pub slot_there : (slots : List (Option LiveOrder)) (c : ℕ) (live : LiveOrder) → order_at slots c ≡ Some live → slice_get (orders_living slots) c ≡ Some (Some live.order)
-slot_there [] zero live e = absurd (cc)
-slot_there [] (suc c) live e = absurd (cc)
 slot_there (s ∷ slots) zero live e = ap (λ (o : Option LiveOrder). Some (live_order o)) e
 slot_there (s ∷ slots) (suc c) live e = slot_there slots c live e
+slot_there [] c live e = absurd (cc)
 
 pub slot_within : (slots : List (Option LiveOrder)) (c : ℕ) (l : LiveOrder) → order_at slots c ≡ Some l → c < length slots
-slot_within [] zero l e = absurd (cc)
-slot_within [] (suc c) l e = absurd (cc)
 slot_within (s ∷ slots) zero l e = omega arith
 slot_within (s ∷ slots) (suc c) l e = let i = slot_within slots c l e in omega (arith, i)
+slot_within [] c l e = absurd (cc)
 
 pub orders_set : (slots : List (Option LiveOrder)) (c : ℕ) (o : Option LiveOrder) → orders_living (slice_set slots c o) ≡ slice_set (orders_living slots) c (live_order o)
 orders_set (s ∷ slots) (suc c) o = ap (λ (os : List (Option Order)). live_order s ∷ os) (orders_set slots c o)
 orders_set slots c o = refl
 
 pub vacant_there : (slots : List (Option LiveOrder)) (c : ℕ) → slice_get slots c ≡ Some None → slice_get (orders_living slots) c ≡ Some None
-vacant_there [] c e = absurd (cc)
 vacant_there (None ∷ slots) zero e = refl
-vacant_there (Some o ∷ slots) zero e = absurd (cc)
 vacant_there (s ∷ slots) (suc c) e = vacant_there slots c e
+vacant_there slots c e = absurd (cc)
 
 module _ (P : Type 0) (desk : DeskState P) (kept : DeskInvariant unknowing desk) where
   -- whatever order lives in a cache block names what is

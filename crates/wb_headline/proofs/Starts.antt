@@ -167,8 +167,7 @@ module _ (P A : Type 0) (shape : Shape) (images : Images) (w : State P A) (n : N
       failed : (k : ℕ) → (k ≡ 0 → ⊥) → flag k ≡ true
       failed zero n = absurd (n refl)
       failed (suc k) n = refl
-  may_open Gone e not = inl (subst (λ (q : Phase P A). Rattle.wb_headline.proofs.Following.PhaseFollows P A shape images q w.commit w.devices w.actors f.site) e f.phase).devices_follow.down
-  may_open (Opens mode reading) e not = inl (subst (λ (q : Phase P A). Rattle.wb_headline.proofs.Following.PhaseFollows P A shape images q w.commit w.devices w.actors f.site) e f.phase).devices_follow.down
+  may_open other e not = inl (subst (λ (q : Phase P A). Rattle.wb_headline.proofs.Following.PhaseFollows P A shape images q w.commit w.devices w.actors f.site) e f.phase).devices_follow.down
 
   -- an opening begins
   pub opening_starts : (a : ℕ) (mode : Mode) (second : Bool) (y : Actor) → (OfTarget w.phase (λ t. t.words.fail ≡ 0) → ⊥) → y.task ≡ Some (Open mode second, table (task_job shape Writeback y.awaiting (Open mode second) [] [])) →

@@ -166,8 +166,6 @@ marked_places hint (bit ∷ seen) (Some e ∷ es) n block = ap (λ o. if e.origi
 
 -- and a block's entry is clean as its bit was seen
 marked_clean : (hint : ℕ → ℕ) (seen : List Bool) (entries : List (Option Entry)) (n block k : ℕ) (dirty : Bool) → cached_from block n entries ≡ Some (n + k) → slice_get seen k ≡ Some dirty → is_clean_in (marked_entries hint seen entries) block ≡ cond dirty false true
-marked_clean hint [] entries n block k dirty at bit = absurd (cc)
-marked_clean hint (b ∷ seen) [] n block k dirty at bit = absurd (cc)
 marked_clean hint (b ∷ seen) (None ∷ es) n block zero dirty at bit = absurd (let f = found_at es block (suc n) (n + 0) at in let is = f.2 in omega (arith, is))
 marked_clean hint (b ∷ seen) (None ∷ es) n block (suc k) dirty at bit = marked_clean hint seen es (suc n) block k dirty (at ∙ (let same : n + suc k ≡ suc n + k = omega arith in ap (λ (i : ℕ). Some i) same)) bit
 marked_clean hint (b ∷ seen) (Some e ∷ es) n block k dirty at bit = by (e.origin.0 == block) k at bit (λ j. marked_clean hint seen es (suc n) block j dirty)
@@ -177,6 +175,7 @@ marked_clean hint (b ∷ seen) (Some e ∷ es) n block k dirty at bit = by (e.or
     by true (suc k) at bit later = absurd (let both : Some n ≡ Some (n + suc k) = at in let bad : n ≡ n + suc k = cc in omega (arith, bad))
     by false zero at bit later = absurd (let f = found_at es block (suc n) (n + 0) at in let is = f.2 in omega (arith, is))
     by false (suc k) at bit later = later k (at ∙ (let same : n + suc k ≡ suc n + k = omega arith in ap (λ (i : ℕ). Some i) same)) bit
+marked_clean hint seen entries n block k dirty at bit = absurd (cc)
 
 -- A state that is marked clean, and whose entries have the bits of all seals, takes those blocks as clean whose seals are.
 pub takes_seen : (hint : ℕ → ℕ) (words : Words) (s : Shared) (old : List (Option Entry)) (seen : List Bool) (state : Stored) → WordsAgree words s → ((block : OBlock) → number_of (place_in (word_at words.seals block)) ≡ place_of old block.0) → AllSeen words old seen → state.root.clean ≡ true → state.found.entries ≡ marked_entries hint seen old → StateTakesClean state (clean_by true s)

@@ -149,7 +149,7 @@ module _ (P A : Type 0) (shape : Shape) where
         here Gone i = blank_set y (card ∙ i a x e) i
         here (Opens mode reading) i = (blank_set y (card ∙ i.0 a x e) i.0, open_set y (subst OpensOrRests (sym task) (opens_still got i.1)) i.1)
 
-    -- as on a device, done or failed, or of the desk
+    -- so at a step on a device, done or failed, or of the desk
     abbrev KeepsCard : Want → Type 0
     KeepsCard (Device step) = Unit {0}
     KeepsCard (Desk step) = Unit {0}
@@ -314,7 +314,7 @@ module _ (P A : Type 0) (shape : Shape) where
   }
   starts_task phase actors a x y e c s o n u = absurd (n (λ z. z))
 
-  -- so it begins what its start gives it
+  -- so an actor without a task begins one
   begins_used : (w : State P A) (a : ℕ) (job : Job) (chosen : Chosen P A) (x : Actor) → slice_get w.actors a ≡ Some x → TaskSuits blocks x.card (given {P = P} {A = A} shape (mode_of w.phase) x job chosen).task → OrdersInside shape.geometry (held_of (given {P = P} {A = A} shape (mode_of w.phase) x job chosen)) → ¬ (¬ OfTarget w.phase (λ t. Unit {0})) → UsedRightly w.phase w.actors →
       UsedRightly (phase_given w.phase job chosen) (slice_set w.actors a (given {P = P} {A = A} shape (mode_of w.phase) x job chosen))
   begins_used w a job chosen x e s o n u = used_given w.phase job chosen (starts_task w.phase w.actors a x _ e refl s o n u)

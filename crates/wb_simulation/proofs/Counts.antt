@@ -88,10 +88,9 @@ no_entries_alike size sectors finished same = refl
 
 unwrap_greater : (xs ys : List ℕ) (at : ℕ) → length xs ≡ length ys → unwrap_or (slice_get (greater_of xs ys) at) 0 ≡ max (unwrap_or (slice_get xs at) 0) (unwrap_or (slice_get ys at) 0)
 unwrap_greater [] [] at e = refl
-unwrap_greater [] (y ∷ ys) at e = absurd (omega (arith, e))
-unwrap_greater (x ∷ xs) [] at e = absurd (omega (arith, e))
 unwrap_greater (x ∷ xs) (y ∷ ys) zero e = refl
 unwrap_greater (x ∷ xs) (y ∷ ys) (suc at) e = unwrap_greater xs ys at (omega (arith, e))
+unwrap_greater xs ys at e = absurd (omega (arith, e))
 
 pub greater_counts : (size : ℕ) (xs ys : List ℕ) → length xs ≡ length ys → counts_by_block size (greater_of xs ys) ≡ (λ b o. max (counts_by_block size xs b o) (counts_by_block size ys b o))
 greater_counts size xs ys e = everywhere (counts_by_block size (greater_of xs ys)) (λ b o. max (counts_by_block size xs b o) (counts_by_block size ys b o)) (λ b o. by (b * size + o) (nat_lt o size))
@@ -102,6 +101,5 @@ greater_counts size xs ys e = everywhere (counts_by_block size (greater_of xs ys
 
 pub greater-length : (xs ys : List ℕ) → length xs ≡ length ys → length (greater_of xs ys) ≡ length xs
 greater-length [] [] e = refl
-greater-length [] (y ∷ ys) e = absurd (omega (arith, e))
-greater-length (x ∷ xs) [] e = absurd (omega (arith, e))
 greater-length (x ∷ xs) (y ∷ ys) e = ap suc (greater-length xs ys (omega (arith, e)))
+greater-length xs ys e = absurd (omega (arith, e))

@@ -70,21 +70,18 @@ gone_job (got ∷ gots) y (Some script) e u =
 noted_job : (size sectors : ℕ) (task then_task : Option Script) (o : Option (Option Doing)) (a : ℕ) (m : AbstractNotes) → SameJob task then_task → IsNotedSo size sectors task o a m → IsNotedSo size sectors then_task o a m
 noted_job size sectors None then_task o a m same is = subst (λ (t : Option Script). IsNotedSo size sectors t o a m) (sym same) tt
 noted_job size sectors (Some script) then_task (Some (Some doing)) a m same is = subst (λ (t : Option Script). IsNotedSo size sectors t (Some (Some doing)) a m) (sym same.1) (subst (λ (job : AbstractJob). DoesAlike size sectors doing job a m) (sym same.2) is)
-noted_job size sectors (Some script) then_task (Some None) a m same is = absurd is
-noted_job size sectors (Some script) then_task None a m same is = absurd is
+noted_job size sectors (Some script) then_task o a m same is = absurd is
 
 is_job : (size sectors : ℕ) (task : Option Script) (o : Option (Option Doing)) (a : ℕ) (m : AbstractNotes) → IsNotedSo size sectors task o a m → IsJob m a task
 is_job size sectors None o a m is = tt
 is_job size sectors (Some script) (Some (Some doing)) a m is = is.job_is
-is_job size sectors (Some script) (Some None) a m is = absurd is
-is_job size sectors (Some script) None a m is = absurd is
+is_job size sectors (Some script) o a m is = absurd is
 
 -- what is noted of an actor hangs on its own notes alone
 noted_beside : (size sectors : ℕ) (task : Option Script) (o : Option (Option Doing)) (a : ℕ) (m m' : AbstractNotes) → m'.jobs a ≡ m.jobs a → m'.entered a ≡ m.entered a → m'.asked a ≡ m.asked a → IsNotedSo size sectors task o a m → IsNotedSo size sectors task o a m'
 noted_beside size sectors None o a m m' j e k is = tt
 noted_beside size sectors (Some script) (Some (Some doing)) a m m' j e k is = record { job_is = j ∙ is.job_is; entered = subst (λ (es : List Entry). AreEntries size sectors doing.entered es) (sym e) is.entered; asked = k ∙ is.asked }
-noted_beside size sectors (Some script) (Some None) a m m' j e k is = absurd is
-noted_beside size sectors (Some script) None a m m' j e k is = absurd is
+noted_beside size sectors (Some script) o a m m' j e k is = absurd is
 
 -- a refused answer is noted as the end of the task alone
 refused_note : (m : AbstractNotes) (a : ℕ) (job : AbstractJob) (answer : AbstractAnswer) → answer ≢ AnsweredDone → noted_step m a (Some job) (End answer) ≡ record m { jobs = changed m.jobs a None }

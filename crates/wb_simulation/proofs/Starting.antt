@@ -136,9 +136,8 @@ starts_followed = record {
     write_agrees size most content part = by part.mode
       where
         by : (mode : Mode) → script_for size content None (table (OnBlock (write_job mode part))) ≡ table_there (job_for size content (OnBlock (write_job mode part)))
-        by Writeback = (tables_agree size most content None part []).1
-        by Writethrough = (tables_agree size most content None part []).1
         by Passthrough = (tables_agree size most content None part []).2
+        by mode = (tables_agree size most content None part []).1
 
     -- nobody is at anything there
     nobody_at : (now : Situation) (s : World) (g : Agrees now s) → AreAtRest now.actors → (b : ℕ) (z : AbstractActor) → slice_get s.actors b ≡ Some z → z.task ≡ None

@@ -29,6 +29,5 @@ pub job_written : (size : ℕ) (content : Content) (part : BlockRange) → job_f
 job_written size content part = by part.mode refl
   where
     by : (mode : Mode) → part.mode ≡ mode → job_for size content (OnBlock (write_job mode part)) ≡ writing_in mode part.block.0 (offsets size part.extents) content
-    by Writeback e = ap (λ (m : Mode). writing_in m part.block.0 (offsets size part.extents) content) e
-    by Writethrough e = ap (λ (m : Mode). writing_in m part.block.0 (offsets size part.extents) content) e
     by Passthrough e = refl
+    by mode e = ap (λ (m : Mode). writing_in m part.block.0 (offsets size part.extents) content) e
