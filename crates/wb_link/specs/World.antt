@@ -167,20 +167,20 @@ abbrev pub newest_at : Shared → Option ℕ → ℕ → ℕ → Content
 newest_at s None b o = newest (s.origin b o)
 newest_at s (Some k) b o = newest (s.cache k o)
 
--- once commits have ended up to this number: the ticket's is among them, or is not
-abbrev pub IsServed : (ended : ℕ) → Option ℕ → Type 0
-IsServed ended None = ⊥
-IsServed ended (Some k) = k ≤ ended
+-- once commits have ended up to this number: one of them covers the ticket, or none does
+abbrev pub TicketIsCovered : (ended : ℕ) → Option ℕ → Type 0
+TicketIsCovered ended None = ⊥
+TicketIsCovered ended (Some k) = k ≤ ended
 
-abbrev pub IsUnserved : (ended : ℕ) → Option ℕ → Type 0
-IsUnserved ended None = Unit {0}
-IsUnserved ended (Some k) = ended < k
+abbrev pub TicketIsUncovered : (ended : ℕ) → Option ℕ → Type 0
+TicketIsUncovered ended None = Unit {0}
+TicketIsUncovered ended (Some k) = ended < k
 
 abbrev pub Serves : Shared → Option ℕ → Type 0
-Serves s = IsServed s.ended
+Serves s = TicketIsCovered s.ended
 
 abbrev pub Unserved : Shared → Option ℕ → Type 0
-Unserved s = IsUnserved s.ended
+Unserved s = TicketIsUncovered s.ended
 
 -- at these offsets both are the same
 abbrev pub AreAlike : List ℕ → (ℕ → Content) → (ℕ → Content) → Type 0

@@ -30,7 +30,7 @@ use Rattle.wb_devices.specs.declared.devices.Devices.{Devices}
 use Rattle.wb_devices.specs.Moving.{device_in}
 use Rattle.wb_tasks.specs.Ready.{HoldsBlocks}
 use Rattle.wb_link.specs.Tables.{End_running, Done as DoneThere, Begin, Begin_clean, Flushing as FlushingFor, Suspending as SuspendingThere}
-use Rattle.wb_link.specs.World.{World, Shared, AbstractActor, effect, is_alone, IsServed, IsUnserved, Serves, Unserved}
+use Rattle.wb_link.specs.World.{World, Shared, AbstractActor, effect, is_alone, TicketIsCovered, TicketIsUncovered, Serves, Unserved}
 use Rattle.wb_refines.specs.Going.{gone, AreQuiet, shared_after}
 use Rattle.wb_refines.specs.Translation.{wants_of, job_for}
 use Rattle.wb_refines.specs.Models.{WordsAgree, SealAgrees}
@@ -323,10 +323,10 @@ module _ (now : Situation) (blocks : List OBlock) (a : ℕ) (x : Actor) (s : Wor
 
   -- it is left out, or taken in, there as here
   left_out : IsLeftOut now.commits ticket → Unserved s.shared ticket
-  left_out = subst (λ (ended : ℕ). IsUnserved ended ticket) (sym g.commits.ended)
+  left_out = subst (λ (ended : ℕ). TicketIsUncovered ended ticket) (sym g.commits.ended)
 
   taken_in : TakesIn now.commits ticket → Serves s.shared ticket
-  taken_in = subst (λ (ended : ℕ). IsServed ended ticket) (sym g.commits.ended)
+  taken_in = subst (λ (ended : ℕ). TicketIsCovered ended ticket) (sym g.commits.ended)
 
   pub leads : (nodes : ℕ) → now.commits.committing ≡ false → now.commits.broken ≡ false → IsLeftOut now.commits ticket →
       WorldFollowsBy (Begins false) Quietly a s (record now { commits = one_begun now.commits }) (record x { task = Some (Flush, after p (Began nodes)); share = share' })

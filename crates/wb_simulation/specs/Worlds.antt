@@ -13,7 +13,7 @@ use Rattle.wb_tasks.specs.Plan.{Plan}
 use Rattle.wb_tasks.specs.declared.step.Migration.{Migration}
 use Rattle.wb_promise.specs.declared.job.Job.TheVariants.{Migrate}
 use Rattle.wb_simulation.specs.Carried.{held, live_there, IsOf, IsAtMigration}
-use Rattle.wb_link.specs.World.{IsServed, IsUnserved, World, Shared, Block, Mapped, Reserved, removed, block_begun, block_ended, block_given_back, Record, IsAbstractRun, abstract_after_all, AbstractActor}
+use Rattle.wb_link.specs.World.{TicketIsCovered, TicketIsUncovered, World, Shared, Block, Mapped, Reserved, removed, block_begun, block_ended, block_given_back, Record, IsAbstractRun, abstract_after_all, AbstractActor}
 use Rattle.wb_refines.specs.Models.{WordsAgree}
 use Rattle.wb_promise.specs.States.{Actor}
 use Rattle.wb_simulation.specs.Actors.{StandsFor}
@@ -75,10 +75,10 @@ one_ended commits = record { committing = false; broken = commits.broken; ended 
 
 -- a commit of the ticket's number or a later one has ended, or none has
 abbrev pub TakesIn : Commits → Option ℕ → Type 0
-TakesIn commits = IsServed commits.ended
+TakesIn commits = TicketIsCovered commits.ended
 
 abbrev pub IsLeftOut : Commits → Option ℕ → Type 0
-IsLeftOut commits = IsUnserved commits.ended
+IsLeftOut commits = TicketIsUncovered commits.ended
 
 -- none begins, ends or is broken from the one to the other
 abbrev pub KeepsNumbers : (s t : Shared) → Type 0
