@@ -138,9 +138,9 @@ goes_on g n o new got at same p q goes = record {
 abbrev gone_on : RunningCommit → RunningCommit
 gone_on running = record running { steps = steps_after running.image running.steps }
 
--- and has come so far then
-come_on : (image : Image) (now steps later : CommitSteps) → now ≡ steps → steps_after image steps ≡ later → steps_after image now ≡ later
-come_on image now steps later e f = ap (λ (s : CommitSteps). steps_after image s) e ∙ f
+-- and all was read as before
+abbrev all_gone_on : (g : Geometry) (reading : Option (ReadSteps Global)) (commit : Option RunningCommit) (all : HasReadAll g reading commit) → HasReadAll g reading (Some (gone_on all.next))
+all_gone_on g reading commit all = record { state = all.state; reading_is = all.reading_is; fits = all.fits; sizes = all.sizes; next = gone_on all.next; commit_is = refl; root_is = all.root_is }
 
 last_node : (image : Image) (from : ℕ) → length image.nodes.items ≡ from + 0 → steps_after image (NodesWritten from) ≡ NodesSynced
 last_node image from many = ap (λ (o : Option (Place × Node)). after_node o from) (slice_get_past image.nodes.items from (omega (arith, many)))
@@ -149,17 +149,11 @@ next_node : (image : Image) (from left : ℕ) → length image.nodes.items ≡ f
 next_node image from left many = let there = there_is image.nodes.items from (omega (arith, many)) in ap (λ (o : Option (Place × Node)). after_node o from) there.1
 
 has_gone_on : (g : Geometry) (steps later : CommitSteps) (reading : Option (ReadSteps Global)) (commit : Option RunningCommit) (all : HasReadAll g reading commit) → all.next.steps ≡ steps → steps_after all.next.image steps ≡ later → HasCommitted g later reading (Some (gone_on all.next))
-has_gone_on g steps later reading commit all e f = (
-  record { state = all.state; reading_is = all.reading_is; fits = all.fits; sizes = all.sizes; next = gone_on all.next; commit_is = refl; root_is = all.root_is },
-  come_on all.next.image all.next.steps steps later e f,
-)
+has_gone_on g steps later reading commit all e f = (all_gone_on g reading commit all, ap (λ (s : CommitSteps). steps_after all.next.image s) e ∙ f)
 
 has_one_less : (g : Geometry) (left from : ℕ) (reading : Option (ReadSteps Global)) (commit : Option RunningCommit) (all : HasReadAll g reading commit) → all.next.steps ≡ NodesWritten from → length all.next.image.nodes.items ≡ from + suc left → HasNodesLeft g left (from + 1) reading (Some (gone_on all.next))
-has_one_less g left from reading commit all e many = (
-  record { state = all.state; reading_is = all.reading_is; fits = all.fits; sizes = all.sizes; next = gone_on all.next; commit_is = refl; root_is = all.root_is },
-  come_on all.next.image all.next.steps (NodesWritten from) (NodesWritten (from + 1)) e (next_node all.next.image from left many),
-  omega (arith, many),
-)
+has_one_less g left from reading commit all e many =
+    (all_gone_on g reading commit all, ap (λ (s : CommitSteps). steps_after all.next.image s) e ∙ next_node all.next.image from left many, omega (arith, many))
 
 synced_from : (g : Geometry) (n : ℕ) (a : Asked) (point : OpenPoint) (device : Dev) → want (plan_from g.meta_sectors point) ≡ Device (Sync device) → (alloc : Global) (reading : Option (ReadSteps Global)) (commit : Option RunningCommit) (made : Option Made)
     → HasComeTo g point reading commit → HasMadeThere n point a made → Goes g n a point Done (reading_synced alloc device commit reading) (commit_synced device commit) (made_synced device commit made)
