@@ -78,6 +78,7 @@ module _ (shape : Shape) (devices : Devices (List History)) (commit : Option Run
   writes (Migrate migration block) device e g = (tt, g.0, g.3)
   writes job device e g = absurd g
 
+  -- (Where all jobs are alike one is named, and the next clause looks at each of the others.)
   syncs : (job : Job) → G job (Device (Sync Metadata)) → ComesNext commit (Sync Metadata) devices.metadata
   syncs Flush g = syncs_next t commit devices.metadata chosen g.2
   syncs job g = syncs_next t commit devices.metadata chosen g.2

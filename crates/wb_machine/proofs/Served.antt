@@ -100,7 +100,7 @@ starts_as shape w a Suspend what chosen b g = absurd (cc)
 starts_as shape w a (Open mode second) what chosen b g = absurd (cc)
 starts_as shape w a job what chosen b g = g
 
--- the desk that an order leaves
+-- the desk that an order leaves (a clause that names one case has the last one look at each of the others)
 phase_so : (words : Words) (desk : DeskState Quiet) (job : Job) (chosen : Chosen Quiet Global) → Stands (record { words = words; desk = desk_given desk job chosen }) ≡ phase_given {P = Quiet} {A = Global} (Stands (record { words = words; desk = desk })) job chosen
 phase_so words desk (Migrate migration block) Plain = refl
 phase_so words desk (Replace old new) Plain = refl
