@@ -1,5 +1,5 @@
 -- What single steps of an actor do is what wb_promise says.
-use Rattle.std.proofs.Common.{◌≡◌, ◌≤◌, ◌==◌, ◌&&◌, ℕ, zero, suc, Bool, true, false, List, [], ◌∷◌, Option, Some, None, refl, sym, ap, subst, ◌∙◌, arith, drop, length, map, take, slice_get, is_some}
+use Rattle.std.proofs.Common.{◌≡◌, ◌≤◌, ◌==◌, ◌&&◌, ℕ, zero, suc, Bool, true, false, List, [], ◌∷◌, Option, Some, None, refl, sym, ap, subst, ◌∙◌, arith, if◌then◌else◌, drop, length, map, take, slice_get, is_some}
 use Rattle.std.specs.declared.alloc.Global.{Global}
 use Rattle.wb_types.specs.declared.mode.Dev.{Dev}
 use Rattle.wb_types.specs.declared.mode.Dev.TheVariants.{Metadata, Cache, Origin}
@@ -25,11 +25,12 @@ use Rattle.wb_types.specs.declared.number.CBlock.{CBlock}
 use Rattle.wb_types.specs.declared.refusal.Refusal.TheVariants.{Memory}
 use Rattle.wb_tasks.specs.Plan.{Fits, got_of}
 use Rattle.wb_tasks.specs.declared.step.Answer.{Answer}
-use Rattle.wb_tasks.specs.declared.step.Answer.TheVariants.{Done as Finished, Refused as Refuses}
+use Rattle.wb_tasks.specs.declared.step.Answer.TheVariants.{Done as Finished}
 use Rattle.wb_tasks.specs.declared.step.DeviceStep.{DeviceStep}
 use Rattle.wb_tasks.specs.declared.step.DeviceStep.TheVariants.{Read as ReadExtent, Write as WriteExtent, Sync, WriteNode, WriteRoot}
 use Rattle.wb_tasks.specs.declared.step.DeskStep.{DeskStep}
 use Rattle.wb_tasks.specs.declared.step.DeskStep.TheVariants.{Map, Unmap, ReleaseOrder, Arrive, Ask, BeginCommit, EndCommit, BreakCommit}
+use Rattle.wb_tasks.specs.declared.step.Want.{Want}
 use Rattle.wb_tasks.specs.declared.step.Want.TheVariants.{Cell, Device, Desk, End}
 use Rattle.wb_tasks.specs.declared.step.Got.{Got}
 use Rattle.wb_tasks.specs.declared.step.Got.TheVariants.{Done, Fault, Began, Ticket, Served, Refused as GotRefused}
@@ -37,18 +38,18 @@ use Rattle.wb_devices.specs.declared.devices.Devices.{Devices}
 use Rattle.wb_devices.specs.declared.running.RunningCommit.{RunningCommit}
 use Rattle.wb_devices.specs.Committing.{is_coming}
 use Rattle.wb_devices.specs.Moving.{device_in}
-use Rattle.wb_stage.specs.Asking.{DidMap, DidUnmap, ended, DidRelease}
+use Rattle.wb_stage.specs.Asking.{DidMap, DidUnmap, DidRelease}
 use Rattle.wb_stage.specs.Sharing.{ShareIsCovered, MayAskNow}
 use Rattle.wb_stage.specs.Stages.{DidArrive, DidAsk, DidAskWith, DidBeginWith, EndsWith, IsServed, is_all_done}
 use Rattle.wb_stage.specs.declared.share.Share.{Share}
 use Rattle.wb_promise.specs.declared.job.Job.{Job}
-use Rattle.wb_promise.specs.declared.job.Job.TheVariants.{Read, Write, Flush, Suspend, Open, Invalidate, Migrate, Replace}
+use Rattle.wb_promise.specs.declared.job.Job.TheVariants.{Read, Write, Flush, Suspend, Open, Invalidate, Migrate}
 use Rattle.wb_promise.specs.States.{Shape, Actor, Stands, Target as RunTarget, with_device}
-use Rattle.wb_promise.specs.Happenings.{Chosen, Plain, Commits, Asks, AreWhole, Awaits, DoesArrive, DoesAsk, DoesBegin, DoesSync, FailsSync, Gives}
+use Rattle.wb_promise.specs.Happenings.{Chosen, Plain, Commits, Asks, AreWhole, Awaits, DoesBegin, DoesSync, FailsSync, Gives}
 use Rattle.wb_promise.specs.Effects.{contents_for, led}
 use Rattle.wb_machine.specs.declared.target.Target.{Target}
 use Rattle.wb_machine.specs.Life.{MayBePut, Now, WasPut}
-use Rattle.wb_machine.specs.Serving.{Allows, DidAskFor, IsAskable, ComesNext, DoesOn, FailsAt, IsDoable, IsPossible, IsPut, Performs, PutsSector, DeskWasAsked, IsCopy, Migrates, Unmaps, chosen_at, commit_by, noted_read, over, stood, target_told, GivesUp}
+use Rattle.wb_machine.specs.Serving.{Allows, DidAskFor, IsAskable, ComesNext, DoesOn, FailsAt, IsDoable, IsPossible, IsPut, Performs, PutsSector, DeskWasAsked, IsCopy, Migrates, Unmaps, chosen_at, commit_by, is_copied, noted_read, over, stood, target_told, GivesUp}
 use Rattle.wb_policy.specs.declared.order.Order.{Order}
 
 -- ---- devices
@@ -87,6 +88,11 @@ given_copy device first (suc count) (c ∷ cs) many g = one (drop first device) 
         let later : drop (suc first) device ≡ hs = drop_more device first h hs e in
         ap (λ x. x ∷ cs) here ∙ ap (λ xs. newest h ∷ xs) (rest ∙ ap (λ xs. map newest (take count xs)) later)
 
+-- no commit runs after a fault
+pub led_none : (commit : Option RunningCommit) → led commit Fault ≡ None
+led_none None = refl
+led_none (Some running) = refl
+
 module _ (devices : Devices (List History)) (commit : Option RunningCommit) (devices' : Devices (List History)) (commit' : Option RunningCommit) where
   -- what the job writes next is in its buffer
   module _ (buffer : List Bytes) where
@@ -99,23 +105,13 @@ module _ (devices : Devices (List History)) (commit : Option RunningCommit) (dev
       devices_are = d ∙ sym (same_device device devices);
       commit_is = c;
     }
-    did_read (Replace old new) device e read can many each d c = absurd can.0
-    did_read (Write extent content) device e read can many each d c = absurd can.0
-    did_read (Invalidate block) device e read can many each d c = absurd can.0
-    did_read Flush device e read can many each d c = absurd can.0
-    did_read Suspend device e read can many each d c = absurd can.0
-    did_read (Open mode second) device e read can many each d c = absurd can.0
+    did_read job device e read can many each d c = absurd can.0
 
     pub did_write : (job : Job) (device : Dev) (e : Extent) → IsDoable devices commit job (WriteExtent device e) →
         devices' ≡ with_device device devices (written_each (device_in device devices) e.first (contents_for job buffer e.count)) → commit' ≡ commit → DoesOn devices commit job buffer (WriteExtent device e) [] devices' commit'
-    did_write (Read extent) device e can d c = absurd can.0
     did_write (Write extent content) device e can d c = record { gives = λ shape t actors x. (can.1, (refl, refl), refl, can.2); copies = tt; devices_are = d; commit_is = c }
-    did_write (Invalidate block) device e can d c = absurd can.0
     did_write (Migrate migration block) device e can d c = record { gives = λ shape t actors x. (can.1, (refl, refl), refl, can.2); copies = tt; devices_are = d; commit_is = c }
-    did_write (Replace old new) device e can d c = absurd can.0
-    did_write Flush device e can d c = absurd can.0
-    did_write Suspend device e can d c = absurd can.0
-    did_write (Open mode second) device e can d c = absurd can.0
+    did_write job device e can d c = absurd can.0
 
   syncs_so : (commit : Option RunningCommit) → ComesNext commit (Sync Metadata) devices.metadata → (t : RunTarget Quiet) → DoesSync {P = Quiet} {A = Global} (Stands t) commit devices.metadata Plain
   syncs_so None can t = can
@@ -124,49 +120,17 @@ module _ (devices : Devices (List History)) (commit : Option RunningCommit) (dev
   module _ (buffer : List Bytes) where
     pub did_sync : (job : Job) (device : Dev) (read : List Bytes) → IsDoable devices commit job (Sync device) → read ≡ [] → devices' ≡ with_device device devices (synced (device_in device devices)) → commit' ≡ commit_by commit (Device (Sync device)) Done Plain →
         DoesOn devices commit job buffer (Sync device) read devices' commit'
-    did_sync (Read extent) Metadata read can r d c = record { gives = λ shape t actors x. (r, refl, syncs_so commit can t); copies = tt; devices_are = d; commit_is = c }
-    did_sync (Write extent content) Metadata read can r d c = record { gives = λ shape t actors x. (r, refl, syncs_so commit can t); copies = tt; devices_are = d; commit_is = c }
-    did_sync (Invalidate block) Metadata read can r d c = record { gives = λ shape t actors x. (r, refl, syncs_so commit can t); copies = tt; devices_are = d; commit_is = c }
     did_sync Flush Metadata read can r d c = record { gives = λ shape t actors x. (r, refl, syncs_so commit can t); copies = tt; devices_are = d; commit_is = c }
-    did_sync Suspend Metadata read can r d c = record { gives = λ shape t actors x. (r, refl, syncs_so commit can t); copies = tt; devices_are = d; commit_is = c }
-    did_sync (Open mode second) Metadata read can r d c = record { gives = λ shape t actors x. (r, refl, syncs_so commit can t); copies = tt; devices_are = d; commit_is = c }
-    did_sync (Migrate migration block) Metadata read can r d c = record { gives = λ shape t actors x. (r, refl, syncs_so commit can t); copies = tt; devices_are = d; commit_is = c }
-    did_sync (Replace old new) Metadata read can r d c = record { gives = λ shape t actors x. (r, refl, syncs_so commit can t); copies = tt; devices_are = d; commit_is = c }
-    did_sync (Read extent) Cache read can r d c = record { gives = λ shape t actors x. ((r, refl), refl); copies = tt; devices_are = d; commit_is = c }
-    did_sync (Write extent content) Cache read can r d c = record { gives = λ shape t actors x. ((r, refl), refl); copies = tt; devices_are = d; commit_is = c }
-    did_sync (Invalidate block) Cache read can r d c = record { gives = λ shape t actors x. ((r, refl), refl); copies = tt; devices_are = d; commit_is = c }
-    did_sync Flush Cache read can r d c = record { gives = λ shape t actors x. ((r, refl), refl); copies = tt; devices_are = d; commit_is = c }
-    did_sync Suspend Cache read can r d c = record { gives = λ shape t actors x. ((r, refl), refl); copies = tt; devices_are = d; commit_is = c }
-    did_sync (Open mode second) Cache read can r d c = record { gives = λ shape t actors x. ((r, refl), refl); copies = tt; devices_are = d; commit_is = c }
-    did_sync (Migrate migration block) Cache read can r d c = record { gives = λ shape t actors x. ((r, refl), refl); copies = tt; devices_are = d; commit_is = c }
-    did_sync (Replace old new) Cache read can r d c = record { gives = λ shape t actors x. ((r, refl), refl); copies = tt; devices_are = d; commit_is = c }
-    did_sync (Read extent) Origin read can r d c = record { gives = λ shape t actors x. ((r, refl), refl); copies = tt; devices_are = d; commit_is = c }
-    did_sync (Write extent content) Origin read can r d c = record { gives = λ shape t actors x. ((r, refl), refl); copies = tt; devices_are = d; commit_is = c }
-    did_sync (Invalidate block) Origin read can r d c = record { gives = λ shape t actors x. ((r, refl), refl); copies = tt; devices_are = d; commit_is = c }
-    did_sync Flush Origin read can r d c = record { gives = λ shape t actors x. ((r, refl), refl); copies = tt; devices_are = d; commit_is = c }
-    did_sync Suspend Origin read can r d c = record { gives = λ shape t actors x. ((r, refl), refl); copies = tt; devices_are = d; commit_is = c }
-    did_sync (Open mode second) Origin read can r d c = record { gives = λ shape t actors x. ((r, refl), refl); copies = tt; devices_are = d; commit_is = c }
-    did_sync (Migrate migration block) Origin read can r d c = record { gives = λ shape t actors x. ((r, refl), refl); copies = tt; devices_are = d; commit_is = c }
-    did_sync (Replace old new) Origin read can r d c = record { gives = λ shape t actors x. ((r, refl), refl); copies = tt; devices_are = d; commit_is = c }
+    did_sync job Metadata read can r d c = record { gives = λ shape t actors x. (r, refl, syncs_so commit can t); copies = tt; devices_are = d; commit_is = c }
+    did_sync Flush device read can r d c = record { gives = λ shape t actors x. ((r, refl), refl); copies = tt; devices_are = d; commit_is = c }
+    did_sync job device read can r d c = record { gives = λ shape t actors x. ((r, refl), refl); copies = tt; devices_are = d; commit_is = c }
 
     pub did_put : (job : Job) (step : DeviceStep) (read : List Bytes) → IsPut step → read ≡ [] → WasPut commit step devices.metadata devices'.metadata → devices' ≡ record devices { metadata = devices'.metadata } → commit' ≡ led commit Done →
         DoesOn devices commit job buffer step read devices' commit'
-    did_put (Read extent) (WriteNode number) read put r p d c = record { gives = λ shape t actors x. (r, refl, p); copies = tt; devices_are = d; commit_is = c }
-    did_put (Write extent content) (WriteNode number) read put r p d c = record { gives = λ shape t actors x. (r, refl, p); copies = tt; devices_are = d; commit_is = c }
-    did_put (Invalidate block) (WriteNode number) read put r p d c = record { gives = λ shape t actors x. (r, refl, p); copies = tt; devices_are = d; commit_is = c }
     did_put Flush (WriteNode number) read put r p d c = record { gives = λ shape t actors x. (r, refl, p); copies = tt; devices_are = d; commit_is = c }
-    did_put Suspend (WriteNode number) read put r p d c = record { gives = λ shape t actors x. (r, refl, p); copies = tt; devices_are = d; commit_is = c }
-    did_put (Open mode second) (WriteNode number) read put r p d c = record { gives = λ shape t actors x. (r, refl, p); copies = tt; devices_are = d; commit_is = c }
-    did_put (Migrate migration block) (WriteNode number) read put r p d c = record { gives = λ shape t actors x. (r, refl, p); copies = tt; devices_are = d; commit_is = c }
-    did_put (Replace old new) (WriteNode number) read put r p d c = record { gives = λ shape t actors x. (r, refl, p); copies = tt; devices_are = d; commit_is = c }
-    did_put (Read extent) WriteRoot read put r p d c = record { gives = λ shape t actors x. (r, refl, p); copies = tt; devices_are = d; commit_is = c }
-    did_put (Write extent content) WriteRoot read put r p d c = record { gives = λ shape t actors x. (r, refl, p); copies = tt; devices_are = d; commit_is = c }
-    did_put (Invalidate block) WriteRoot read put r p d c = record { gives = λ shape t actors x. (r, refl, p); copies = tt; devices_are = d; commit_is = c }
+    did_put job (WriteNode number) read put r p d c = record { gives = λ shape t actors x. (r, refl, p); copies = tt; devices_are = d; commit_is = c }
     did_put Flush WriteRoot read put r p d c = record { gives = λ shape t actors x. (r, refl, p); copies = tt; devices_are = d; commit_is = c }
-    did_put Suspend WriteRoot read put r p d c = record { gives = λ shape t actors x. (r, refl, p); copies = tt; devices_are = d; commit_is = c }
-    did_put (Open mode second) WriteRoot read put r p d c = record { gives = λ shape t actors x. (r, refl, p); copies = tt; devices_are = d; commit_is = c }
-    did_put (Migrate migration block) WriteRoot read put r p d c = record { gives = λ shape t actors x. (r, refl, p); copies = tt; devices_are = d; commit_is = c }
-    did_put (Replace old new) WriteRoot read put r p d c = record { gives = λ shape t actors x. (r, refl, p); copies = tt; devices_are = d; commit_is = c }
+    did_put job WriteRoot read put r p d c = record { gives = λ shape t actors x. (r, refl, p); copies = tt; devices_are = d; commit_is = c }
     did_put job step read put r p d c = absurd put
 
   -- ---- that fail
@@ -184,12 +148,7 @@ module _ (devices : Devices (List History)) (commit : Option RunningCommit) (dev
 
     pub failed_sync : (device : Dev) → IsDoable devices commit job (Sync device) → devices' ≡ with_device device devices (synced_where (lands device choice) (device_in device devices)) → commit' ≡ commit_by commit (Device (Sync device)) Fault Plain → FailsAt choice devices commit job buffer (Sync device) devices' commit'
     failed_sync Metadata can d c = record { falters = λ t actors. (refl, faults_so commit can t); devices_are = d; commit_is = c }
-    failed_sync Cache can d c = record { falters = λ t actors. refl; devices_are = d; commit_is = c }
-    failed_sync Origin can d c = record { falters = λ t actors. refl; devices_are = d; commit_is = c }
-
-    led_none : (commit : Option RunningCommit) → led commit Fault ≡ None
-    led_none None = refl
-    led_none (Some running) = refl
+    failed_sync device can d c = record { falters = λ t actors. refl; devices_are = d; commit_is = c }
 
     pub failed_put : (step : DeviceStep) → IsPut step → MayBePut commit choice step devices.metadata devices'.metadata → devices' ≡ record devices { metadata = devices'.metadata } → commit' ≡ None → FailsAt choice devices commit job buffer step devices' commit'
     failed_put (WriteNode number) put p d c = record { falters = λ t actors. p; devices_are = d; commit_is = c ∙ sym (led_none commit) }
@@ -221,37 +180,19 @@ puts_sector image steps step b p e = absurd p
 
 -- what is asked for otherwise than by the beginning of a suspend's commit is served
 pub served : (step : DeskStep) → ((most : ℕ) → step ≡ BeginCommit most → ⊥) → IsServed (Desk step)
-served (Map block place) n = tt
-served (Unmap block) n = tt
-served (ReleaseOrder block) n = tt
-served (Arrive most) n = tt
-served (Ask most) n = tt
 served (BeginCommit most) n = n most refl
-served EndCommit n = tt
-served BreakCommit n = tt
+served step n = tt
 
 -- who has not to wait goes on
 pub going : (desk : DeskState Quiet) (share : Share) (step : DeskStep) → (Awaits desk share (Desk step) → ⊥) → MayAskNow desk share step
-going desk share (Map block place) n = tt
-going desk share (Unmap block) n = tt
-going desk share (ReleaseOrder block) n = tt
-going desk share (Arrive most) n = tt
 going desk share (Ask most) n = n
-going desk share (BeginCommit most) n = tt
-going desk share EndCommit n = tt
-going desk share BreakCommit n = tt
+going desk share step n = tt
 
 module _ (desk : DeskState Quiet) (commit : Option RunningCommit) (desk' : DeskState Quiet) (commit' : Option RunningCommit) (held : List Order) (seen : List Bool) (share : Share) where
   -- one call of the desk that begins no suspend's commit
   pub asked_plainly : (with_entry : Quiet → ℕ → ℕ → Quiet) (without_entry : Quiet → ℕ → Quiet) (step : DeskStep) (got : Got) → ((most : ℕ) → step ≡ BeginCommit most → ⊥) → DidAsk with_entry without_entry held step share got desk commit desk' commit' → DidAskFor held seen share step got desk commit desk' commit'
-  asked_plainly enters leaves (Map block place) got n did = (enters, leaves, did)
-  asked_plainly enters leaves (Unmap block) got n did = (enters, leaves, did)
-  asked_plainly enters leaves (ReleaseOrder block) got n did = (enters, leaves, did)
-  asked_plainly enters leaves (Arrive most) got n did = (enters, leaves, did)
-  asked_plainly enters leaves (Ask most) got n did = (enters, leaves, did)
   asked_plainly enters leaves (BeginCommit most) got n did = absurd (n most refl)
-  asked_plainly enters leaves EndCommit got n did = (enters, leaves, did)
-  asked_plainly enters leaves BreakCommit got n did = (enters, leaves, did)
+  asked_plainly enters leaves step got n did = (enters, leaves, did)
 
   -- and one that does
   pub suspend_begins : (step : DeskStep) (most : ℕ) (got : Got) → step ≡ BeginCommit most → DidBeginWith (λ policy block. 0) seen most got desk commit desk' commit' → DidAskFor held seen share step got desk commit desk' commit'
@@ -270,67 +211,34 @@ module _ (desk : DeskState Quiet) (commit : Option RunningCommit) (desk' : DeskS
   begins bits most nodes running few steps many hint_of begun whole =
       (few, many, steps, (hint_of, subst (λ (d : DeskState Quiet). HasBegun hint_of bits desk running.image d) begun.state begun), whole)
 
-  -- what is so of a step whoever takes it
+  -- What a suspend is given is given to whoever takes the step. (A clause that names one case has the next one look at each of the others.)
   module _ (shape : Shape) (devices : Devices (List History)) (words : Words) (actors : List Actor) (x : Actor) where
     abbrev w : Now
     w = stood devices commit (record { words = words; desk = desk }) actors
 
-    gives_arrival : (job : Job) (most : ℕ) (got : Got) (chosen : Chosen Quiet Global) → DoesArrive most desk got chosen → Gives shape w x job (Desk (Arrive most)) got [] chosen
-    gives_arrival (Read extent) most got chosen does = (refl, does)
-    gives_arrival (Write extent content) most got chosen does = (refl, does)
-    gives_arrival (Invalidate block) most got chosen does = (refl, does)
-    gives_arrival Flush most got chosen does = (refl, does)
-    gives_arrival Suspend most got chosen does = (refl, does)
-    gives_arrival (Open mode second) most got chosen does = (refl, does)
-    gives_arrival (Migrate migration block) most got chosen does = (refl, does)
-    gives_arrival (Replace old new) most got chosen does = (refl, does)
-
-    gives_asking : (job : Job) (most : ℕ) (got : Got) (chosen : Chosen Quiet Global) → DoesAsk x.share most desk got chosen → Gives shape w x job (Desk (Ask most)) got [] chosen
-    gives_asking (Read extent) most got chosen does = (refl, does)
-    gives_asking (Write extent content) most got chosen does = (refl, does)
-    gives_asking (Invalidate block) most got chosen does = (refl, does)
-    gives_asking Flush most got chosen does = (refl, does)
-    gives_asking Suspend most got chosen does = (refl, does)
-    gives_asking (Open mode second) most got chosen does = (refl, does)
-    gives_asking (Migrate migration block) most got chosen does = (refl, does)
-    gives_asking (Replace old new) most got chosen does = (refl, does)
-
-    gives_beginning : (job : Job) (most : ℕ) (got : Got) (chosen : Chosen Quiet Global) → DoesBegin (Some x.seen) most desk got chosen → Gives shape w x job (Desk (BeginCommit most)) got [] chosen
-    gives_beginning (Read extent) most got chosen does = (refl, does)
-    gives_beginning (Write extent content) most got chosen does = (refl, does)
-    gives_beginning (Invalidate block) most got chosen does = (refl, does)
-    gives_beginning Flush most got chosen does = (refl, does)
-    gives_beginning Suspend most got chosen does = (refl, does)
-    gives_beginning (Open mode second) most got chosen does = (refl, does)
-    gives_beginning (Migrate migration block) most got chosen does = (refl, does)
-    gives_beginning (Replace old new) most got chosen does = (refl, does)
-
-    gives_break : (job : Job) → Gives shape w x job (Desk BreakCommit) Done [] Plain
-    gives_break (Read extent) = ((refl, refl), refl, tt)
-    gives_break (Write extent content) = ((refl, refl), refl, tt)
-    gives_break (Invalidate block) = ((refl, refl), refl, tt)
-    gives_break Flush = ((refl, refl), refl, tt)
-    gives_break Suspend = ((refl, refl), refl, tt)
-    gives_break (Open mode second) = ((refl, refl), refl, tt)
-    gives_break (Migrate migration block) = ((refl, refl), refl, tt)
-    gives_break (Replace old new) = ((refl, refl), refl, tt)
+    given : (job : Job) (step : DeskStep) (got : Got) (chosen : Chosen Quiet Global) → Gives shape w x Suspend (Desk step) got [] chosen → Gives shape w x job (Desk step) got [] chosen
+    given job (Map block place) got chosen g = absurd g
+    given job (Unmap block) got chosen g = absurd g
+    given job (ReleaseOrder block) got chosen g = absurd g
+    given Suspend step got chosen g = g
+    given job step got chosen g = g
 
   -- a flush arrives: it leads a commit, is refused one, or gets a ticket
   did_arrive : (job : Job) (most : ℕ) (got : Got) → most_nodes desk.geometry.version false desk.geometry.cache_blocks ≤ most → Fits (Desk (Arrive most)) got → BeginsWhole got → DidArrive most got desk commit desk' commit' → Asked (Arrive most) job got
   did_arrive job most (Began nodes) enough fits whole did =
       let does = begins None most nodes did.1.0 fits did.1.2 did.1.3 did.1.4.0 did.1.4.1 (whole nodes did.1.0 refl did.1.1) in
-      record { chosen = Commits did.1.0 desk'.tree; gives = λ shape devices words actors x own. gives_arrival shape devices words actors x job most (Began nodes) (Commits did.1.0 desk'.tree) (did.0, does); desk_is = did.1.4.1.state; commit_is = did.1.1 }
+      record { chosen = Commits did.1.0 desk'.tree; gives = λ shape devices words actors x own. given shape devices words actors x job (Arrive most) (Began nodes) (Commits did.1.0 desk'.tree) (refl, (did.0, does)); desk_is = did.1.4.1.state; commit_is = did.1.1 }
   did_arrive job most (GotRefused refusal) enough fits whole did =
-      record { chosen = Plain; gives = λ shape devices words actors x own. gives_arrival shape devices words actors x job most (GotRefused refusal) Plain (did.2 enough); desk_is = did.1; commit_is = did.0 }
+      record { chosen = Plain; gives = λ shape devices words actors x own. given shape devices words actors x job (Arrive most) (GotRefused refusal) Plain (refl, did.2 enough); desk_is = did.1; commit_is = did.0 }
   did_arrive job most Ticket enough fits whole did =
-      record { chosen = Plain; gives = λ shape devices words actors x own. gives_arrival shape devices words actors x job most Ticket Plain (did.0, did.1); desk_is = did.2; commit_is = did.3 }
+      record { chosen = Plain; gives = λ shape devices words actors x own. given shape devices words actors x job (Arrive most) Ticket Plain (refl, (did.0, did.1)); desk_is = did.2; commit_is = did.3 }
   did_arrive job most got enough fits whole did = absurd did
 
   -- one with a ticket asks: it is served, leads a commit, or is refused one
   did_ask_again : (job : Job) (most : ℕ) (got : Got) → most_nodes desk.geometry.version false desk.geometry.cache_blocks ≤ most → Fits (Desk (Ask most)) got → BeginsWhole got → DidAskWith share most got desk commit desk' commit' → Asked (Ask most) job got
   did_ask_again job most Served enough fits whole did = record {
     chosen = Plain;
-    gives = λ shape devices words actors x own. gives_asking shape devices words actors x job most Served Plain (subst (λ (s : Share). ShareIsCovered desk s) (sym own.2) did.0);
+    gives = λ shape devices words actors x own. given shape devices words actors x job (Ask most) Served Plain (refl, subst (λ (s : Share). ShareIsCovered desk s) (sym own.2) did.0);
     desk_is = did.1;
     commit_is = did.2;
   }
@@ -338,13 +246,13 @@ module _ (desk : DeskState Quiet) (commit : Option RunningCommit) (desk' : DeskS
       let does = begins None most nodes did.1.1.0 fits did.1.1.2 did.1.1.3 did.1.1.4.0 did.1.1.4.1 (whole nodes did.1.1.0 refl did.1.1.1) in
       record {
         chosen = Commits did.1.1.0 desk'.tree;
-        gives = λ shape devices words actors x own. gives_asking shape devices words actors x job most (Began nodes) (Commits did.1.1.0 desk'.tree) (subst (λ (s : Share). ¬ ShareIsCovered desk s) (sym own.2) did.0, (did.1.0, does));
+        gives = λ shape devices words actors x own. given shape devices words actors x job (Ask most) (Began nodes) (Commits did.1.1.0 desk'.tree) (refl, (subst (λ (s : Share). ¬ ShareIsCovered desk s) (sym own.2) did.0, (did.1.0, does)));
         desk_is = did.1.1.4.1.state;
         commit_is = did.1.1.1;
       }
   did_ask_again job most (GotRefused refusal) enough fits whole did = record {
     chosen = Plain;
-    gives = λ shape devices words actors x own. gives_asking shape devices words actors x job most (GotRefused refusal) Plain (subst (λ (s : Share). ¬ ShareIsCovered desk s) (sym own.2) (did.2 enough).0, (did.2 enough).1);
+    gives = λ shape devices words actors x own. given shape devices words actors x job (Ask most) (GotRefused refusal) Plain (refl, (subst (λ (s : Share). ¬ ShareIsCovered desk s) (sym own.2) (did.2 enough).0, (did.2 enough).1));
     desk_is = did.1;
     commit_is = did.0;
   }
@@ -356,32 +264,20 @@ module _ (desk : DeskState Quiet) (commit : Option RunningCommit) (desk' : DeskS
       let does = begins (Some seen) most nodes did.0 fits did.2 did.3 hint_of did.4 (whole nodes did.0 refl did.1) in
       record {
         chosen = Commits did.0 desk'.tree;
-        gives = λ shape devices words actors x own. gives_beginning shape devices words actors x job most (Began nodes) (Commits did.0 desk'.tree)
-            (subst (λ (bits : List Bool). DoesBegin {P = Quiet} {A = Global} (Some bits) most desk (Began nodes) (Commits did.0 desk'.tree)) (sym own.1) does);
+        gives = λ shape devices words actors x own. given shape devices words actors x job (BeginCommit most) (Began nodes) (Commits did.0 desk'.tree)
+            (refl, subst (λ (bits : List Bool). DoesBegin {P = Quiet} {A = Global} (Some bits) most desk (Began nodes) (Commits did.0 desk'.tree)) (sym own.1) does);
         desk_is = did.4.state;
         commit_is = did.1;
       }
   did_begin job most (GotRefused refusal) hint_of enough fits whole did =
-      record { chosen = Plain; gives = λ shape devices words actors x own. gives_beginning shape devices words actors x job most (GotRefused refusal) Plain (did.1.1 enough); desk_is = did.1.0; commit_is = did.0 }
+      record { chosen = Plain; gives = λ shape devices words actors x own. given shape devices words actors x job (BeginCommit most) (GotRefused refusal) Plain (refl, did.1.1 enough); desk_is = did.1.0; commit_is = did.0 }
   did_begin job most got hint_of enough fits whole did = absurd did
 
-  did_end : (job : Job) → is_all_done commit ≡ true → desk' ≡ ended desk → commit' ≡ None → DeskWasAsked desk commit job held seen share EndCommit Done desk' commit'
-  did_end job done d c = record { chosen = Plain; gives = λ shape devices words actors x own. by_job shape devices words actors x job; desk_is = d; commit_is = c }
-    where
-      by_job : (shape : Shape) (devices : Devices (List History)) (words : Words) (actors : List Actor) (x : Actor) (job : Job) → Gives shape (stood devices commit (record { words = words; desk = desk }) actors) x job (Desk EndCommit) Done [] Plain
-      by_job shape devices words actors x (Read extent) = ((refl, refl), refl, done)
-      by_job shape devices words actors x (Write extent content) = ((refl, refl), refl, done)
-      by_job shape devices words actors x (Invalidate block) = ((refl, refl), refl, done)
-      by_job shape devices words actors x Flush = ((refl, refl), refl, done)
-      by_job shape devices words actors x Suspend = ((refl, refl), refl, done)
-      by_job shape devices words actors x (Open mode second) = ((refl, refl), refl, done)
-      by_job shape devices words actors x (Migrate migration block) = ((refl, refl), refl, done)
-      by_job shape devices words actors x (Replace old new) = ((refl, refl), refl, done)
-
-  ends : (job : Job) → is_all_done commit ≡ true → EndsWith (is_all_done commit) desk commit desk' commit' → DeskWasAsked desk commit job held seen share EndCommit Done desk' commit'
+  -- a commit of which all was done ends
+  ends : (job : Job) → is_all_done commit ≡ true → EndsWith (is_all_done commit) desk commit desk' commit' → Asked EndCommit job Done
   ends job done did =
       let all : EndsWith true desk commit desk' commit' = subst (λ (t : Bool). EndsWith t desk commit desk' commit') done did in
-      did_end job done all.0 all.1
+      record { chosen = Plain; gives = λ shape devices words actors x own. given shape devices words actors x job EndCommit Done Plain ((refl, refl), refl, done); desk_is = all.0; commit_is = all.1 }
 
   -- a migration's block is mapped, or there is no memory for that
   did_map : (with_entry : Quiet → ℕ → ℕ → Quiet) (job : Job) (b : OBlock) (c : CBlock) (got : Got) → Migrates job → Fits (Desk (Map b c)) got → DidMap with_entry b c got desk desk' → commit' ≡ commit → DeskWasAsked desk commit job held seen share (Map b c) got desk' commit'
@@ -425,59 +321,45 @@ module _ (desk : DeskState Quiet) (commit : Option RunningCommit) (desk' : DeskS
   did_ask job (BeginCommit most) got askable enough fits whole did = did_begin job most got did.0 enough.0 fits whole did.1
   did_ask job EndCommit Done askable enough fits whole did = ends job askable did.2
   did_ask job BreakCommit Done askable enough fits whole did =
-      record { chosen = Plain; gives = λ shape devices words actors x own. gives_break shape devices words actors x job; desk_is = did.2.0; commit_is = did.2.1 }
+      record { chosen = Plain; gives = λ shape devices words actors x own. given shape devices words actors x job BreakCommit Done Plain ((refl, refl), refl, tt); desk_is = did.2.0; commit_is = did.2.1 }
   did_ask job step got askable enough fits whole did = absurd fits
 
 -- ---- an actor
 
+-- only of an extent that is read is anything to be written next
+no_copy : (devices : Devices (List History)) (job : Job) (next : Want) (read : List Bytes) → ((device : Dev) (e : Extent) → next ≡ Device (ReadExtent device e) → ⊥) → IsCopy devices job next read
+no_copy devices (Migrate migration block) (Device (ReadExtent device e)) read n = absurd (n device e refl)
+no_copy devices job next read n = tt
+
+-- where nothing was read, nothing is noted
+none_noted : (job : Job) (next : Want) → [] ≡ noted_read job next []
+none_noted job next = either (is_copied job next)
+  where
+    either : (b : Bool) → ◌≡◌ {A = List Bytes} [] (if b then [] else [])
+    either true = refl
+    either false = refl
+
 module _ (devices : Devices (List History)) (old : Target) (a : ℕ) (held : List Order) (seen : List Bool) (share : Share) (buffer : List Bytes) (devices' : Devices (List History)) (new : Target) where
   pub performs_word : (job : Job) (step : CellStep) (got : Got) (read : List Bytes) → got ≡ got_of (result_of old.crew.words step) → read ≡ [] → devices' ≡ devices → new.crew ≡ crew_after old.crew a step → new.desk ≡ old.desk → new.commit ≡ old.commit → new.failed ≡ flag new.crew.words.fail →
       Performs devices old a job held seen share buffer (Cell step) got read devices' new
-  performs_word job step got read g r d w k c f = record { chosen = Plain; gives = λ shape actors x own. by_job shape actors x job; copies = no_copy job; leads = record { devices_are = d; crew_is = w; desk_is = k; commit_is = c; failed_is = f } }
-    where
-      no_copy : (job : Job) → IsCopy devices job (Cell step) read
-      no_copy (Read extent) = tt
-      no_copy (Write extent content) = tt
-      no_copy (Invalidate block) = tt
-      no_copy Flush = tt
-      no_copy Suspend = tt
-      no_copy (Open mode second) = tt
-      no_copy (Migrate migration block) = tt
-      no_copy (Replace old new) = tt
-
-      by_job : (shape : Shape) (actors : List Actor) (x : Actor) (job : Job) → Gives shape (over devices old actors) x job (Cell step) got (noted_read job (Cell step) read) Plain
-      by_job shape actors x (Read extent) = ((r, refl), g)
-      by_job shape actors x (Write extent content) = ((r, refl), g)
-      by_job shape actors x (Invalidate block) = ((r, refl), g)
-      by_job shape actors x Flush = ((r, refl), g)
-      by_job shape actors x Suspend = ((r, refl), g)
-      by_job shape actors x (Open mode second) = ((r, refl), g)
-      by_job shape actors x (Migrate migration block) = ((r, refl), g)
-      by_job shape actors x (Replace old new) = ((r, refl), g)
+  performs_word job step got read g r d w k c f = rw r (record {
+    chosen = Plain;
+    gives = λ shape actors x own. subst (λ (none : List Bytes). Gives shape (over devices old actors) x job (Cell step) got none Plain) (none_noted job (Cell step)) ((refl, refl), g);
+    copies = no_copy devices job (Cell step) [] (λ device e n. cc);
+    leads = record { devices_are = d; crew_is = w; desk_is = k; commit_is = c; failed_is = f };
+  })
 
   pub performs_end : (job : Job) (answer : Answer) (read : List Bytes) → IsPossible devices old.commit job (End answer) → read ≡ [] → devices' ≡ devices → new ≡ old → old.failed ≡ flag old.crew.words.fail → Performs devices old a job held seen share buffer (End answer) Done read devices' new
-  performs_end job answer read can r d n f = rw n (record { chosen = Plain; gives = λ shape actors x own. by_job shape actors x job answer can; copies = no_copy job; leads = record { devices_are = d; crew_is = refl; desk_is = refl; commit_is = refl; failed_is = f } })
+  performs_end job answer read can r d n f = rw (n, r) (record {
+    chosen = Plain;
+    gives = λ shape actors x own. subst (λ (none : List Bytes). Gives shape (over devices old actors) x job (End answer) Done none Plain) (none_noted job (End answer)) (by_job job answer can shape actors x);
+    copies = no_copy devices job (End answer) [] (λ device e n. cc);
+    leads = record { devices_are = d; crew_is = refl; desk_is = refl; commit_is = refl; failed_is = f };
+  })
     where
-      no_copy : (job : Job) → IsCopy devices job (End answer) read
-      no_copy (Read extent) = tt
-      no_copy (Write extent content) = tt
-      no_copy (Invalidate block) = tt
-      no_copy Flush = tt
-      no_copy Suspend = tt
-      no_copy (Open mode second) = tt
-      no_copy (Migrate migration block) = tt
-      no_copy (Replace old new) = tt
-
-      by_job : (shape : Shape) (actors : List Actor) (x : Actor) (job : Job) (answer : Answer) → IsPossible devices old.commit job (End answer) → Gives shape (over devices old actors) x job (End answer) Done (noted_read job (End answer) read) Plain
-      by_job shape actors x (Read extent) answer can = ((r, refl), refl)
-      by_job shape actors x (Write extent content) answer can = ((r, refl), refl)
-      by_job shape actors x (Invalidate block) answer can = ((r, refl), refl)
-      by_job shape actors x Flush answer can = ((r, refl), refl)
-      by_job shape actors x Suspend answer can = ((r, refl), refl)
-      by_job shape actors x (Migrate migration block) answer can = ((r, refl), refl)
-      by_job shape actors x (Replace old new) answer can = ((r, refl), refl)
-      by_job shape actors x (Open mode second) Finished can = absurd (can tt)
-      by_job shape actors x (Open mode second) (Refuses refusal) can = ((r, refl), refl)
+      by_job : (job : Job) (answer : Answer) → IsPossible devices old.commit job (End answer) → (shape : Shape) (actors : List Actor) (x : Actor) → Gives shape (over devices old actors) x job (End answer) Done [] Plain
+      by_job (Open mode second) Finished can shape actors x = absurd (can tt)
+      by_job job answer can shape actors x = ((refl, refl), refl)
 
   pub performs_device : (job : Job) (step : DeviceStep) (read : List Bytes) (commit' : Option RunningCommit) → DoesOn devices old.commit job buffer step read devices' commit' → new ≡ record old { commit = commit' } → old.failed ≡ flag old.crew.words.fail → Performs devices old a job held seen share buffer (Device step) Done read devices' new
   performs_device job step read commit' does n f = rw n (record {
@@ -491,27 +373,7 @@ module _ (devices : Devices (List History)) (old : Target) (a : ℕ) (held : Lis
       new.crew ≡ old.crew → new.failed ≡ old.failed → new.desk ≡ desk' → new.commit ≡ commit' → old.failed ≡ flag old.crew.words.fail → Performs devices old a job held seen share buffer (Desk step) got read devices' new
   performs_desk job step got read desk' commit' asked r d w b k c f = rw r (record {
     chosen = asked.chosen;
-    gives = λ shape actors x own. subst (λ (none : List Bytes). Gives shape (over devices old actors) x job (Desk step) got none asked.chosen) (nothing job) (asked.gives shape devices old.crew.words actors x own);
-    copies = no_copy job;
+    gives = λ shape actors x own. subst (λ (none : List Bytes). Gives shape (over devices old actors) x job (Desk step) got none asked.chosen) (none_noted job (Desk step)) (asked.gives shape devices old.crew.words actors x own);
+    copies = no_copy devices job (Desk step) [] (λ device e n. cc);
     leads = record { devices_are = d; crew_is = w; desk_is = k ∙ asked.desk_is; commit_is = c ∙ asked.commit_is; failed_is = b ∙ f ∙ sym (ap (λ (x : CrewState). flag x.words.fail) w) };
   })
-    where
-      nothing : (job : Job) → [] ≡ noted_read job (Desk step) []
-      nothing (Read extent) = refl
-      nothing (Write extent content) = refl
-      nothing (Invalidate block) = refl
-      nothing Flush = refl
-      nothing Suspend = refl
-      nothing (Open mode second) = refl
-      nothing (Migrate migration block) = refl
-      nothing (Replace old new) = refl
-
-      no_copy : (job : Job) → IsCopy devices job (Desk step) []
-      no_copy (Read extent) = tt
-      no_copy (Write extent content) = tt
-      no_copy (Invalidate block) = tt
-      no_copy Flush = tt
-      no_copy Suspend = tt
-      no_copy (Open mode second) = tt
-      no_copy (Migrate migration block) = tt
-      no_copy (Replace old new) = tt

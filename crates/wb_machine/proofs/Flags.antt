@@ -3,9 +3,9 @@ use Rattle.std.proofs.Common.{◌≡◌, ◌≤◌, ◌==◌, ◌||◌, ℕ, zer
 use Rattle.std.proofs.lemmas.Nat.{le_or_r}
 use Rattle.wb_types.specs.declared.number.OBlock.{OBlock}
 use Rattle.wb_words.specs.declared.word.Kind.{Kind}
-use Rattle.wb_words.specs.declared.word.Kind.TheVariants.{ReadHit, ReadMiss, WriteHit, WriteMiss}
+use Rattle.wb_words.specs.declared.word.Kind.TheVariants.{ReadHit}
 use Rattle.wb_words.specs.declared.step.CellStep.{CellStep}
-use Rattle.wb_words.specs.declared.step.CellStep.TheVariants.{Look, Take, Release, Seal, Finish, Count, SetFailed, SetSuspended}
+use Rattle.wb_words.specs.declared.step.CellStep.TheVariants.{Take, Count, SetFailed, SetSuspended}
 use Rattle.wb_words.specs.SharedWords.{Words, counted, flag, taken, with_cell, word_at}
 use Rattle.wb_words.specs.Effects.{words_after}
 use Rattle.wb_machine.specs.Serving.{sets_bit}
@@ -31,17 +31,12 @@ takes false words block cell = refl
 
 counts : (words : Words) (kind : Kind) → words.fail ≡ (counted words kind).fail
 counts words ReadHit = refl
-counts words ReadMiss = refl
-counts words WriteHit = refl
-counts words WriteMiss = refl
+counts words kind = refl
 
 -- the flag as it is kept beside the words
 pub flag_after : (words : Words) (step : CellStep) (was : Bool) → was ≡ flag words.fail → was || sets_bit step ≡ flag (words_after words step).fail
-flag_after words (Look word) was e = or_false was ∙ e
 flag_after words (Take access block seen) was e = or_false was ∙ e ∙ ap flag (takes (word_at words.cells block == seen) words block (taken access seen))
-flag_after words (Release access block) was e = or_false was ∙ e
-flag_after words (Seal block place dirty) was e = or_false was ∙ e
-flag_after words (Finish block) was e = or_false was ∙ e
 flag_after words (Count kind) was e = or_false was ∙ e ∙ ap flag (counts words kind)
 flag_after words SetFailed was e = or_true was ∙ bit_flags words.fail 1 (omega arith)
 flag_after words SetSuspended was e = or_true was ∙ bit_flags words.fail 2 (omega arith)
+flag_after words step was e = or_false was ∙ e

@@ -7,7 +7,7 @@ use Rattle.wb_words.specs.Cards.{blank_card}
 use Rattle.wb_tasks.specs.Plan.{Plan}
 use Rattle.wb_stage.specs.declared.share.Share.TheVariants.{Nothing}
 use Rattle.wb_promise.specs.declared.job.Job.{Job}
-use Rattle.wb_promise.specs.declared.job.Job.TheVariants.{Read, Write, Flush, Suspend, Open, Invalidate, Migrate, Replace}
+use Rattle.wb_promise.specs.declared.job.Job.TheVariants.{Suspend}
 use Rattle.wb_promise.specs.States.{Actor, resting}
 use Rattle.wb_promise.specs.Happenings.{OfSome}
 use Rattle.wb_machine.specs.Members.{Member, free, is_at_work, is_suspend, is_to_suspend, seat, suspends, with_cards as seated, works_there}
@@ -138,14 +138,8 @@ pub suspends_so : (m : Member) → suspends m ≡ true → OfSome m.task (λ doi
 suspends_so m e = by_task m.task e
   where
     by_job : (job : Job) → is_suspend job ≡ true → job ≡ Suspend
-    by_job (Read extent) e = absurd (cc)
-    by_job (Write extent content) e = absurd (cc)
-    by_job (Invalidate block) e = absurd (cc)
-    by_job Flush e = absurd (cc)
     by_job Suspend e = refl
-    by_job (Open mode second) e = absurd (cc)
-    by_job (Migrate migration block) e = absurd (cc)
-    by_job (Replace old new) e = absurd (cc)
+    by_job job e = absurd (cc)
 
     by_task : (t : Option (Job × Plan)) → is_to_suspend t ≡ true → OfSome t (λ doing. doing.0 ≡ Suspend)
     by_task None e = absurd (cc)

@@ -43,7 +43,7 @@ use Rattle.wb_machine.specs.declared.asked.Asked.{Asked}
 use Rattle.wb_machine.specs.declared.opener.Opener.{Opener}
 use Rattle.wb_machine.specs.declared.phase.Phase.{Phase}
 use Rattle.wb_machine.specs.declared.phase.Phase.TheVariants.{Closed, Underway, Standing}
-use Rattle.wb_machine.specs.Life.{Now, Happens, FailsOn, IsThere, MayBePut, WasPut, actors_of, asked_by, commit_failed, contents_of, device_step_of, has_task, is_sound, is_suspending, opening_actor, phase_of, reading_synced, reading_failed, stands, state_of, wants_target}
+use Rattle.wb_machine.specs.Life.{Now, Happens, FailsOn, IsThere, MayBePut, WasPut, actors_of, asked_by, commit_failed, contents_of, device_step_of, has_task, is_sound, is_suspending, opening_actor, phase_of, reading_synced, reading_failed, stands, state_of}
 use Rattle.wb_machine.specs.Making.{reading_of}
 use Rattle.wb_machine.specs.Serving.{IsPut}
 use Rattle.wb_machine.specs.Standing.{StandsSo}
@@ -110,10 +110,8 @@ only_busy n o P h p = subst (λ (x : Option Actor). OfSome x (λ (y : Actor). Of
 -- ---- an event that does not apply
 
 pub passes : (shape : Shape) (w : Now) (event : Event) (what : What) → DoesNotApply w event → what ≡ Skipped → Happens shape w event what [] w
-passes shape w (Start a job) what d e = rw e (record { chosen = Plain; may = ((refl, refl), d); leads = refl })
-passes shape w (Step a) what d e = rw e (record { chosen = Plain; may = ((refl, refl), d); leads = refl })
-passes shape w (FaultStep a choice) what d e = rw e (record { chosen = Plain; may = ((refl, refl), d); leads = refl })
 passes shape w (Stop choice) what d e = rw e (record { chosen = Plain; may = ((refl, refl), d); leads = refl })
+passes shape w event what d e = rw e (record { chosen = Plain; may = ((refl, refl), d); leads = refl })
 
 -- ---- starts
 
@@ -152,13 +150,6 @@ nobody_suspends devices n (Underway o) h e s = elim (cases_eq o.asked.actor s.0)
   | inr other ↦ idle_beside n o s.0 (λ doing. doing.0 ≡ Suspend) other s.1
 ]
 nobody_suspends devices n (Standing t members) h e s = none_at suspends (λ doing. doing.0 ≡ Suspend) suspends_told members.items t.crew.cards s.0 e s.1
-
--- no other job starts where no target stands
-pub no_target : (devices : Devices Memory) (n : ℕ) (o : Phase) (a : ℕ) (job : Job) → stands o ≡ false → wants_target job ≡ true → DoesNotApply (state_of n devices o) (Start a job)
-no_target devices n o a (Open mode second) e f = absurd (cc)
-no_target devices n Closed a job e f = inr (inr (inr (λ t. t)))
-no_target devices n (Underway o) a job e f = inr (inr (inr (λ t. t)))
-no_target devices n (Standing t members) a job e f = absurd (cc)
 
 begun_state : (n : ℕ) (devices : Devices Memory) (o : Phase) → IsThere n o → (a : ℕ) (mode : Mode) (second : Bool) (plan : Plan) (new : Opener) → new.asked ≡ record { actor = a; mode = mode; second = second } → new.task ≡ plan → reading_of new ≡ None → new.opening.commit ≡ None →
     state_of n devices (Underway new) ≡ record { devices = contents_of devices; commit = None; phase = Opens mode None; actors = slice_set (all_resting (actors_of n o)) a (opening_actor (record { actor = a; mode = mode; second = second }) plan) }

@@ -8,13 +8,11 @@ use Rattle.wb_policy.specs.declared.order.Order.{Order}
 use Rattle.wb_policy.specs.declared.quiet.Quiet.{Quiet}
 use Rattle.wb_desk.specs.Desks.{DeskState, MayReserve, holdings}
 use Rattle.wb_tasks.specs.Plan.{Plan, table}
-use Rattle.wb_tasks.specs.Tables.{whole_block}
-use Rattle.wb_tasks.specs.declared.step.Migration.TheVariants.{Demote}
 use Rattle.wb_promise.specs.declared.job.Job.{Job}
 use Rattle.wb_promise.specs.declared.job.Job.TheVariants.{Read, Write, Flush, Suspend, Open, Invalidate, Migrate, Replace}
 use Rattle.wb_promise.specs.declared.event.What.{What}
 use Rattle.wb_promise.specs.declared.event.What.TheVariants.{Refused, Started}
-use Rattle.wb_promise.specs.States.{Shape, block_size}
+use Rattle.wb_promise.specs.States.{Shape}
 use Rattle.wb_types.specs.declared.number.OBlock.{OBlock}
 use Rattle.wb_stage.specs.Asking.{is_of}
 use Rattle.wb_promise.specs.Effects.{dropped, replacing}
@@ -49,25 +47,17 @@ module _ (shape : Shape) (desk : DeskState Quiet) (m : Member) (job : Job) where
 
 -- a request is refused for what it asks
 pub refused_request : (shape : Shape) (desk : DeskState Quiet) (m : Member) (job : Job) (refusal : Refusal) → job_refusal shape job ≡ Some refusal → GetsJob shape desk m job (Refused refusal) desk m
-refused_request shape desk m (Read extent) refusal e = record { chosen = Plain; gives = λ words card. e; leaves = (refl, refl) }
-refused_request shape desk m (Write extent content) refusal e = record { chosen = Plain; gives = λ words card. e; leaves = (refl, refl) }
-refused_request shape desk m (Invalidate block) refusal e = record { chosen = Plain; gives = λ words card. e; leaves = (refl, refl) }
 refused_request shape desk m Flush refusal e = absurd (cc)
 refused_request shape desk m Suspend refusal e = absurd (cc)
-refused_request shape desk m (Open mode second) refusal e = record { chosen = Plain; gives = λ words card. e; leaves = (refl, refl) }
 refused_request shape desk m (Migrate migration block) refusal e = absurd (cc)
 refused_request shape desk m (Replace old new) refusal e = absurd (cc)
+refused_request shape desk m job refusal e = record { chosen = Plain; gives = λ words card. e; leaves = (refl, refl) }
 
 -- a job whose order may not be given is refused as busy
 pub refused_busy : (shape : Shape) (desk : DeskState Quiet) (m : Member) (job : Job) (desk' : DeskState Quiet) (m' : Member) → is_ordered job ≡ true → TakesOrder desk m job false desk' m' → GetsJob shape desk m job (Refused Busy) desk' m'
 refused_busy shape desk m (Migrate migration block) desk' m' e t = record { chosen = Plain; gives = λ words card. (t.0, λ may. t.1 may.0 (order_for migration block) refl may.1); leaves = (t.2, t.3) }
 refused_busy shape desk m (Replace old new) desk' m' e t = record { chosen = Plain; gives = λ words card. (t.0, λ may. t.1 may.0 (ReplaceOrder old new may.0) refl may.1); leaves = (t.2, t.3) }
-refused_busy shape desk m (Read extent) desk' m' e t = absurd (cc)
-refused_busy shape desk m (Write extent content) desk' m' e t = absurd (cc)
-refused_busy shape desk m (Invalidate block) desk' m' e t = absurd (cc)
-refused_busy shape desk m Flush desk' m' e t = absurd (cc)
-refused_busy shape desk m Suspend desk' m' e t = absurd (cc)
-refused_busy shape desk m (Open mode second) desk' m' e t = absurd (cc)
+refused_busy shape desk m job desk' m' e t = absurd (cc)
 
 -- who has this task then
 abbrev pub tasked : Member → Job → Plan → Member
@@ -83,56 +73,42 @@ started_request shape desk m (Read extent) plan w o r p = record { chosen = Cut 
 started_request shape desk m (Write extent content) plan w o r p = record { chosen = Cut (cut_for shape (Write extent content)); gives = λ words card. (r, pieces_cut 1 extent (omega arith)); leaves = (refl, ap (λ (x : Plan). tasked m (Write extent content) x) p) }
 started_request shape desk m (Invalidate block) plan w o r p = record { chosen = Plain; gives = λ words card. r; leaves = (refl, ap (λ (x : Plan). tasked m (Invalidate block) x) p) }
 started_request shape desk m Flush plan w o r p = record { chosen = Plain; gives = λ words card. tt; leaves = (refl, ap (λ (x : Plan). tasked m Flush x) p) }
-started_request shape desk m Suspend plan w o r p = absurd (cc)
-started_request shape desk m (Open mode second) plan w o r p = absurd (cc)
-started_request shape desk m (Migrate migration block) plan w o r p = absurd (cc)
-started_request shape desk m (Replace old new) plan w o r p = absurd (cc)
+started_request shape desk m job plan w o r p = absurd (cc)
 
 -- who is at its task then, with what it had or was given
 tasked_so : (m m' : Member) (job : Job) (plan begun : Plan) → plan ≡ begun → m' ≡ m → tasked m' job plan ≡ tasked m job begun
 tasked_so m m' job plan begun p e = ap (λ (x : Plan). tasked m' job x) p ∙ ap (λ (x : Member). tasked x job begun) e
 
+-- the order that was taken is the one of the job
+taken : (mine order : Order) (desk : DeskState Quiet) (m : Member) (cache : CBlock) (desk' : DeskState Quiet) (m' : Member) → Some mine ≡ Some order → MayReserve desk cache order → desk' ≡ reserved desk cache order false → m' ≡ record m { orders = order ∷ m.orders } →
+    MayReserve desk cache mine × (desk' ≡ reserved desk cache mine false) × (m' ≡ record m { orders = mine ∷ m.orders })
+taken mine order desk m cache desk' m' e may d s =
+    let same : mine ≡ order = cc in
+    subst (λ (o : Order). MayReserve desk cache o × (desk' ≡ reserved desk cache o false) × (m' ≡ record m { orders = o ∷ m.orders })) (sym same) (may, d, s)
+
 -- a migration or a replacement starts under the order that was had or taken
 pub started_ordered : (shape : Shape) (desk : DeskState Quiet) (m : Member) (job : Job) (desk' : DeskState Quiet) (m' : Member) (plan : Plan) → is_ordered job ≡ true → TakesOrder desk m job true desk' m' → plan ≡ begins shape desk m job →
     GetsJob shape desk m job Started desk' (tasked m' (begun_as job) plan)
-started_ordered shape desk m (Migrate migration block) desk' m' plan e t p = elim t [
-  | inl has ↦ record {
-    chosen = Cut (cut_for shape (Migrate migration block));
-    gives = λ words card. (pieces_cut 1 (whole_block (block_size shape) block) (omega arith), has.0);
-    leaves = (has.1, tasked_so m m' (Migrate migration block) plan (begins shape desk m (Migrate migration block)) p has.2);
-  }
-  | inr given ↦
-      let order : Order = given.1.0 in
-      let same : order_for migration block ≡ order = let both = given.1.1 in cc in
-      let r = subst (λ (o : Order). MayReserve desk given.0 o × (desk' ≡ reserved desk given.0 o false) × (m' ≡ record m { orders = o ∷ m.orders })) (sym same) (given.1.2, given.1.3, given.1.4) in
-      record {
-        chosen = Orders (cut_for shape (Migrate migration block)) given.0;
-        gives = λ words card. (pieces_cut 1 (whole_block (block_size shape) block) (omega arith), r.0);
-        leaves = (r.1, tasked_so (record m { orders = order_for migration block ∷ m.orders }) m' (Migrate migration block) plan (begins shape desk m (Migrate migration block)) p r.2);
-      }
-]
-started_ordered shape desk m (Replace old new) desk' m' plan e t p = elim t [
-  | inl has ↦ record {
-    chosen = Cut (cut_for shape (Replace old new));
-    gives = λ words card. (pieces_cut 1 (whole_block (block_size shape) old) (omega arith), has.0);
-    leaves = (has.1, tasked_so m m' (Migrate Demote old) plan (begins shape desk m (Replace old new)) p has.2);
-  }
-  | inr given ↦
-      let order : Order = given.1.0 in
-      let same : ReplaceOrder old new given.0 ≡ order = let both = given.1.1 in cc in
-      let r = subst (λ (o : Order). MayReserve desk given.0 o × (desk' ≡ reserved desk given.0 o false) × (m' ≡ record m { orders = o ∷ m.orders })) (sym same) (given.1.2, given.1.3, given.1.4) in
-      record {
-        chosen = Orders (cut_for shape (Replace old new)) given.0;
-        gives = λ words card. (pieces_cut 1 (whole_block (block_size shape) old) (omega arith), r.0);
-        leaves = (r.1, tasked_so (record m { orders = ReplaceOrder old new given.0 ∷ m.orders }) m' (Migrate Demote old) plan (begins shape desk m (Replace old new)) p r.2);
-      }
-]
 started_ordered shape desk m (Read extent) desk' m' plan e t p = absurd (cc)
 started_ordered shape desk m (Write extent content) desk' m' plan e t p = absurd (cc)
 started_ordered shape desk m (Invalidate block) desk' m' plan e t p = absurd (cc)
 started_ordered shape desk m Flush desk' m' plan e t p = absurd (cc)
 started_ordered shape desk m Suspend desk' m' plan e t p = absurd (cc)
 started_ordered shape desk m (Open mode second) desk' m' plan e t p = absurd (cc)
+started_ordered shape desk m job desk' m' plan e t p = elim t [
+  | inl has ↦ record {
+    chosen = Cut (cut_for shape job);
+    gives = λ words card. (pieces_cut 1 _ (omega arith), has.0);
+    leaves = (has.1, tasked_so m m' (begun_as job) plan (begins shape desk m job) p has.2);
+  }
+  | inr given ↦
+      let r = taken _ given.1.0 desk m given.0 desk' m' given.1.1 given.1.2 given.1.3 given.1.4 in
+      record {
+        chosen = Orders (cut_for shape job) given.0;
+        gives = λ words card. (pieces_cut 1 _ (omega arith), r.0);
+        leaves = (r.1, tasked_so _ m' (begun_as job) plan (begins shape desk m job) p r.2);
+      }
+]
 
 -- ---- who takes an order
 

@@ -36,7 +36,7 @@ use Rattle.wb_promise.specs.Effects.{contents_for, led}
 use Rattle.wb_machine.specs.Life.{FailsOn, MayBePut, WasPut, commit_synced, contents_of, device_step_of}
 use Rattle.wb_machine.specs.Serving.{ComesNext, DoesOn, FailsAt, FittedTo, HasRoomAt, IsDoable, IsFront, IsPut, Moves, PutComes, PutsSector, SyncComes, commit_by, read_by}
 use Rattle.wb_machine.proofs.Commits.{commit_of, same_commit}
-use Rattle.wb_machine.proofs.Doing.{did_read, did_write, did_sync, did_put, failed_read, failed_write, failed_sync, failed_put, puts_sector, same_device}
+use Rattle.wb_machine.proofs.Doing.{did_read, did_write, did_sync, did_put, failed_read, failed_write, failed_sync, failed_put, led_none, puts_sector, same_device}
 use Rattle.wb_machine.proofs.Landing.{written_inside}
 
 take_whole : {X : Type 0} (n : ℕ) (xs : List X) → length xs ≡ n → take n xs ≡ xs
@@ -208,12 +208,8 @@ module _ (devices devices' : Devices (List History)) where
         → commit'' ≡ commit_by commit' (Device step) Fault Plain → FailsAt choice devices commit job buffer step devices' commit''
     faltered mid choice step there commit'' can moves fit room others goes reads fails ends = by step can moves fit ends
       where
-        none : (commit : Option RunningCommit) → led commit Fault ≡ None
-        none None = refl
-        none (Some running) = refl
-
         ended : commit'' ≡ led commit' Fault → commit'' ≡ None
-        ended e = e ∙ none commit'
+        ended e = e ∙ led_none commit'
 
         by : (step : DeviceStep) → IsDoable devices commit job step → Moves job buffer step moved → FittedTo moved devices step there → commit'' ≡ commit_by commit' (Device step) Fault Plain → FailsAt choice devices commit job buffer step devices' commit''
         by (ReadExtent device e) can moves fit ends = let w = subst (Faltered mid choice) fit (room, others, goes, reads, fails) in failed_read devices commit devices' commit'' choice job buffer device e can (stayed device w.1 (w.3 device e refl)) (ends ∙ w.2)
@@ -227,7 +223,7 @@ module _ (devices devices' : Devices (List History)) where
             failed_sync devices commit devices' commit'' choice job buffer device can (rebuilt device _ w.1 (w.4.2 ∙ ap (λ (l : ℕ → Bool). synced_where l (device_in device devices)) w.4.1)) (of device w.2 ends)
           where
             of : (device : Dev) → CommitGoes (length devices.metadata) commit (Sync device) Fault commit' → commit'' ≡ commit_by commit' (Device (Sync device)) Fault Plain → commit'' ≡ commit_by commit (Device (Sync device)) Fault Plain
-            of Metadata goes ends = ended ends ∙ sym (none commit)
+            of Metadata goes ends = ended ends ∙ sym (led_none commit)
             of Cache goes ends = ends ∙ goes
             of Origin goes ends = ends ∙ goes
         by (WriteNode number) can moves fit ends =
@@ -242,11 +238,7 @@ module _ (devices devices' : Devices (List History)) where
 
 pub as_many : (step : DeviceStep) (buffer buffer' : List Bytes) → BufferStays step buffer buffer' → length buffer' ≡ length buffer
 as_many (ReadExtent device e) buffer buffer' stays = stays
-as_many (WriteExtent device e) buffer buffer' stays = ap length stays
-as_many (Sync device) buffer buffer' stays = ap length stays
-as_many (ReadMetadata left) buffer buffer' stays = ap length stays
-as_many (WriteNode number) buffer buffer' stays = ap length stays
-as_many WriteRoot buffer buffer' stays = ap length stays
+as_many step buffer buffer' stays = ap length stays
 
 contents_at_both : (device : Dev) (old new : Devices Memory) (P : ℕ → List History → List History → Type 0) → P (length (device_in device old).contents) (device_in device old).contents (device_in device new).contents
     → P (length (device_in device (contents_of old))) (device_in device (contents_of old)) (device_in device (contents_of new))
@@ -335,11 +327,7 @@ pub still : (size : ℕ) (commit commit' : Option RunningCommit) (step : DeviceS
 still size commit commit' (Sync Metadata) goes = still_there size commit commit' (Sync Metadata) goes
 still size commit commit' (WriteNode number) goes = still_there size commit commit' (WriteNode number) goes
 still size commit commit' WriteRoot goes = still_there size commit commit' WriteRoot goes
-still size commit commit' (Sync Cache) goes = goes
-still size commit commit' (Sync Origin) goes = goes
-still size commit commit' (ReadExtent device e) goes = goes
-still size commit commit' (WriteExtent device e) goes = goes
-still size commit commit' (ReadMetadata left) goes = goes
+still size commit commit' step goes = goes
 
 -- ---- a sync of an opening
 

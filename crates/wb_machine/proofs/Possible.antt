@@ -2,7 +2,7 @@
 use Rattle.std.proofs.Common.{◌≡◌, ◌≤◌, ◌<◌, ◌+◌, ℕ, zero, suc, List, [], ◌∷◌, Option, Some, None, refl, sym, ap, subst, arith, slice_get, length}
 use Rattle.std.specs.declared.alloc.Global.{Global}
 use Rattle.wb_types.specs.declared.mode.Dev.{Dev}
-use Rattle.wb_types.specs.declared.mode.Dev.TheVariants.{Metadata, Cache, Origin}
+use Rattle.wb_types.specs.declared.mode.Dev.TheVariants.{Metadata}
 use Rattle.wb_types.specs.declared.extent.Extent.{Extent}
 use Rattle.wb_disk.specs.Device.{Content as Bytes, History}
 use Rattle.wb_disk.specs.Extents.{GivesEach}
@@ -13,7 +13,7 @@ use Rattle.wb_tasks.specs.declared.step.Answer.TheVariants.{Done as Finished, Re
 use Rattle.wb_tasks.specs.declared.step.DeviceStep.{DeviceStep}
 use Rattle.wb_tasks.specs.declared.step.DeviceStep.TheVariants.{Read as ReadExtent, Write as WriteExtent, Sync, ReadMetadata, WriteNode, WriteRoot}
 use Rattle.wb_tasks.specs.declared.step.DeskStep.{DeskStep}
-use Rattle.wb_tasks.specs.declared.step.DeskStep.TheVariants.{Map, Unmap, ReleaseOrder, Arrive, Ask, BeginCommit, EndCommit, BreakCommit}
+use Rattle.wb_tasks.specs.declared.step.DeskStep.TheVariants.{Unmap, ReleaseOrder, Arrive, Ask, BeginCommit, EndCommit, BreakCommit}
 use Rattle.wb_tasks.specs.declared.step.Want.{Want}
 use Rattle.wb_tasks.specs.declared.step.Want.TheVariants.{Cell, Device, Desk, End}
 use Rattle.wb_tasks.specs.declared.step.Got.{Got}
@@ -21,7 +21,7 @@ use Rattle.wb_devices.specs.declared.devices.Devices.{Devices}
 use Rattle.wb_devices.specs.declared.running.RunningCommit.{RunningCommit}
 use Rattle.wb_devices.specs.Moving.{device_in}
 use Rattle.wb_promise.specs.declared.job.Job.{Job}
-use Rattle.wb_promise.specs.declared.job.Job.TheVariants.{Read, Write, Flush, Suspend, Open, Invalidate, Migrate, Replace}
+use Rattle.wb_promise.specs.declared.job.Job.TheVariants.{Read, Write, Flush, Open, Invalidate, Migrate}
 use Rattle.wb_promise.specs.States.{Shape, Actor, Opens as OpensIn, Stands, Target as RunTarget}
 use Rattle.wb_promise.specs.Happenings.{Awaits, Chosen, Puts, Opened, OfSome, DoesOpen, DoesPut, DoesSync, Gives}
 use Rattle.wb_meta.specs.declared.read_steps.ReadSteps.{ReadSteps}
@@ -70,108 +70,54 @@ module _ (shape : Shape) (devices : Devices (List History)) (commit : Option Run
 
   reads : (job : Job) (device : Dev) (e : Extent) → G job (Device (ReadExtent device e)) → IsDoable devices commit job (ReadExtent device e)
   reads (Read extent) device e g = (tt, g.0, λ l. extent_inside (device_in device devices) read e g.3 g.4 l)
-  reads (Write extent content) device e g = absurd g
-  reads (Invalidate block) device e g = absurd g
-  reads Flush device e g = absurd g
-  reads Suspend device e g = absurd g
-  reads (Open mode second) device e g = absurd g
   reads (Migrate migration block) device e g = (tt, g.0, g.3)
-  reads (Replace old new) device e g = absurd g
+  reads job device e g = absurd g
 
   writes : (job : Job) (device : Dev) (e : Extent) → G job (Device (WriteExtent device e)) → IsDoable devices commit job (WriteExtent device e)
-  writes (Read extent) device e g = absurd g
   writes (Write extent content) device e g = (tt, g.0, g.3)
-  writes (Invalidate block) device e g = absurd g
-  writes Flush device e g = absurd g
-  writes Suspend device e g = absurd g
-  writes (Open mode second) device e g = absurd g
   writes (Migrate migration block) device e g = (tt, g.0, g.3)
-  writes (Replace old new) device e g = absurd g
+  writes job device e g = absurd g
 
+  -- (Where all jobs are alike one is named, and the next clause looks at each of the others.)
   syncs : (job : Job) → G job (Device (Sync Metadata)) → ComesNext commit (Sync Metadata) devices.metadata
-  syncs (Read extent) g = syncs_next t commit devices.metadata chosen g.2
-  syncs (Write extent content) g = syncs_next t commit devices.metadata chosen g.2
-  syncs (Invalidate block) g = syncs_next t commit devices.metadata chosen g.2
   syncs Flush g = syncs_next t commit devices.metadata chosen g.2
-  syncs Suspend g = syncs_next t commit devices.metadata chosen g.2
-  syncs (Open mode second) g = syncs_next t commit devices.metadata chosen g.2
-  syncs (Migrate migration block) g = syncs_next t commit devices.metadata chosen g.2
-  syncs (Replace old new) g = syncs_next t commit devices.metadata chosen g.2
+  syncs job g = syncs_next t commit devices.metadata chosen g.2
 
   writes_node : (job : Job) (number : ℕ) → G job (Device (WriteNode number)) → ComesNext commit (WriteNode number) devices.metadata
-  writes_node (Read extent) number g = puts_next commit (WriteNode number) devices.metadata chosen g.2
-  writes_node (Write extent content) number g = puts_next commit (WriteNode number) devices.metadata chosen g.2
-  writes_node (Invalidate block) number g = puts_next commit (WriteNode number) devices.metadata chosen g.2
   writes_node Flush number g = puts_next commit (WriteNode number) devices.metadata chosen g.2
-  writes_node Suspend number g = puts_next commit (WriteNode number) devices.metadata chosen g.2
-  writes_node (Open mode second) number g = puts_next commit (WriteNode number) devices.metadata chosen g.2
-  writes_node (Migrate migration block) number g = puts_next commit (WriteNode number) devices.metadata chosen g.2
-  writes_node (Replace old new) number g = puts_next commit (WriteNode number) devices.metadata chosen g.2
+  writes_node job number g = puts_next commit (WriteNode number) devices.metadata chosen g.2
 
   writes_root : (job : Job) → G job (Device WriteRoot) → ComesNext commit WriteRoot devices.metadata
-  writes_root (Read extent) g = puts_next commit WriteRoot devices.metadata chosen g.2
-  writes_root (Write extent content) g = puts_next commit WriteRoot devices.metadata chosen g.2
-  writes_root (Invalidate block) g = puts_next commit WriteRoot devices.metadata chosen g.2
   writes_root Flush g = puts_next commit WriteRoot devices.metadata chosen g.2
-  writes_root Suspend g = puts_next commit WriteRoot devices.metadata chosen g.2
-  writes_root (Open mode second) g = puts_next commit WriteRoot devices.metadata chosen g.2
-  writes_root (Migrate migration block) g = puts_next commit WriteRoot devices.metadata chosen g.2
-  writes_root (Replace old new) g = puts_next commit WriteRoot devices.metadata chosen g.2
+  writes_root job g = puts_next commit WriteRoot devices.metadata chosen g.2
 
   reads_metadata : (job : Job) (left : ℕ) → G job (Device (ReadMetadata left)) → ⊥
-  reads_metadata (Read extent) left g = g.2
-  reads_metadata (Write extent content) left g = g.2
-  reads_metadata (Invalidate block) left g = g.2
   reads_metadata Flush left g = g.2
-  reads_metadata Suspend left g = g.2
-  reads_metadata (Open mode second) left g = g.2
-  reads_metadata (Migrate migration block) left g = g.2
-  reads_metadata (Replace old new) left g = g.2
+  reads_metadata job left g = g.2
 
   asks : (job : Job) (step : DeskStep) → G job (Desk step) → IsAskable commit job step
   asks job (Arrive most) g = tt
   asks job (Ask most) g = tt
   asks job (BeginCommit most) g = tt
   asks job BreakCommit g = tt
-  asks (Read extent) EndCommit g = g.2
-  asks (Write extent content) EndCommit g = g.2
-  asks (Invalidate block) EndCommit g = g.2
   asks Flush EndCommit g = g.2
-  asks Suspend EndCommit g = g.2
-  asks (Open mode second) EndCommit g = g.2
-  asks (Migrate migration block) EndCommit g = g.2
-  asks (Replace old new) EndCommit g = g.2
-  asks (Migrate migration block) (Map b c) g = tt
-  asks (Migrate migration block) (ReleaseOrder b) g = tt
-  asks (Migrate migration block) (Unmap b) g = tt
+  asks job EndCommit g = g.2
+  asks (Migrate migration block) step g = tt
   asks (Write extent content) (Unmap b) g = tt
   asks (Invalidate block) (Unmap b) g = tt
   asks Flush (ReleaseOrder b) g = tt
-  asks (Read extent) step g = absurd g
-  asks (Write extent content) step g = absurd g
-  asks (Invalidate block) step g = absurd g
-  asks Flush step g = absurd g
-  asks Suspend step g = absurd g
-  asks (Open mode second) step g = absurd g
-  asks (Replace old new) step g = absurd g
+  asks job step g = absurd g
 
   ends : (job : Job) → G job (End Finished) → ¬ Opens job
-  ends (Read extent) g = λ o. o
-  ends (Write extent content) g = λ o. o
-  ends (Invalidate block) g = λ o. o
-  ends Flush g = λ o. o
-  ends Suspend g = λ o. o
-  ends (Migrate migration block) g = λ o. o
-  ends (Replace old new) g = λ o. o
   ends (Open mode second) g = λ o. opens_nobody t commit chosen (third g)
+  ends job g = λ o. o
 
   pub possible : (job : Job) (next : Want) → G job next → IsPossible devices commit job next
   possible job (Cell step) g = tt
   possible job (Device (ReadExtent device e)) g = reads job device e g
   possible job (Device (WriteExtent device e)) g = writes job device e g
   possible job (Device (Sync Metadata)) g = syncs job g
-  possible job (Device (Sync Cache)) g = tt
-  possible job (Device (Sync Origin)) g = tt
+  possible job (Device (Sync device)) g = tt
   possible job (Device (ReadMetadata left)) g = reads_metadata job left g
   possible job (Device (WriteNode number)) g = writes_node job number g
   possible job (Device WriteRoot) g = writes_root job g

@@ -1,17 +1,18 @@
 -- What an event does over a target that stands is what wb_promise says.
-use Rattle.std.proofs.Common.{◌≡◌, ◌≤◌, inl, inr, ℕ, zero, suc, Bool, true, false, List, [], ◌∷◌, Option, Some, None, refl, sym, ap, subst, ◌∙◌, if◌then◌else◌, slice_get, slice_set, slice_index_or, length, length-set, replicate, is_none, arith}
+use Rattle.std.proofs.Common.{◌≡◌, ◌≤◌, inl, inr, ℕ, zero, suc, Bool, true, false, List, [], ◌∷◌, Option, Some, None, Vec, refl, sym, ap, subst, ◌∙◌, if◌then◌else◌, slice_get, slice_set, slice_index_or, length, length-set, replicate, is_none, arith}
 use Rattle.std.specs.declared.alloc.Global.{Global}
 use Rattle.wb_types.specs.Limits.{most_nodes}
 use Rattle.wb_types.specs.declared.geometry.Geometry.{Geometry}
 use Rattle.wb_types.specs.declared.version.Version.TheVariants.{Two}
 use Rattle.wb_meta.specs.Sizes.{AreSameSizes}
-use Rattle.wb_types.specs.declared.mode.Dev.TheVariants.{Metadata, Cache, Origin}
+use Rattle.wb_types.specs.declared.mode.Dev.TheVariants.{Metadata}
 use Rattle.wb_types.specs.declared.number.OBlock.{OBlock}
 use Rattle.wb_types.specs.declared.number.CBlock.{CBlock}
 use Rattle.wb_types.specs.declared.mode.Mode.{Mode}
 use Rattle.wb_types.specs.declared.mode.Mode.TheVariants.{Writeback, Writethrough, Passthrough}
 use Rattle.wb_disk.specs.Device.{Content as Bytes, History}
 use Rattle.wb_disk.specs.Crash.{Choice}
+use Rattle.wb_disk.specs.Memory.{Memory}
 use Rattle.wb_words.specs.Cards.{blank_card}
 use Rattle.wb_words.specs.Effects.{card_after}
 use Rattle.wb_words.specs.SharedWords.{Words, dirty_in, flag, place_in}
@@ -24,11 +25,11 @@ use Rattle.wb_policy.specs.Situations.{is_passthrough}
 use Rattle.wb_policy.specs.declared.quiet.Quiet.{Quiet}
 use Rattle.wb_desk.specs.Commits.{commit_ended}
 use Rattle.wb_desk.specs.Desks.{DeskState}
-use Rattle.wb_tasks.specs.Tables.{TaskJob, OnBlock, Flushing, Suspending, Opening}
+use Rattle.wb_tasks.specs.Tables.{TaskJob, Flushing, Suspending}
 use Rattle.wb_tasks.specs.Plan.{Plan, after, want}
 use Rattle.wb_tasks.proofs.Readiness.{job_stays}
 use Rattle.wb_tasks.specs.declared.step.DeviceStep.{DeviceStep}
-use Rattle.wb_tasks.specs.declared.step.DeviceStep.TheVariants.{Read as ReadExtent, Write as WriteExtent, Sync, ReadMetadata, WriteNode, WriteRoot}
+use Rattle.wb_tasks.specs.declared.step.DeviceStep.TheVariants.{Sync}
 use Rattle.wb_tasks.specs.declared.step.DeskStep.TheVariants.{Map, Unmap, ReleaseOrder, Arrive, Ask, BeginCommit, EndCommit, BreakCommit}
 use Rattle.wb_tasks.specs.declared.step.Want.{Want}
 use Rattle.wb_tasks.specs.declared.step.Want.TheVariants.{Cell, Device, Desk, End}
@@ -37,19 +38,20 @@ use Rattle.wb_tasks.specs.declared.step.Got.TheVariants.{Done, Fault, Refused as
 use Rattle.wb_devices.specs.declared.devices.Devices.{Devices}
 use Rattle.wb_devices.specs.declared.running.RunningCommit.{RunningCommit}
 use Rattle.wb_promise.specs.declared.job.Job.{Job}
-use Rattle.wb_promise.specs.declared.job.Job.TheVariants.{Read, Write, Flush, Suspend, Open, Invalidate, Migrate, Replace}
+use Rattle.wb_promise.specs.declared.job.Job.TheVariants.{Write, Flush, Suspend, Open, Invalidate, Migrate, Replace}
 use Rattle.wb_promise.specs.declared.event.Event.TheVariants.{Start, Step, FaultStep}
 use Rattle.wb_promise.specs.declared.event.What.{What}
-use Rattle.wb_promise.specs.declared.event.What.TheVariants.{Skipped, Refused, Started, Stepped, Stopped}
+use Rattle.wb_promise.specs.declared.event.What.TheVariants.{Refused, Started}
 use Rattle.wb_promise.specs.States.{Shape, Actor, Stands, Phase, Target as RunTarget}
-use Rattle.wb_promise.specs.Happenings.{Chosen, Plain, Cut, Orders, Looks, Begins, Reaches, Puts, Commits, Asks, Opened, OfSome, Awaits, DoesNotApply, DoesMap, DoesRelease, DoesUnmap, Gives, Falters, IsSuspending, MayFailAt, StartGives, StartsAs, most_for}
+use Rattle.wb_promise.specs.Happenings.{Chosen, Plain, Orders, Commits, Asks, OfSome, Awaits, DoesNotApply, DoesMap, DoesRelease, DoesUnmap, Gives, Falters, IsSuspending, MayFailAt, StartGives, StartsAs, most_for}
 use Rattle.wb_promise.specs.Effects.{actor_then, after_what, asked_desk, begun_desk, commit_then, desk_then, devices_then, given, job_of, phase_given, seen_then, task_then, went, words_then}
 use Rattle.wb_runs.proofs.Desks.{is_live, is_unmappable}
+use Rattle.wb_machine.specs.declared.phase.Phase.TheVariants.{Standing}
 use Rattle.wb_machine.specs.declared.target.Target.{Target}
 use Rattle.wb_machine.specs.Life.{Now, Happens, starts_beside, suits_mode, wants_target}
 use Rattle.wb_machine.specs.Members.{Member, free, seat, with_cards}
 use Rattle.wb_machine.specs.Serving.{member_given, MemberFails, FailsOrRests, GetsJob, IsPassed, Leads, LeavesStarted, NothingFails, Rests, Starts, StartsIf, Steps, MemberSteps, chosen_at, commit_by, crew_then, desk_given, done_by, failed_by, member_then, noted_read, over, share_after, stood, target_told}
-use Rattle.wb_machine.specs.Standing.{AllRoomy, AllowsImages, IsTaskRoomy, IsRoomy}
+use Rattle.wb_machine.specs.Standing.{AllRoomy, AllowsImages, IsSoundPhase, IsTaskRoomy, IsRoomy}
 use Rattle.wb_machine.proofs.Members.{seat_at, set_both, set_task, somebody}
 use Rattle.wb_machine.proofs.Openings.{length_replicate, passes}
 use Rattle.wb_machine.proofs.Possible.{has_task, the_task}
@@ -84,78 +86,32 @@ pub in_place : (devices : Devices (List History)) (t : Target) (actors : List Ac
 in_place devices t actors a job x w fits alone at e (inl none) = absurd (let some = at in cc)
 in_place devices t actors a job x w fits alone at e (inr (inl h)) = subst (λ (o : Option (Job × Plan)). OfSome o (λ d. Unit {0})) e (subst (λ (o : Option Actor). OfSome o (λ (y : Actor). OfSome y.task (λ d. Unit {0}))) at h)
 in_place devices t actors a job x w fits alone at e (inr (inr (inl s))) = alone s
-in_place devices t actors a (Read extent) x w fits alone at e (inr (inr (inr f))) = f tt
-in_place devices t actors a (Write extent content) x w fits alone at e (inr (inr (inr f))) = f tt
 in_place devices t actors a (Invalidate block) x w fits alone at e (inr (inr (inr f))) = f (passes_by t.desk.mode fits)
-in_place devices t actors a Flush x w fits alone at e (inr (inr (inr f))) = f tt
-in_place devices t actors a Suspend x w fits alone at e (inr (inr (inr f))) = f tt
 in_place devices t actors a (Open mode second) x w fits alone at e (inr (inr (inr f))) = absurd (cc)
-in_place devices t actors a (Migrate migration block) x w fits alone at e (inr (inr (inr f))) = f tt
-in_place devices t actors a (Replace old new) x w fits alone at e (inr (inr (inr f))) = f tt
+in_place devices t actors a job x w fits alone at e (inr (inr (inr f))) = f tt
 
 -- a job that starts whatever the others are at is one of a target, and starts so
 of_target : (job : Job) → starts_beside job ≡ true → wants_target job ≡ true
-of_target (Read extent) b = refl
-of_target (Write extent content) b = refl
-of_target (Invalidate block) b = refl
-of_target Flush b = refl
-of_target Suspend b = refl
 of_target (Open mode second) b = absurd (cc)
-of_target (Migrate migration block) b = refl
-of_target (Replace old new) b = refl
+of_target job b = refl
 
 starts_as : (shape : Shape) (w : Now) (a : ℕ) (job : Job) (what : What) (chosen : Chosen Quiet Global) → starts_beside job ≡ true → StartGives shape w.phase (slice_get w.actors a) job what chosen → StartsAs shape w a job what chosen
-starts_as shape w a (Read extent) what chosen b g = g
-starts_as shape w a (Write extent content) what chosen b g = g
-starts_as shape w a (Invalidate block) what chosen b g = g
-starts_as shape w a Flush what chosen b g = g
 starts_as shape w a Suspend what chosen b g = absurd (cc)
 starts_as shape w a (Open mode second) what chosen b g = absurd (cc)
-starts_as shape w a (Migrate migration block) what chosen b g = g
-starts_as shape w a (Replace old new) what chosen b g = g
+starts_as shape w a job what chosen b g = g
 
--- the desk that an order leaves
+-- the desk that an order leaves (a clause that names one case has the last one look at each of the others)
 phase_so : (words : Words) (desk : DeskState Quiet) (job : Job) (chosen : Chosen Quiet Global) → Stands (record { words = words; desk = desk_given desk job chosen }) ≡ phase_given {P = Quiet} {A = Global} (Stands (record { words = words; desk = desk })) job chosen
-phase_so words desk (Read extent) chosen = refl
-phase_so words desk (Write extent content) chosen = refl
-phase_so words desk (Invalidate block) chosen = refl
-phase_so words desk Flush chosen = refl
-phase_so words desk Suspend chosen = refl
-phase_so words desk (Open mode second) chosen = refl
 phase_so words desk (Migrate migration block) Plain = refl
-phase_so words desk (Migrate migration block) (Cut cut) = refl
-phase_so words desk (Migrate migration block) (Orders cut cache) = refl
-phase_so words desk (Migrate migration block) (Looks blocks) = refl
-phase_so words desk (Migrate migration block) (Begins now) = refl
-phase_so words desk (Migrate migration block) (Reaches now commit) = refl
-phase_so words desk (Migrate migration block) (Puts new) = refl
-phase_so words desk (Migrate migration block) (Commits commit tree) = refl
-phase_so words desk (Migrate migration block) (Asks new) = refl
-phase_so words desk (Migrate migration block) (Opened policy) = refl
 phase_so words desk (Replace old new) Plain = refl
-phase_so words desk (Replace old new) (Cut cut) = refl
-phase_so words desk (Replace old new) (Orders cut cache) = refl
-phase_so words desk (Replace old new) (Looks blocks) = refl
-phase_so words desk (Replace old new) (Begins now) = refl
-phase_so words desk (Replace old new) (Reaches now commit) = refl
-phase_so words desk (Replace old new) (Puts metadata) = refl
-phase_so words desk (Replace old new) (Commits commit tree) = refl
-phase_so words desk (Replace old new) (Asks asked) = refl
-phase_so words desk (Replace old new) (Opened policy) = refl
+phase_so words desk job chosen = refl
 
 -- a job that is no opening clears nothing
 pub given_so : (shape : Shape) (devices : Devices (List History)) (t : Target) (actors : List Actor) (a : ℕ) (x : Actor) (job : Job) (chosen : Chosen Quiet Global) → wants_target job ≡ true → slice_get actors a ≡ Some x →
     over devices (record t { desk = desk_given t.desk job chosen }) (slice_set actors a (given {P = Quiet} {A = Global} shape t.desk.mode x job chosen)) ≡ after_what shape (over devices t actors) (Start a job) Started chosen
-given_so shape devices t actors a x (Read extent) chosen w at = rw at refl
-given_so shape devices t actors a x (Write extent content) chosen w at = rw at refl
-given_so shape devices t actors a x (Invalidate block) chosen w at = rw at refl
-given_so shape devices t actors a x Flush chosen w at = rw at refl
-given_so shape devices t actors a x Suspend chosen w at = rw at refl
 given_so shape devices t actors a x (Open mode second) chosen w at = absurd (cc)
-given_so shape devices t actors a x (Migrate migration block) chosen w at = rw at (ap (λ (p : Phase Quiet Global). record { devices = devices; commit = t.commit; phase = p; actors = slice_set actors a (given {P = Quiet} {A = Global} shape t.desk.mode x (Migrate migration block) chosen) })
-    (phase_so t.crew.words t.desk (Migrate migration block) chosen))
-given_so shape devices t actors a x (Replace old new) chosen w at = rw at (ap (λ (p : Phase Quiet Global). record { devices = devices; commit = t.commit; phase = p; actors = slice_set actors a (given {P = Quiet} {A = Global} shape t.desk.mode x (Replace old new) chosen) })
-    (phase_so t.crew.words t.desk (Replace old new) chosen))
+given_so shape devices t actors a x job chosen w at = rw at (ap (λ (p : Phase Quiet Global). record { devices = devices; commit = t.commit; phase = p; actors = slice_set actors a (given {P = Quiet} {A = Global} shape t.desk.mode x job chosen) })
+    (phase_so t.crew.words t.desk job chosen))
 
 -- ---- an actor that is there
 
@@ -212,9 +168,7 @@ module _ (shape : Shape) (devices : Devices (List History)) (t : Target) (member
         may = (refl, applies, starts (Refused refusal) gives);
         leads = ap (λ (d : DeskState Quiet). over devices (record t { desk = d }) (with_cards (slice_set members a new) t.crew.cards)) leaves.0 ∙ stays leaves.1;
       }
-      by_what Skipped gives leaves = absurd leaves
-      by_what (Stepped next got) gives leaves = absurd leaves
-      by_what Stopped gives leaves = absurd leaves
+      by_what what gives leaves = absurd leaves
 
   -- one that is
   passed_so : (job : Job) (what : What) (desk' : DeskState Quiet) → DoesNotApply before (Start a job) → IsPassed t.desk m what desk' new → Happens shape before (Start a job) what [] (over devices (record t { desk = desk' }) (with_cards (slice_set members a new) t.crew.cards))
@@ -233,30 +187,13 @@ module _ (shape : Shape) (devices : Devices (List History)) (t : Target) (member
 
   words_on : (next : Want) → (crew_then t.crew a next).words ≡ words_then t.crew.words next
   words_on (Cell step) = refl
-  words_on (Device step) = refl
-  words_on (Desk step) = refl
-  words_on (End answer) = refl
+  words_on next = refl
 
   -- what becomes of the commit does not hang on the phase, where that stays
   commit_on : (next : Want) (got : Got) (chosen : Chosen Quiet Global) → commit_by t.commit next got chosen ≡ commit_then before.phase t.commit next got chosen
-  commit_on (Cell step) got chosen = refl
-  commit_on (Device (ReadExtent device e)) got chosen = refl
-  commit_on (Device (WriteExtent device e)) got chosen = refl
   commit_on (Device (Sync Metadata)) got chosen = refl
-  commit_on (Device (Sync Cache)) got chosen = refl
-  commit_on (Device (Sync Origin)) got chosen = refl
-  commit_on (Device (ReadMetadata left)) got chosen = refl
-  commit_on (Device (WriteNode number)) got chosen = refl
-  commit_on (Device WriteRoot) got chosen = refl
-  commit_on (Desk (Map block place)) got chosen = refl
-  commit_on (Desk (Unmap block)) got chosen = refl
-  commit_on (Desk (ReleaseOrder block)) got chosen = refl
-  commit_on (Desk (Arrive most)) got chosen = refl
-  commit_on (Desk (Ask most)) got chosen = refl
-  commit_on (Desk (BeginCommit most)) got chosen = refl
   commit_on (Desk EndCommit) got chosen = refl
-  commit_on (Desk BreakCommit) got chosen = refl
-  commit_on (End answer) got chosen = refl
+  commit_on next got chosen = refl
 
   -- who has gone on by a step
   abbrev seat_after : Want → Got → Actor
@@ -265,9 +202,7 @@ module _ (shape : Shape) (devices : Devices (List History)) (t : Target) (member
   cards_on : (next : Want) (got : Got) → new ≡ member_then devices (share_after t.desk m.share next got) m next got →
       with_cards (slice_set members a new) (crew_then t.crew a next).cards ≡ slice_set actors a (seat_after next got)
   cards_on (Cell step) got e = set_both members t.crew.cards a new (card_after t.crew.words step x.card) ∙ ap (λ (v : Member). slice_set actors a (seat v (card_after t.crew.words step x.card))) e
-  cards_on (Device step) got e = set_task members t.crew.cards a new ∙ ap (λ (v : Member). slice_set actors a (seat v x.card)) e
-  cards_on (Desk step) got e = set_task members t.crew.cards a new ∙ ap (λ (v : Member). slice_set actors a (seat v x.card)) e
-  cards_on (End answer) got e = set_task members t.crew.cards a new ∙ ap (λ (v : Member). slice_set actors a (seat v x.card)) e
+  cards_on next got e = set_task members t.crew.cards a new ∙ ap (λ (v : Member). slice_set actors a (seat v x.card)) e
 
   -- where it leads, whatever it made of its device
   went_on : (doing : Job × Plan) (next : Want) (got : Got) (chosen : Chosen Quiet Global) (change : Job → List Bytes → DeviceStep → List History → List History) (devices' : Devices (List History)) (t' : Target) → m.task ≡ Some doing →
@@ -323,9 +258,7 @@ module _ (shape : Shape) (devices : Devices (List History)) (t : Target) (member
 
 crew_like : (crew : CrewState) (a : ℕ) (next : Want) → ((crew_then crew a next).blocks ≡ crew.blocks) × (length (crew_then crew a next).cards ≡ length crew.cards)
 crew_like crew a (Cell step) = (refl, length-set crew.cards a (card_after crew.words step (slice_index_or crew.cards a blank_card)))
-crew_like crew a (Device step) = (refl, refl)
-crew_like crew a (Desk step) = (refl, refl)
-crew_like crew a (End answer) = (refl, refl)
+crew_like crew a next = (refl, refl)
 
 begun_sizes : (desk : DeskState Quiet) (chosen : Chosen Quiet Global) → (begun_desk chosen desk).geometry ≡ desk.geometry
 begun_sizes desk (Commits commit tree) = refl
@@ -362,38 +295,19 @@ unmap_sizes desk b chosen did = absurd did
 -- a desk keeps its geometry
 module _ (shape : Shape) (devices : Devices (List History)) (commit : Option RunningCommit) (t : RunTarget Quiet) (actors : List Actor) (actor : Actor) (got : Got) (read : List Bytes) (chosen : Chosen Quiet Global) where
   desk_sizes : (job : Job) (next : Want) → Gives shape (stood devices commit t actors) actor job next got read chosen → (desk_then t.desk next chosen).geometry ≡ t.desk.geometry
-  desk_sizes job (Cell step) g = refl
-  desk_sizes job (Device step) g = refl
   desk_sizes (Migrate migration block) (Desk (Map b c)) g = map_sizes t.desk b c got chosen g.1
-  desk_sizes (Read extent) (Desk (Map b c)) g = absurd g
-  desk_sizes (Write extent content) (Desk (Map b c)) g = absurd g
-  desk_sizes (Invalidate block) (Desk (Map b c)) g = absurd g
-  desk_sizes Flush (Desk (Map b c)) g = absurd g
-  desk_sizes Suspend (Desk (Map b c)) g = absurd g
-  desk_sizes (Open mode second) (Desk (Map b c)) g = absurd g
-  desk_sizes (Replace old new) (Desk (Map b c)) g = absurd g
   desk_sizes (Migrate migration block) (Desk (Unmap b)) g = unmap_sizes t.desk b chosen g.2
-  desk_sizes (Read extent) (Desk (Unmap b)) g = absurd g
   desk_sizes (Write extent content) (Desk (Unmap b)) g = unmap_sizes t.desk b chosen g.2
   desk_sizes (Invalidate block) (Desk (Unmap b)) g = unmap_sizes t.desk b chosen g.2
-  desk_sizes Flush (Desk (Unmap b)) g = absurd g
-  desk_sizes Suspend (Desk (Unmap b)) g = absurd g
-  desk_sizes (Open mode second) (Desk (Unmap b)) g = absurd g
-  desk_sizes (Replace old new) (Desk (Unmap b)) g = absurd g
   desk_sizes (Migrate migration block) (Desk (ReleaseOrder b)) g = release_sizes t.desk actor.orders b chosen g.2
-  desk_sizes (Read extent) (Desk (ReleaseOrder b)) g = absurd g
-  desk_sizes (Write extent content) (Desk (ReleaseOrder b)) g = absurd g
-  desk_sizes (Invalidate block) (Desk (ReleaseOrder b)) g = absurd g
-  desk_sizes Suspend (Desk (ReleaseOrder b)) g = absurd g
   desk_sizes Flush (Desk (ReleaseOrder b)) g = release_sizes t.desk actor.awaiting b chosen g.2
-  desk_sizes (Open mode second) (Desk (ReleaseOrder b)) g = absurd g
-  desk_sizes (Replace old new) (Desk (ReleaseOrder b)) g = absurd g
   desk_sizes job (Desk (Arrive most)) g = begun_sizes t.desk chosen
   desk_sizes job (Desk (Ask most)) g = begun_sizes t.desk chosen
   desk_sizes job (Desk (BeginCommit most)) g = begun_sizes t.desk chosen
   desk_sizes job (Desk BreakCommit) g = refl
   desk_sizes job (Desk EndCommit) g = ended_sizes t.desk t.desk.space.committing
-  desk_sizes job (End answer) g = refl
+  desk_sizes job (Desk step) g = absurd g
+  desk_sizes job next g = refl
 
 -- what a step leaves of a target
 pub record Keeps (t t' : Target) : Type 0 where
@@ -431,31 +345,8 @@ start_sizes shape desk m job what desk' m' s = by_test (is_none m.task) s
   where
     given_sizes : (job : Job) (chosen : Chosen Quiet Global) → (desk_given desk job chosen).geometry ≡ desk.geometry
     given_sizes (Migrate migration block) (Orders cut cache) = refl
-    given_sizes (Migrate migration block) Plain = refl
-    given_sizes (Migrate migration block) (Cut cut) = refl
-    given_sizes (Migrate migration block) (Looks blocks) = refl
-    given_sizes (Migrate migration block) (Begins now) = refl
-    given_sizes (Migrate migration block) (Reaches now commit) = refl
-    given_sizes (Migrate migration block) (Puts new) = refl
-    given_sizes (Migrate migration block) (Commits commit tree) = refl
-    given_sizes (Migrate migration block) (Asks new) = refl
-    given_sizes (Migrate migration block) (Opened policy) = refl
     given_sizes (Replace old new) (Orders cut cache) = refl
-    given_sizes (Replace old new) Plain = refl
-    given_sizes (Replace old new) (Cut cut) = refl
-    given_sizes (Replace old new) (Looks blocks) = refl
-    given_sizes (Replace old new) (Begins now) = refl
-    given_sizes (Replace old new) (Reaches now commit) = refl
-    given_sizes (Replace old new) (Puts metadata) = refl
-    given_sizes (Replace old new) (Commits commit tree) = refl
-    given_sizes (Replace old new) (Asks asked) = refl
-    given_sizes (Replace old new) (Opened policy) = refl
-    given_sizes (Read extent) chosen = refl
-    given_sizes (Write extent content) chosen = refl
-    given_sizes (Invalidate block) chosen = refl
-    given_sizes Flush chosen = refl
-    given_sizes Suspend chosen = refl
-    given_sizes (Open mode second) chosen = refl
+    given_sizes job chosen = refl
 
     by_what : (what : What) (chosen : Chosen Quiet Global) → LeavesStarted shape desk m job what chosen desk' m' → desk'.geometry ≡ desk.geometry
     by_what Started chosen l = ap (λ (k : DeskState Quiet). k.geometry) l.0 ∙ given_sizes job chosen
@@ -478,29 +369,20 @@ as_many_seen (Cell (Look (SealWord block))) (Word seal) seen = as_many_at (place
 as_many_seen next got seen = refl
 
 bits_then : (next : Want) (got : Got) (seen : List Bool) (job : Job) → length (seen_then seen next got job) ≡ length seen
-bits_then next got seen (Read extent) = refl
-bits_then next got seen (Write extent content) = refl
-bits_then next got seen (Invalidate block) = refl
-bits_then next got seen Flush = refl
 bits_then next got seen Suspend = as_many_seen next got seen
-bits_then next got seen (Open mode second) = refl
-bits_then next got seen (Migrate migration block) = refl
-bits_then next got seen (Replace old new) = refl
+bits_then next got seen job = refl
 
 allowed_by : (g : Geometry) (seen seen' : List Bool) (job : TaskJob) → length seen' ≡ length seen → AllowsImages g seen job → AllowsImages g seen' job
-allowed_by g seen seen' (OnBlock job) e r = tt
 allowed_by g seen seen' (Flushing serves most) e r = r
 allowed_by g seen seen' (Suspending looks most) e r = (r.0, e ∙ r.1)
-allowed_by g seen seen' (Opening left) e r = tt
+allowed_by g seen seen' job e r = tt
 
 allowed_then : (g : Geometry) (seen seen' : List Bool) (doing : Job × Plan) (got : Got) → length seen' ≡ length seen → AllowsImages g seen doing.1.job → AllowsImages g seen' (after doing.1 got).job
 allowed_then g seen seen' doing got e r = subst (λ (job : TaskJob). AllowsImages g seen' job) (sym (job_stays doing.1 got)) (allowed_by g seen seen' doing.1.job e r)
 
 room_then : (g : Geometry) (seen seen' : List Bool) (doing : Job × Plan) (next : Want) (got : Got) → length seen' ≡ length seen → IsTaskRoomy g seen (Some doing) → IsTaskRoomy g seen' (task_then (Some doing) next got)
-room_then g seen seen' doing (Cell step) got e r = allowed_then g seen seen' doing got e r
-room_then g seen seen' doing (Device step) got e r = allowed_then g seen seen' doing got e r
-room_then g seen seen' doing (Desk step) got e r = allowed_then g seen seen' doing got e r
 room_then g seen seen' doing (End answer) got e r = tt
+room_then g seen seen' doing next got e r = allowed_then g seen seen' doing got e r
 
 -- so it is after a step of who is at a task
 roomy_then : (g : Geometry) (devices : Devices (List History)) (share : Share) (m : Member) (doing : Job × Plan) (next : Want) (got : Got) → m.task ≡ Some doing → IsRoomy g m → IsRoomy g (member_then devices share m next got)
@@ -529,14 +411,9 @@ no_more : (n : ℕ) → n ≤ n
 no_more n = omega arith
 
 pub given_roomy : (shape : Shape) (mode : Mode) (m : Member) (job : Job) (chosen : Chosen Quiet Global) → IsRoomy shape.geometry (member_given shape mode m job chosen)
-given_roomy shape mode m (Read extent) chosen = tt
-given_roomy shape mode m (Write extent content) chosen = tt
-given_roomy shape mode m (Invalidate block) chosen = tt
 given_roomy shape mode m Flush chosen = no_more (most_for shape.geometry false)
 given_roomy shape mode m Suspend chosen = (no_more (most_for shape.geometry true), length_replicate shape.geometry.cache_blocks false)
-given_roomy shape mode m (Open opened_in second) chosen = tt
-given_roomy shape mode m (Migrate migration block) chosen = tt
-given_roomy shape mode m (Replace old new) chosen = tt
+given_roomy shape mode m job chosen = tt
 
 pub start_roomy : (shape : Shape) (desk : DeskState Quiet) (m : Member) (job : Job) (what : What) (desk' : DeskState Quiet) (m' : Member) → IsRoomy shape.geometry m → Starts shape desk m job what desk' m' → IsRoomy shape.geometry m'
 start_roomy shape desk m job what desk' m' r s = by_test (is_none m.task) s
@@ -556,6 +433,20 @@ roomy_set g (y ∷ ys) zero m all r zero x e = let same : m ≡ x = cc in subst 
 roomy_set g (y ∷ ys) zero m all r (suc b) x e = all (suc b) x e
 roomy_set g (y ∷ ys) (suc a) m all r zero x e = all zero x e
 roomy_set g (y ∷ ys) (suc a) m all r (suc b) x e = roomy_set g ys a m (λ c z h. all (suc c) z h) r b x e
+
+-- So all stays sound over a target that keeps this, once one of its members is another, which is roomy.
+pub sound_then : (g : Geometry) (n : ℕ) (devices devices' : Devices Memory) (t t' : Target) (members members' : Vec Member Global) (a : ℕ) (m : Member) → Keeps t t' → members'.items ≡ slice_set members.items a m → length devices'.metadata.contents ≡ length devices.metadata.contents → IsRoomy g m →
+    IsSoundPhase g n devices (Standing t members) → IsSoundPhase g n devices' (Standing t' members')
+sound_then g n devices devices' t t' members members' a m keeps set size roomy sound = record {
+  there = (keeps.cards ∙ sound.there.0, ap length set ∙ length-set members.items a m ∙ sound.there.1);
+  whole = size ∙ sound.whole;
+  stands = record {
+    blocks = keeps.blocks ∙ sound.stands.blocks;
+    failed = keeps.failed;
+    sizes = subst (λ (f : Geometry). AreSameSizes f g) (sym keeps.sizes) sound.stands.sizes;
+    roomy = subst (λ (ms : List Member). AllRoomy g ms) (sym set) (roomy_set g members.items a m sound.stands.roomy roomy);
+  };
+}
 
 -- for the target's own geometry too, which has the same sizes
 pub own_room : (g own : Geometry) (m : Member) → AreSameSizes own g → IsRoomy g m → IsRoomy own m

@@ -15,11 +15,11 @@ use Rattle.wb_tasks.specs.Plan.{Plan, device_of}
 use Rattle.wb_tasks.specs.declared.step.DeviceStep.{DeviceStep}
 use Rattle.wb_tasks.specs.declared.step.DeviceStep.TheVariants.{Read as ReadExtent, Write as WriteExtent, Sync, ReadMetadata, WriteNode, WriteRoot}
 use Rattle.wb_tasks.specs.declared.step.Want.{Want}
-use Rattle.wb_tasks.specs.declared.step.Want.TheVariants.{Cell, Device, Desk, End}
+use Rattle.wb_tasks.specs.declared.step.Want.TheVariants.{Device}
 use Rattle.wb_tasks.specs.declared.step.Got.{Got}
 use Rattle.wb_devices.specs.declared.devices.Devices.{Devices}
 use Rattle.wb_promise.specs.declared.job.Job.{Job}
-use Rattle.wb_promise.specs.declared.job.Job.TheVariants.{Read, Write, Flush, Suspend, Migrate, Open, Invalidate, Replace}
+use Rattle.wb_promise.specs.declared.job.Job.TheVariants.{Read, Migrate, Open}
 use Rattle.wb_promise.specs.declared.event.Event.{Event}
 use Rattle.wb_promise.specs.declared.event.Event.TheVariants.{Start, Step, FaultStep, Stop}
 use Rattle.wb_promise.specs.declared.event.What.{What}
@@ -69,39 +69,30 @@ module _ (shape : Shape) (w : Now) (actor : Actor) (got : Got) (read : List Byte
 
   read_plain : (job : Job) (device : Dev) (e : Rattle.wb_types.specs.declared.extent.Extent.Extent) → Gives shape w actor job (Device (ReadExtent device e)) got read chosen → chosen ≡ Plain
   read_plain (Read extent) device e g = g.1
-  read_plain (Write extent content) device e g = absurd g
-  read_plain (Invalidate block) device e g = absurd g
-  read_plain Flush device e g = absurd g
-  read_plain Suspend device e g = absurd g
-  read_plain (Open mode second) device e g = absurd g
   read_plain (Migrate migration block) device e g = g.1.1
-  read_plain (Replace old new) device e g = absurd g
+  read_plain job device e g = absurd g
 
   pub done_size : (job : Job) (next : Want) → Gives shape w actor job next got read chosen → AsLarge w.devices (devices_then (done job) w.devices next)
-  done_size job (Cell step) g = same_size w.devices
-  done_size job (Desk step) g = same_size w.devices
-  done_size job (End answer) g = same_size w.devices
   done_size job (Device (ReadExtent device e)) g = by_device (done job) (ReadExtent device e) w.devices device refl (λ d. ap (λ (c : Chosen Quiet Global). length (put_by c d)) (read_plain job device e g))
   done_size job (Device (WriteExtent device e)) g = by_device (done job) (WriteExtent device e) w.devices device refl (λ d. length_written_where (λ at. true) d e.first (contents_for job buffer e.count))
   done_size job (Device (Sync device)) g = by_device (done job) (Sync device) w.devices device refl (λ d. length-map d _)
   done_size job (Device (ReadMetadata left)) g = on_metadata (done job) (ReadMetadata left) w.devices refl
   done_size job (Device (WriteNode number)) g = on_metadata (done job) (WriteNode number) w.devices refl
   done_size job (Device WriteRoot) g = on_metadata (done job) WriteRoot w.devices refl
+  done_size job next g = same_size w.devices
 
   module _ (choice : Choice) where
     abbrev failed : Job → DeviceStep → List History → List History
     failed job = λ step. device_failed (lands (device_of step) choice) job buffer step chosen
 
     pub failed_size : (job : Job) (next : Want) → Falters w choice next chosen → AsLarge w.devices (devices_then (failed job) w.devices next)
-    failed_size job (Cell step) g = absurd g
-    failed_size job (Desk step) g = absurd g
-    failed_size job (End answer) g = absurd g
     failed_size job (Device (ReadExtent device e)) g = by_device (failed job) (ReadExtent device e) w.devices device refl (λ d. ap (λ (c : Chosen Quiet Global). length (put_by c d)) g.0)
     failed_size job (Device (WriteExtent device e)) g = by_device (failed job) (WriteExtent device e) w.devices device refl (λ d. length_written_where (lands device choice) d e.first (contents_for job buffer e.count))
     failed_size job (Device (Sync device)) g = by_device (failed job) (Sync device) w.devices device refl (λ d. length-synced_from (lands device choice) 0 d)
     failed_size job (Device (ReadMetadata left)) g = on_metadata (failed job) (ReadMetadata left) w.devices refl
     failed_size job (Device (WriteNode number)) g = on_metadata (failed job) (WriteNode number) w.devices refl
     failed_size job (Device WriteRoot) g = on_metadata (failed job) WriteRoot w.devices refl
+    failed_size job next g = absurd g
 
 -- ---- an event
 

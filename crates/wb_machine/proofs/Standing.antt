@@ -48,14 +48,14 @@ use Rattle.wb_devices.specs.Opened.{HasCome, HasNextRoot, HasGeneration as Devic
 use Rattle.wb_machine.specs.declared.asked.Asked.{Asked}
 use Rattle.wb_machine.specs.declared.making.Made.{Made}
 use Rattle.wb_machine.specs.declared.opener.Opener.{Opener}
-use Rattle.wb_machine.specs.Making.{HasMade, MadeBy, ends_reading, reading_of}
+use Rattle.wb_machine.specs.Making.{HasMade, MadeBy, ends_reading, reading_by, reading_of}
 use Rattle.wb_devices.specs.declared.running.RunningCommit.{RunningCommit}
 use Rattle.wb_promise.specs.Effects.{led}
 use Rattle.wb_promise.specs.Happenings.{AreWhole, IsGeometryAsked, Reaches, DoesRead, HasGeneration, LandedOr, MayFailAt, sector_put}
 use Rattle.wb_machine.specs.Life.{FailsOn, MayBePut, commit_synced, device_step_of, made_synced, reading_synced}
-use Rattle.wb_machine.specs.Serving.{IsPut}
+use Rattle.wb_machine.specs.Serving.{FindsItsRoot, IsPut}
 use Rattle.wb_tasks.specs.Points.{OpenPoint, AtFirst, AtCache, AtOrigin, AtRead, AtNodes, AtRoot, AtRootSync, AtEnd, AtRefusal}
-use Rattle.wb_machine.specs.Standing.{plan_from, HasComeTo, HasCommitted, HasMadeThere, HasNodesLeft, HasReadAll, IsReading, StandsAt}
+use Rattle.wb_machine.specs.Standing.{plan_from, HasComeTo, HasCommitted, HasMadeThere, HasNodesLeft, HasReadAll, IsReading, ReadsOn, StandsAt}
 use Rattle.wb_contents.proofs.Lists.{there_is}
 
 -- ---- at a sync
@@ -138,9 +138,9 @@ goes_on g n o new got at same p q goes = record {
 abbrev gone_on : RunningCommit → RunningCommit
 gone_on running = record running { steps = steps_after running.image running.steps }
 
--- and has come so far then
-come_on : (image : Image) (now steps later : CommitSteps) → now ≡ steps → steps_after image steps ≡ later → steps_after image now ≡ later
-come_on image now steps later e f = ap (λ (s : CommitSteps). steps_after image s) e ∙ f
+-- and all was read as before
+abbrev all_gone_on : (g : Geometry) (reading : Option (ReadSteps Global)) (commit : Option RunningCommit) (all : HasReadAll g reading commit) → HasReadAll g reading (Some (gone_on all.next))
+all_gone_on g reading commit all = record { state = all.state; reading_is = all.reading_is; fits = all.fits; sizes = all.sizes; next = gone_on all.next; commit_is = refl; root_is = all.root_is }
 
 last_node : (image : Image) (from : ℕ) → length image.nodes.items ≡ from + 0 → steps_after image (NodesWritten from) ≡ NodesSynced
 last_node image from many = ap (λ (o : Option (Place × Node)). after_node o from) (slice_get_past image.nodes.items from (omega (arith, many)))
@@ -149,17 +149,11 @@ next_node : (image : Image) (from left : ℕ) → length image.nodes.items ≡ f
 next_node image from left many = let there = there_is image.nodes.items from (omega (arith, many)) in ap (λ (o : Option (Place × Node)). after_node o from) there.1
 
 has_gone_on : (g : Geometry) (steps later : CommitSteps) (reading : Option (ReadSteps Global)) (commit : Option RunningCommit) (all : HasReadAll g reading commit) → all.next.steps ≡ steps → steps_after all.next.image steps ≡ later → HasCommitted g later reading (Some (gone_on all.next))
-has_gone_on g steps later reading commit all e f = (
-  record { state = all.state; reading_is = all.reading_is; fits = all.fits; sizes = all.sizes; next = gone_on all.next; commit_is = refl; root_is = all.root_is },
-  come_on all.next.image all.next.steps steps later e f,
-)
+has_gone_on g steps later reading commit all e f = (all_gone_on g reading commit all, ap (λ (s : CommitSteps). steps_after all.next.image s) e ∙ f)
 
 has_one_less : (g : Geometry) (left from : ℕ) (reading : Option (ReadSteps Global)) (commit : Option RunningCommit) (all : HasReadAll g reading commit) → all.next.steps ≡ NodesWritten from → length all.next.image.nodes.items ≡ from + suc left → HasNodesLeft g left (from + 1) reading (Some (gone_on all.next))
-has_one_less g left from reading commit all e many = (
-  record { state = all.state; reading_is = all.reading_is; fits = all.fits; sizes = all.sizes; next = gone_on all.next; commit_is = refl; root_is = all.root_is },
-  come_on all.next.image all.next.steps (NodesWritten from) (NodesWritten (from + 1)) e (next_node all.next.image from left many),
-  omega (arith, many),
-)
+has_one_less g left from reading commit all e many =
+    (all_gone_on g reading commit all, ap (λ (s : CommitSteps). steps_after all.next.image s) e ∙ next_node all.next.image from left many, omega (arith, many))
 
 synced_from : (g : Geometry) (n : ℕ) (a : Asked) (point : OpenPoint) (device : Dev) → want (plan_from g.meta_sectors point) ≡ Device (Sync device) → (alloc : Global) (reading : Option (ReadSteps Global)) (commit : Option RunningCommit) (made : Option Made)
     → HasComeTo g point reading commit → HasMadeThere n point a made → Goes g n a point Done (reading_synced alloc device commit reading) (commit_synced device commit) (made_synced device commit made)
@@ -189,16 +183,12 @@ synced_stands g n o new alloc device at next same p q c r m =
 -- ---- after a fault
 
 failed_from : (g : Geometry) (n : ℕ) (a : Asked) (point : OpenPoint) (step : DeviceStep) → device_step_of (want (plan_from g.meta_sectors point)) ≡ Some step → (reading : Option (ReadSteps Global)) (commit : Option RunningCommit) (made : Option Made) → Goes g n a point Fault reading commit made
-failed_from g n a AtFirst step e reading commit made = record { next = AtRefusal (Io Metadata); plan = refl; come = tt; made_is = tt }
 failed_from g n a AtCache step e reading commit made = record { next = AtRefusal (Io Cache); plan = refl; come = tt; made_is = tt }
 failed_from g n a AtOrigin step e reading commit made = record { next = AtRefusal (Io Origin); plan = refl; come = tt; made_is = tt }
-failed_from g n a (AtRead left) step e reading commit made = record { next = AtRefusal (Io Metadata); plan = refl; come = tt; made_is = tt }
-failed_from g n a (AtNodes zero from) step e reading commit made = record { next = AtRefusal (Io Metadata); plan = refl; come = tt; made_is = tt }
-failed_from g n a (AtNodes (suc left) from) step e reading commit made = record { next = AtRefusal (Io Metadata); plan = refl; come = tt; made_is = tt }
-failed_from g n a AtRoot step e reading commit made = record { next = AtRefusal (Io Metadata); plan = refl; come = tt; made_is = tt }
-failed_from g n a AtRootSync step e reading commit made = record { next = AtRefusal (Io Metadata); plan = refl; come = tt; made_is = tt }
 failed_from g n a AtEnd step e reading commit made = absurd (cc)
 failed_from g n a (AtRefusal refusal) step e reading commit made = absurd (cc)
+failed_from g n a (AtNodes zero from) step e reading commit made = record { next = AtRefusal (Io Metadata); plan = refl; come = tt; made_is = tt }
+failed_from g n a point step e reading commit made = record { next = AtRefusal (Io Metadata); plan = refl; come = tt; made_is = tt }
 
 pub failed_stands : (g : Geometry) (n : ℕ) (o new : Opener) (step : DeviceStep) → StandsAt g n o → device_step_of (want o.task) ≡ Some step → new.asked ≡ o.asked → new.task ≡ after o.task Fault → new.opening.geometry ≡ o.opening.geometry → StandsAt g n new
 failed_stands g n o new step at next same p q =
@@ -225,8 +215,6 @@ may_put_size (Some running) choice step old new may = landed_size (lands Metadat
 -- the metadata device keeps its size
 pub failed_size : (commit : Option RunningCommit) (step : DeviceStep) (choice : Choice) (old new : Devices (List History)) → FailsOn commit step choice old new → length new.metadata ≡ length old.metadata
 failed_size commit (Sync Metadata) choice old new failed = ap (λ (d : Devices (List History)). length d.metadata) failed ∙ length-synced_from (lands Metadata choice) 0 old.metadata
-failed_size commit (Sync Cache) choice old new failed = ap (λ (d : Devices (List History)). length d.metadata) failed
-failed_size commit (Sync Origin) choice old new failed = ap (λ (d : Devices (List History)). length d.metadata) failed
 failed_size commit (WriteNode number) choice old new failed = may_put_size commit choice (WriteNode number) old.metadata new.metadata failed.0
 failed_size commit WriteRoot choice old new failed = may_put_size commit choice WriteRoot old.metadata new.metadata failed.0
 failed_size commit step choice old new failed = ap (λ (d : Devices (List History)). length d.metadata) failed
@@ -280,7 +268,7 @@ else_puts next step e syncs reads = absurd (cc)
 pub had_room : (g : Geometry) (nodes : ℕ) → nodes ≡ node_count g.cache_blocks → 2 + 2 * nodes ≤ g.meta_sectors → 2 + 2 * node_count g.cache_blocks ≤ g.meta_sectors
 had_room g nodes same fits = subst (λ (n : ℕ). 2 + 2 * n ≤ g.meta_sectors) same fits
 
-pub record Reads (g : Geometry) (n : ℕ) (a : Asked) (point : OpenPoint) (left : ℕ) (reading : Option (ReadSteps Global)) (commit : Option RunningCommit) (made : Option Made) : Type 0 where
+record Reads (g : Geometry) (n : ℕ) (a : Asked) (point : OpenPoint) (left : ℕ) (reading : Option (ReadSteps Global)) (commit : Option RunningCommit) (made : Option Made) : Type 0 where
   pub is : point ≡ AtRead left
   pub at : IsReading g left reading commit
   pub none : made ≡ None
@@ -292,7 +280,7 @@ reads_from g n a (AtNodes zero from) left e reading commit made come is = absurd
 reads_from g n a (AtNodes (suc more) from) left e reading commit made come is = absurd (cc)
 reads_from g n a point left e reading commit made come is = absurd (cc)
 
-pub reads_at : (g : Geometry) (n : ℕ) (o : Opener) (left : ℕ) (at : StandsAt g n o) → want o.task ≡ Device (ReadMetadata left) → Reads g n o.asked at.point left (reading_of o) o.opening.commit o.made
+reads_at : (g : Geometry) (n : ℕ) (o : Opener) (left : ℕ) (at : StandsAt g n o) → want o.task ≡ Device (ReadMetadata left) → Reads g n o.asked at.point left (reading_of o) o.opening.commit o.made
 reads_at g n o left at next = reads_from g n o.asked at.point left (ap want (sym at.plan_is) ∙ next) (reading_of o) o.opening.commit o.made at.come at.made
 
 -- the reading is there, and not all was read
@@ -384,7 +372,7 @@ module _ (mode : Mode) (g : Geometry) (second : Bool) (asked : Geometry) (left :
     | inr t ↦ no_device t.refusal (t.faults 0) (sym t.is ∙ e)
   ]
 
-  pub does_read : IfSome commit' (λ running. AreWhole running.image) → DoesRead {P = Quiet} mode g second left was device None got (Reaches after' commit')
+  does_read : IfSome commit' (λ running. AreWhole running.image) → DoesRead {P = Quiet} mode g second left was device None got (Reaches after' commit')
   does_read nodes = (
     never_fault,
     elim told [
@@ -451,7 +439,7 @@ module _ (mode : Mode) (g : Geometry) (second : Bool) (asked : Geometry) (left :
     | inr t ↦ subst (λ x. Goes g n a (AtRead left) x after' commit' made) (sym (t.is ∙ refused_as t.refusal (t.faults 0))) (record { next = AtRefusal t.refusal; plan = refl; come = tt; made_is = tt })
   ]
 
-  pub read_stands : (n : ℕ) (o new : Opener) (at : StandsAt g n o) → want o.task ≡ Device (ReadMetadata left) → new.asked ≡ o.asked → new.task ≡ after o.task got → new.opening.geometry ≡ o.opening.geometry
+  read_stands : (n : ℕ) (o new : Opener) (at : StandsAt g n o) → want o.task ≡ Device (ReadMetadata left) → new.asked ≡ o.asked → new.task ≡ after o.task got → new.opening.geometry ≡ o.opening.geometry
       → reading_of new ≡ after' → new.opening.commit ≡ commit' → MadeBy n got o.asked new.made → StandsAt g n new
   read_stands n o new at next same p q r c is =
       let reads = reads_at g n o left at next in
@@ -494,6 +482,35 @@ module _ (mode : Mode) (g : Geometry) (second : Bool) (asked : Geometry) (left :
     ]
     | inr t ↦ absurd (not_refused got t.refusal e (t.is ∙ refused_as t.refusal (t.faults 0)))
   ]
+
+-- what an opening finds that reads on
+pub reads_on : (g : Geometry) (n left : ℕ) (o : Opener) (device : List History) → o.asked.actor < n → length device ≡ g.meta_sectors → StandsAt g n o → want o.task ≡ Device (ReadMetadata left) → FindsItsRoot g device o → ReadsOn g n left o device
+reads_on g n left o device there size at next finds = record { there = there; none = reads.none; asks = at.asks; size = size; reads = plain; finds = λ was is. finds was (same ∙ is) (under_way g left o.opening.reading o.opening.commit plain).commit_is }
+  where
+    reads : Reads g n o.asked at.point left (reading_of o) o.opening.commit o.made
+    reads = reads_at g n o left at next
+
+    same : reading_of o ≡ o.opening.reading
+    same = ap (λ m. reading_by m o.opening.reading) reads.none
+
+    plain : IsReading g left o.opening.reading o.opening.commit
+    plain = subst (λ r. IsReading g left r o.opening.commit) same reads.at
+
+-- where it stands, and what it has done, once it was told what stands there
+module _ (g : Geometry) (n left : ℕ) (o new : Opener) (device : List History) (got : Got) (on : ReadsOn g n left o device) (room : 2 + 2 * node_count g.cache_blocks ≤ g.meta_sectors)
+    (did : (was : ReadSteps Global) → o.opening.reading ≡ Some was → DidTell o.asked.mode o.opening.geometry g.meta_sectors left was device o.opening.commit got (reading_of new) new.opening.commit) where
+  abbrev u : UnderWay g left o.opening.reading o.opening.commit
+  u = under_way g left o.opening.reading o.opening.commit on.reads
+
+  told_so : DidTell o.asked.mode o.opening.geometry g.meta_sectors left u.was device None got (reading_of new) new.opening.commit
+  told_so = subst (λ c. DidTell o.asked.mode o.opening.geometry g.meta_sectors left u.was device c got (reading_of new) new.opening.commit) u.commit_is (did u.was u.is)
+
+  pub stands_then : StandsAt g n o → want o.task ≡ Device (ReadMetadata left) → new.asked ≡ o.asked → new.task ≡ after o.task got → new.opening.geometry ≡ o.opening.geometry → MadeBy n got o.asked new.made → StandsAt g n new
+  stands_then at next same p q made =
+      read_stands o.asked.mode g o.asked.second o.opening.geometry left u.was device got (reading_of new) new.opening.commit on.asks room on.size u.not_done u.left_is (on.finds u.was u.is) told_so n o new at next same p q refl refl made
+
+  pub does_then : IfSome new.opening.commit (λ running. AreWhole running.image) → DoesRead {P = Quiet} o.asked.mode g o.asked.second left u.was device None got (Reaches (reading_of new) new.opening.commit)
+  does_then nodes = does_read o.asked.mode g o.asked.second o.opening.geometry left u.was device got (reading_of new) new.opening.commit on.asks room on.size u.not_done u.left_is (on.finds u.was u.is) told_so nodes
 
 -- nothing was made where not all was read
 pub none_made : (n : ℕ) (a : Asked) (got : Got) (made : Option Made) → ends_reading got ≡ false → made ≡ None → MadeBy n got a made

@@ -1,5 +1,5 @@
 -- What a member is after a step on its job, by the parts that the step changes.
-use Rattle.std.proofs.Common.{◌≡◌, ◌≤◌, ◌∙◌, inr, ℕ, Bool, true, false, List, [], Option, Some, None, refl, sym, ap, subst, ◌≢◌, Vec, arith}
+use Rattle.std.proofs.Common.{◌≡◌, ◌≤◌, ◌∙◌, inr, ℕ, Bool, true, false, if◌then◌else◌, List, [], Option, Some, None, refl, sym, ap, subst, ◌≢◌, Vec, arith}
 use Rattle.wb_types.specs.Limits.{most_nodes}
 use Rattle.wb_types.specs.declared.geometry.Geometry.{Geometry}
 use Rattle.wb_types.specs.declared.version.Version.{Version}
@@ -8,14 +8,14 @@ use Rattle.wb_disk.specs.Device.{Content as Bytes, History}
 use Rattle.wb_devices.specs.declared.devices.Devices.{Devices}
 use Rattle.wb_policy.specs.declared.order.Order.{Order}
 use Rattle.wb_tasks.specs.Plan.{Plan, want}
-use Rattle.wb_tasks.specs.Ready.{IsAsked, IsOwnStep, Suits}
-use Rattle.wb_tasks.specs.Tables.{BlockJob, Reading, Writing, Displacing, Invalidating, Migrating, TaskJob, OnBlock, Flushing, Suspending, Opening}
+use Rattle.wb_tasks.specs.Ready.{IsOwnStep, Suits}
+use Rattle.wb_tasks.specs.Tables.{Migrating, TaskJob, OnBlock, Flushing, Suspending}
 use Rattle.wb_tasks.proofs.Readiness.{is_own_step}
 use Rattle.wb_words.specs.declared.card.Card.{Card}
 use Rattle.wb_tasks.specs.declared.step.DeviceStep.TheVariants.{Read as ReadExtent}
-use Rattle.wb_tasks.specs.declared.step.DeskStep.TheVariants.{Map, Unmap, ReleaseOrder, Arrive, Ask, BeginCommit, EndCommit, BreakCommit}
+use Rattle.wb_tasks.specs.declared.step.DeskStep.TheVariants.{Map, Unmap, ReleaseOrder, Arrive, Ask, BeginCommit}
 use Rattle.wb_tasks.specs.declared.step.Want.{Want}
-use Rattle.wb_tasks.specs.declared.step.Want.TheVariants.{Cell, Device, Desk, End}
+use Rattle.wb_tasks.specs.declared.step.Want.TheVariants.{Device, Desk, End}
 use Rattle.wb_tasks.specs.declared.step.Got.{Got}
 use Rattle.wb_tasks.specs.declared.step.Got.TheVariants.{Done}
 use Rattle.wb_stage.specs.declared.share.Share.{Share}
@@ -81,17 +81,23 @@ module _ (m : Member) (orders awaiting : List Order) (seen : orders ≡ m.orders
       (subst (λ (x : List Bool). Performs devices old a job held x m.share m.buffer next got given devices' new) s (subst (λ (x : Share). Performs devices old a job held bits x m.buffer next got given devices' new) r (subst (λ (x : List Bytes). Performs devices old a job held bits share x next got given devices' new) b p)))
 
 -- what it writes next where it read nothing
-pub buffer_stays : (devices : Devices (List History)) (buffer : List Bytes) (next : Want) (got : Got) (job : Job) → is_copied job next ≡ false → buffer_then devices buffer next got job ≡ buffer
+buffer_stays : (devices : Devices (List History)) (buffer : List Bytes) (next : Want) (got : Got) (job : Job) → is_copied job next ≡ false → buffer_then devices buffer next got job ≡ buffer
 buffer_stays devices buffer (Device (ReadExtent device e)) Done (Migrate migration block) c = absurd (cc)
 buffer_stays devices buffer next got job c = refl
 
 -- and where it read it
-pub buffer_read : (devices : Devices (List History)) (old : Target) (a : ℕ) (job : Job) (held : List Order) (seen : List Bool) (share : Share) (buffer : List Bytes) (next : Want) (got : Got) (given : List Bytes) (devices' : Devices (List History)) (new : Target) →
+buffer_read : (devices : Devices (List History)) (old : Target) (a : ℕ) (job : Job) (held : List Order) (seen : List Bool) (share : Share) (buffer : List Bytes) (next : Want) (got : Got) (given : List Bytes) (devices' : Devices (List History)) (new : Target) →
     is_copied job next ≡ true → Performs devices old a job held seen share buffer next got given devices' new → buffer_then devices buffer next got job ≡ given
 buffer_read devices old a (Migrate migration block) held seen share buffer (Device (ReadExtent device e)) got given devices' new c p =
     let done : got ≡ Done = (p.gives (shape_of old.desk.geometry ACTORS) [] (record { task = None; card = blank_card; orders = held; awaiting = held; buffer = []; seen = seen; share = share }) (refl, refl, refl)).2 in
     ap (λ (g : Got). buffer_then devices buffer (Device (ReadExtent device e)) g (Migrate migration block)) done ∙ sym p.copies
 buffer_read devices old a job held seen share buffer next got given devices' new c p = absurd (cc)
+
+-- so it is what it has read where that is copied
+pub buffer_is : (devices : Devices (List History)) (old : Target) (a : ℕ) (job : Job) (held : List Order) (seen : List Bool) (share : Share) (buffer : List Bytes) (next : Want) (got : Got) (given : List Bytes) (devices' : Devices (List History)) (new : Target) →
+    (copies : Bool) → copies ≡ is_copied job next → Performs devices old a job held seen share buffer next got given devices' new → (if copies then given else buffer) ≡ buffer_then devices buffer next got job
+buffer_is devices old a job held seen share buffer next got given devices' new true c p = sym (buffer_read devices old a job held seen share buffer next got given devices' new (sym c) p)
+buffer_is devices old a job held seen share buffer next got given devices' new false c p = sym (buffer_stays devices buffer next got job (sym c))
 
 module _ (devices : Devices (List History)) (old : Target) (a : ℕ) (m : Member) (job : Job) (plan : Plan) (got : Got) (given : List Bytes) (devices' : Devices (List History)) (new : Target) (m' : Member) where
   pub steps_at : (next : Want) → next ≡ want plan → m.task ≡ Some (job, plan) → Performs devices old a job (may_give_up job m.orders m.awaiting) m.seen m.share m.buffer next got given devices' new → (read : List Bytes) → read ≡ noted_read job next given →
@@ -123,47 +129,16 @@ in_either One blocks = omega arith
 in_either Two blocks = omega arith
 
 allows_next : (g : Geometry) (seen : List Bool) (job : TaskJob) (next : Want) → IsOwnStep job next → AllowsImages g seen job → Allows g seen next
-allows_next g seen job (Cell step) own a = tt
-allows_next g seen job (Device step) own a = tt
-allows_next g seen job (Desk (Map block place)) own a = tt
-allows_next g seen job (Desk (Unmap block)) own a = tt
-allows_next g seen job (Desk (ReleaseOrder block)) own a = tt
-allows_next g seen job (Desk EndCommit) own a = tt
-allows_next g seen job (Desk BreakCommit) own a = tt
-allows_next g seen job (End answer) own a = tt
-allows_next g seen (OnBlock job) (Desk (Arrive most)) own a = absurd (no_arrival job most own)
-  where
-    no_arrival : (job : BlockJob) (most : ℕ) → IsAsked job (Arrive most) → ⊥
-    no_arrival (Reading part) most asked = asked
-    no_arrival (Writing part) most asked = asked
-    no_arrival (Displacing part) most asked = asked
-    no_arrival (Invalidating part) most asked = asked
-    no_arrival (Migrating migration part) most asked = asked
-allows_next g seen (OnBlock job) (Desk (Ask most)) own a = absurd (no_asking job most own)
-  where
-    no_asking : (job : BlockJob) (most : ℕ) → IsAsked job (Ask most) → ⊥
-    no_asking (Reading part) most asked = asked
-    no_asking (Writing part) most asked = asked
-    no_asking (Displacing part) most asked = asked
-    no_asking (Invalidating part) most asked = asked
-    no_asking (Migrating migration part) most asked = asked
-allows_next g seen (OnBlock job) (Desk (BeginCommit most)) own a = absurd (no_commit job most own)
-  where
-    no_commit : (job : BlockJob) (most : ℕ) → IsAsked job (BeginCommit most) → ⊥
-    no_commit (Reading part) most asked = asked
-    no_commit (Writing part) most asked = asked
-    no_commit (Displacing part) most asked = asked
-    no_commit (Invalidating part) most asked = asked
-    no_commit (Migrating migration part) most asked = asked
+allows_next g seen (OnBlock (Migrating migration part)) (Desk (Arrive most)) own a = absurd own
+allows_next g seen (OnBlock (Migrating migration part)) (Desk (Ask most)) own a = absurd own
+allows_next g seen (OnBlock (Migrating migration part)) (Desk (BeginCommit most)) own a = absurd own
 allows_next g seen (Flushing serves bound) (Desk (Arrive most)) own a = omega (arith, own, a)
 allows_next g seen (Flushing serves bound) (Desk (Ask most)) own a = omega (arith, own, a)
-allows_next g seen (Flushing serves bound) (Desk (BeginCommit most)) own a = absurd own
-allows_next g seen (Suspending blocks bound) (Desk (Arrive most)) own a = absurd own
-allows_next g seen (Suspending blocks bound) (Desk (Ask most)) own a = absurd own
 allows_next g seen (Suspending blocks bound) (Desk (BeginCommit most)) own a = let enough = a.0 in let few = in_either g.version g.cache_blocks in (omega (arith, own, enough, few), a.1)
-allows_next g seen (Opening left) (Desk (Arrive most)) own a = absurd own
-allows_next g seen (Opening left) (Desk (Ask most)) own a = absurd own
-allows_next g seen (Opening left) (Desk (BeginCommit most)) own a = absurd own
+allows_next g seen job (Desk (Arrive most)) own a = absurd own
+allows_next g seen job (Desk (Ask most)) own a = absurd own
+allows_next g seen job (Desk (BeginCommit most)) own a = absurd own
+allows_next g seen job next own a = tt
 
 -- who commits asks for as many nodes as its job allows
 pub allows : (blocks : ℕ) (g : Geometry) (seen : List Bool) (plan : Plan) (card : Card) → Suits blocks plan card → AllowsImages g seen plan.job → Allows g seen (want plan)

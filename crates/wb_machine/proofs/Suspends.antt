@@ -7,7 +7,7 @@ use Rattle.wb_desk.specs.Desks.{DeskState}
 use Rattle.wb_devices.specs.declared.devices.Devices.{Devices}
 use Rattle.wb_policy.specs.declared.quiet.Quiet.{Quiet}
 use Rattle.wb_promise.specs.declared.job.Job.{Job}
-use Rattle.wb_promise.specs.declared.job.Job.TheVariants.{Read, Write, Flush, Suspend, Open, Invalidate, Migrate, Replace}
+use Rattle.wb_promise.specs.declared.job.Job.TheVariants.{Suspend}
 use Rattle.wb_promise.specs.declared.event.Event.TheVariants.{Start}
 use Rattle.wb_promise.specs.declared.event.What.{What}
 use Rattle.wb_promise.specs.declared.event.What.TheVariants.{Skipped, Refused, Started}
@@ -48,14 +48,8 @@ module _ (shape : Shape) (devices : Devices (List History)) (t : Target) (member
   standing ms = over devices t (with_cards ms t.crew.cards)
 
   of_suspend : (job : Job) → wants_target job ≡ true → starts_beside job ≡ false → job ≡ Suspend
-  of_suspend (Read extent) w b = absurd (cc)
-  of_suspend (Write extent content) w b = absurd (cc)
-  of_suspend (Invalidate block) w b = absurd (cc)
-  of_suspend Flush w b = absurd (cc)
   of_suspend Suspend w b = refl
-  of_suspend (Open mode second) w b = absurd (cc)
-  of_suspend (Migrate migration block) w b = absurd (cc)
-  of_suspend (Replace old new) w b = absurd (cc)
+  of_suspend job w b = absurd (cc)
 
   -- who is there and at nothing
   idle_seat : (m : Member) → works_there members a ≡ false → slice_get members a ≡ Some m → (seat_at m t.crew.cards a).task ≡ None

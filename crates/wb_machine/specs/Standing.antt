@@ -1,7 +1,8 @@
 -- Where an opening of the machine stands in its table, and how far its reading has come there.
-use Rattle.std.specs.Prelude.{◌≡◌, ◌≤◌, ◌+◌, ℕ, Bool, true, false, List, Option, Some, None, length, slice_get}
+use Rattle.std.specs.Prelude.{◌≡◌, ◌≤◌, ◌<◌, ◌+◌, ℕ, Bool, true, false, List, Option, Some, None, length, slice_get}
 use Rattle.std.specs.declared.alloc.Global.{Global}
 use Rattle.wb_types.specs.declared.geometry.Geometry.{Geometry}
+use Rattle.wb_disk.specs.Device.{History}
 use Rattle.wb_disk.specs.Memory.{Memory}
 use Rattle.wb_meta.specs.Openings.{reopened}
 use Rattle.wb_meta.specs.Reads.{AreStepsOn, FitsDevice, IsDone, sectors_read}
@@ -17,6 +18,7 @@ use Rattle.wb_tasks.specs.Points.{OpenPoint, AtFirst, AtCache, AtOrigin, AtRead,
 use Rattle.wb_devices.specs.declared.devices.Devices.{Devices}
 use Rattle.wb_devices.specs.declared.running.RunningCommit.{RunningCommit}
 use Rattle.wb_words.specs.SharedWords.{flag}
+use Rattle.wb_runs.specs.Laws.{FindsSizes}
 use Rattle.wb_promise.specs.Happenings.{IsGeometryAsked, most_for}
 use Rattle.wb_promise.specs.declared.job.Job.{Job}
 use Rattle.wb_machine.specs.Members.{Member}
@@ -26,6 +28,7 @@ use Rattle.wb_machine.specs.declared.opener.Opener.{Opener}
 use Rattle.wb_machine.specs.declared.phase.Phase.{Phase}
 use Rattle.wb_machine.specs.declared.phase.Phase.TheVariants.{Closed, Underway, Standing}
 use Rattle.wb_machine.specs.declared.target.Target.{Target}
+use Rattle.wb_machine.specs.Life.{IsThere}
 use Rattle.wb_machine.specs.Making.{HasMade, reading_of}
 
 abbrev pub plan_from : ℕ → OpenPoint → Plan
@@ -35,6 +38,15 @@ plan_from most point = record { job = OpeningJob most; steps = open_left most po
 abbrev pub IsReading : Geometry → ℕ → Option (ReadSteps Global) → Option RunningCommit → Type 0
 IsReading g left None commit = ⊥
 IsReading g left (Some was) commit = (commit ≡ None) × (¬ IsDone was) × AreStepsOn g.meta_sectors was × (left + sectors_read was ≡ g.meta_sectors)
+
+-- An opening of which nothing was made reads on in metadata of these sizes: as many sectors may follow, and a root that it finds is of them.
+pub record ReadsOn (g : Geometry) (actors left : ℕ) (o : Opener) (device : List History) : Type 0 where
+  pub there : o.asked.actor < actors
+  pub none : o.made ≡ None
+  pub asks : IsGeometryAsked g o.asked.second o.opening.geometry
+  pub size : length device ≡ g.meta_sectors
+  pub reads : IsReading g left o.opening.reading o.opening.commit
+  pub finds : (was : ReadSteps Global) → o.opening.reading ≡ Some was → FindsSizes g was device
 
 -- All was read of a tree of these sizes, and the commit of the root that comes next over it, not clean, runs.
 pub record HasReadAll (g : Geometry) (reading : Option (ReadSteps Global)) (commit : Option RunningCommit) : Type 0 where
@@ -112,7 +124,8 @@ StandsSo g actors Closed = Unit {0}
 StandsSo g actors (Underway opener) = StandsAt g actors opener
 StandsSo g actors (Standing target members) = IsWholeTarget g target members.items
 
--- The metadata device is of these sizes, and what is there is sound.
+-- Whoever is at work there is one of so many, the metadata device is of these sizes, and what stands over it is sound.
 pub record IsSoundPhase (g : Geometry) (actors : ℕ) (devices : Devices Memory) (phase : Phase) : Type 0 where
+  pub there : IsThere actors phase
   pub whole : length devices.metadata.contents ≡ g.meta_sectors
   pub stands : StandsSo g actors phase

@@ -1,15 +1,16 @@
 //! The desk is asked for a commit, for an entry, to let one go, or to give up an order, by the one performer of such steps.
 
-ghost use Rattle.std.specs.Prelude.{◌≡◌, length, All, IfSome};
+ghost use Rattle.std.specs.Prelude.{◌≡◌, ℕ, length, All, IfSome};
 ghost use Rattle.wb_types.specs.declared.number.Place.{Place as PlaceValue};
 ghost use Rattle.wb_format.specs.declared.node.Node.{Node as NodeValue};
 ghost use Rattle.wb_tasks.specs.Plan.{Fits};
 ghost use Rattle.wb_tasks.specs.declared.step.Want.TheVariants.{Desk as OnDesk};
+ghost use Rattle.wb_tasks.specs.declared.step.Got.TheVariants.{Began};
 ghost use Rattle.std.specs.Bool.{OnTrue, OnFalse};
 ghost use Rattle.wb_stage.specs.Sharing.{MayAskNow, share_then};
 ghost use Rattle.wb_promise.specs.declared.job.Job.{Job};
 ghost use Rattle.wb_promise.specs.Happenings.{AreWhole, Awaits, IsWholeNode};
-ghost use Rattle.wb_machine.specs.Serving.{Allows, DidAskFor, IsAskable, DeskWasAsked};
+ghost use Rattle.wb_machine.specs.Serving.{Allows, IsAskable, DeskWasAsked};
 
 use std::alloc::Global;
 use wb_desk::Desk;
@@ -37,33 +38,17 @@ pub(crate) fn ask(
     ensures kind { Fits (OnDesk step) result }
     ensures share { share.new ≡ share_then desk.old share.old step result }
 {
-    let got = ask_for(alloc, desk, commit, held, seen, share, step);
-    match got {
-        Got::Began(_) => see_commit(&*commit),
-        _ => {}
-    }
-    got
-}
-
-/// One call of the desk, for who has this at hand.
-fn ask_for(
-    alloc: Global,
-    desk: &mut Desk<Quiet>,
-    commit: &mut Option<RunningCommit>,
-    held: &[Order],
-    seen: &[bool],
-    share: &mut Share,
-    step: DeskStep,
-) -> Got
-    requires enough { Allows desk.old.geometry seen.now (OnDesk step) }
-    requires goes_on { MayAskNow desk.old share.old step }
-    ensures did { DidAskFor held.now seen.now share.old step result desk.old commit.old desk.new commit.new }
-    ensures kind { Fits (OnDesk step) result }
-    ensures share { share.new ≡ share_then desk.old share.old step result }
-{
     match step {
-        DeskStep::BeginCommit(most) => asking::begin_commit(alloc, desk, commit, seen, most),
-        _ => asking::ask(alloc, desk, commit, share, held, step),
+        DeskStep::BeginCommit(most) => {
+            let got = asking::begin_commit(alloc, desk, commit, seen, most);
+            see_begun(got, &*commit);
+            got
+        }
+        _ => {
+            let got = asking::ask(alloc, desk, commit, share, held, step);
+            see_begun(got, &*commit);
+            got
+        }
     }
 }
 
@@ -84,6 +69,16 @@ pub(crate) fn see_commit(commit: &Option<RunningCommit>)
 {
     if let Some(running) = commit {
         see_whole(running.image().nodes.as_slice());
+    }
+}
+
+/// So has the image of a commit that has begun. It does nothing.
+fn see_begun(got: Got, commit: &Option<RunningCommit>)
+    ensures { (nodes : ℕ) → got ≡ Began nodes → IfSome commit.now (λ running. AreWhole running.image) }
+{
+    match got {
+        Got::Began(_) => see_commit(commit),
+        _ => {}
     }
 }
 

@@ -152,58 +152,38 @@ pub(crate) fn blocks_left(alloc: Global, orders: &[Order]) -> Result<Vec<OBlock>
     Ok(blocks)
 }
 
-/// What the orders of an actor are after a step of its job that is done, where that changes them. `Memory` where there is none for them.
+/// What the orders of an actor, and those that wait for a flush of it, are after a step of its job that is done, where that changes
+/// them. `Memory` where there is none for them.
 pub(crate) fn orders_after(
     alloc: Global,
     orders: &[Order],
     awaiting: &[Order],
     job: &Job,
     want: Want,
-) -> Result<Option<Vec<Order>>, Refusal>
-    ensures ok { IfOk result (λ left. IsLeft orders.now left (orders_then orders.now awaiting.now job.now want Done)) }
+) -> Result<(Option<Vec<Order>>, Option<Vec<Order>>), Refusal>
+    ensures orders { IfOk result (λ left. IsLeft orders.now left.0 (orders_then orders.now awaiting.now job.now want Done)) }
+    ensures awaiting { IfOk result (λ left. IsLeft awaiting.now left.1 (awaiting_then orders.now awaiting.now job.now want Done)) }
     ensures refusal { IfErr result (λ refusal. refusal ≡ Memory) }
 {
     match want {
-        Want::Desk(DeskStep::Map(block, _)) => Ok(Some(without(alloc, orders, block)?)),
-        Want::Desk(DeskStep::Unmap(block)) => Ok(Some(without(alloc, orders, block)?)),
-        Want::Desk(DeskStep::ReleaseOrder(block)) => match job {
-            Job::Flush => Ok(None),
-            _ => Ok(Some(without(alloc, orders, block)?)),
-        },
-        Want::End(Answer::Done) => match job {
-            Job::Flush => Ok(Some(joined(alloc, awaiting, orders)?)),
-            _ => Ok(None),
-        },
-        _ => Ok(None),
-    }
-}
-
-/// What the orders that wait for a flush of an actor are after a step of its job that is done, where that changes them. `Memory` where
-/// there is none for them.
-pub(crate) fn awaiting_after(
-    alloc: Global,
-    orders: &[Order],
-    awaiting: &[Order],
-    job: &Job,
-    want: Want,
-) -> Result<Option<Vec<Order>>, Refusal>
-    ensures ok { IfOk result (λ left. IsLeft awaiting.now left (awaiting_then orders.now awaiting.now job.now want Done)) }
-    ensures refusal { IfErr result (λ refusal. refusal ≡ Memory) }
-{
-    match want {
+        Want::Desk(DeskStep::Map(block, _)) => Ok((Some(without(alloc, orders, block)?), None)),
         Want::Desk(DeskStep::Unmap(block)) => {
-            let left = replacing(alloc, orders, block)?;
-            Ok(Some(joined(alloc, left.as_slice(), awaiting)?))
+            let replaced = replacing(alloc, orders, block)?;
+            let awaiting = joined(alloc, replaced.as_slice(), awaiting)?;
+            Ok((Some(without(alloc, orders, block)?), Some(awaiting)))
         }
         Want::Desk(DeskStep::ReleaseOrder(block)) => match job {
-            Job::Flush => Ok(Some(without(alloc, awaiting, block)?)),
-            _ => Ok(None),
+            Job::Flush => Ok((None, Some(without(alloc, awaiting, block)?))),
+            _ => Ok((Some(without(alloc, orders, block)?), None)),
         },
         Want::End(Answer::Done) => match job {
-            Job::Flush => Ok(Some(Vec::new(alloc))),
-            _ => Ok(None),
+            Job::Flush => Ok((
+                Some(joined(alloc, awaiting, orders)?),
+                Some(Vec::new(alloc)),
+            )),
+            _ => Ok((None, None)),
         },
-        _ => Ok(None),
+        _ => Ok((None, None)),
     }
 }
 

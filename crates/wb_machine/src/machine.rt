@@ -5,7 +5,7 @@ ghost use Rattle.std.specs.declared.alloc.Global.{Global};
 ghost use Rattle.wb_types.specs.declared.refusal.Refusal.TheVariants.{Memory};
 ghost use Rattle.wb_promise.specs.Headline.{shown};
 ghost use Rattle.wb_machine.specs.declared.machine.TheConstants.{ACTORS};
-ghost use Rattle.wb_machine.specs.Life.{GoesOn, Happens, IsReached, IsThere, shape_of, state_of};
+ghost use Rattle.wb_machine.specs.Life.{GoesOn, Happens, IsReached, shape_of, state_of};
 ghost use Rattle.wb_machine.specs.Serving.{IsPhaseServed};
 ghost use Rattle.wb_machine.specs.Showing.{opened_of};
 ghost use Rattle.wb_machine.specs.Standing.{IsSoundPhase};
@@ -55,7 +55,7 @@ impl Drop for Machine {
 
 impl Model for Machine {
     ghost use Rattle.wb_machine.specs.declared.machine.TheConstants.{ACTORS};
-    ghost use Rattle.wb_machine.specs.Life.{Life, IsReached, IsThere, shape_of, state_of};
+    ghost use Rattle.wb_machine.specs.Life.{Life, IsReached, shape_of, state_of};
     ghost use Rattle.wb_machine.specs.Standing.{IsSoundPhase};
 
     ghost Value = { Life };
@@ -63,7 +63,7 @@ impl Model for Machine {
     ghost view = { λ m. record { shape = shape_of m.geometry ACTORS; trace = m.trace.records; state = state_of ACTORS m.devices m.phase } };
 
     ghost invariant = { λ m. IsReached (record { shape = shape_of m.geometry ACTORS; trace = m.trace.records; state = state_of ACTORS m.devices m.phase })
-        × (IsThere ACTORS m.phase × IsSoundPhase m.geometry ACTORS m.devices m.phase) };
+        × IsSoundPhase m.geometry ACTORS m.devices m.phase };
 }
 
 impl Machine {
@@ -169,10 +169,8 @@ fn happen(
     phase: &mut Phase,
     event: &Event,
 ) -> Result<Outcome, Refusal>
-    requires there { IsThere ACTORS phase.old }
     requires sound { IsSoundPhase geometry.now ACTORS devices.old phase.old }
     requires served { IsPhaseServed geometry.now devices.old phase.old }
-    ensures there { IsThere ACTORS phase.new }
     ensures sound { IsSoundPhase geometry.now ACTORS devices.new phase.new }
     ensures ok { IfOk result (λ done. Happens (shape_of geometry.now ACTORS) (state_of ACTORS devices.old phase.old) event.now done.what done.read.items (state_of ACTORS devices.new phase.new)) }
     ensures err { OnErr result (state_of ACTORS devices.new phase.new ≡ state_of ACTORS devices.old phase.old) }

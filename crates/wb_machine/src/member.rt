@@ -1,6 +1,6 @@
 //! What an actor is at over a target that stands, and its steps.
 
-ghost use Rattle.std.specs.Prelude.{◌≡◌, ◌<◌, List, length, true, is_some, IfOk, IfErr, OnOk, OnErr};
+ghost use Rattle.std.specs.Prelude.{◌≡◌, ◌<◌, if◌then◌else◌, List, [], length, true, is_some, IfOk, IfErr, OnOk, OnErr};
 ghost use Rattle.wb_types.specs.declared.number.OBlock.{OBlock as OBlockValue};
 ghost use Rattle.wb_types.specs.declared.refusal.Refusal.TheVariants.{Memory};
 ghost use Rattle.wb_words.specs.SharedWords.{flag};
@@ -18,9 +18,7 @@ ghost use Rattle.wb_machine.specs.Serving.{CanStep, ResultComes, FailsOrRests, G
 ghost use Rattle.wb_machine.specs.Standing.{IsRoomy};
 
 use crate::asking::awaits;
-use crate::keeping::{
-    awaiting_after, keep, keeps_migration, keeps_replacement, orders_after, see_desk,
-};
+use crate::keeping::{keep, keeps_migration, keeps_replacement, orders_after, see_desk};
 use crate::limits::most_for;
 use crate::moving::fail_step;
 use crate::outcome::Outcome;
@@ -236,8 +234,7 @@ impl Member {
         let copies = is_copied(job, want);
         let orders = self.orders.as_slice();
         let awaiting = self.awaiting.as_slice();
-        let orders_then = orders_after(alloc, orders, awaiting, job, want)?;
-        let awaiting_then = awaiting_after(alloc, orders, awaiting, job, want)?;
+        let (orders_then, awaiting_then) = orders_after(alloc, orders, awaiting, job, want)?;
         let held = held_for(job, orders, awaiting);
         let seen = self.seen.as_slice();
         let buffer = self.buffer.as_slice();
@@ -248,12 +245,9 @@ impl Member {
         self.see(want, got);
         self.go_on(want, got);
         self.change_orders(got, orders_then, awaiting_then);
+        let noted = self.keep_read(alloc, copies, read);
         let what = What::Stepped(want, got);
-        if copies {
-            self.take_read(read);
-            return Ok(Outcome::told(alloc, what));
-        }
-        Ok(Outcome { what, read })
+        Ok(Outcome { what, read: noted })
     }
 
     /// What a step of a suspend shows of a seal is noted.
@@ -311,16 +305,21 @@ impl Member {
         }
     }
 
-    /// What it writes next.
-    fn take_read(&mut self, read: Vec<Content>)
+    /// What was read is kept where it is written next, and is told else.
+    fn keep_read(&mut self, alloc: Global, copies: bool, read: Vec<Content>) -> Vec<Content>
+        ensures told { result.items ≡ (if copies then [] else read.items) }
         ensures task { self.new.task ≡ self.old.task }
         ensures orders { self.new.orders ≡ self.old.orders }
         ensures awaiting { self.new.awaiting ≡ self.old.awaiting }
-        ensures buffer { self.new.buffer ≡ read.items }
+        ensures buffer { self.new.buffer ≡ (if copies then read.items else self.old.buffer) }
         ensures seen { self.new.seen ≡ self.old.seen }
         ensures share { self.new.share ≡ self.old.share }
     {
+        if !copies {
+            return read;
+        }
         self.buffer = read;
+        Vec::new(alloc)
     }
 
     /// The next step of its task, a step on a device, which fails as the choice says. `Memory` where what lands wants more than

@@ -14,9 +14,8 @@ ghost use Rattle.wb_meta.specs.declared.read_steps.ReadSteps.{ReadSteps as Steps
 ghost use Rattle.wb_tasks.specs.declared.step.Want.TheVariants.{Device};
 ghost use Rattle.wb_devices.specs.Moving.{device_in};
 ghost use Rattle.wb_devices.specs.Clean.{DidTell};
-ghost use Rattle.wb_runs.specs.Laws.{FindsSizes};
 ghost use Rattle.wb_promise.specs.Effects.{led};
-ghost use Rattle.wb_promise.specs.Happenings.{AreWhole, IsGeometryAsked};
+ghost use Rattle.wb_promise.specs.Happenings.{AreWhole};
 ghost use Rattle.wb_promise.specs.States.{with_device};
 ghost use Rattle.wb_promise.specs.declared.event.Event.TheVariants.{Step};
 ghost use Rattle.wb_promise.specs.declared.event.What.TheVariants.{Stepped};
@@ -25,7 +24,7 @@ ghost use Rattle.wb_machine.specs.declared.phase.Phase.TheVariants.{Underway};
 ghost use Rattle.wb_machine.specs.Life.{FailsOn, Happens, WasPut, commit_failed, commit_synced, contents_of, device_step_of, made_synced, reading_synced, reading_failed, shape_of, state_of};
 ghost use Rattle.wb_machine.specs.Making.{HasMade, MadeBy, ends_reading, reading_of};
 ghost use Rattle.wb_machine.specs.Serving.{ComesNext, FindsItsRoot, IsPut, PutComes, SyncComes};
-ghost use Rattle.wb_machine.specs.Standing.{HasReadAll, IsReading, StandsAt};
+ghost use Rattle.wb_machine.specs.Standing.{HasReadAll, ReadsOn, StandsAt};
 
 use crate::asked::Asked;
 use crate::asking::see_commit;
@@ -149,13 +148,8 @@ impl Opener {
 
     /// Reads the metadata sector that comes next, as the next step, where at most so many may follow.
     fn read(&mut self, geometry: &Geometry, metadata: &mut MemDisk, left: u32) -> Got
-        requires there { self.old.asked.actor < ACTORS }
         requires next { want self.old.task ≡ Device (ReadMetadata left) }
-        requires none { self.old.made ≡ None }
-        requires asks { IsGeometryAsked geometry.now self.old.asked.second self.old.opening.geometry }
-        requires size { length metadata.old.contents ≡ geometry.now.meta_sectors }
-        requires reads { IsReading geometry.now left self.old.opening.reading self.old.opening.commit }
-        requires finds { (was : Steps GlobalValue) → self.old.opening.reading ≡ Some was → FindsSizes geometry.now was metadata.old.contents }
+        requires reads { ReadsOn geometry.now ACTORS left self.old metadata.old.contents }
         ensures contents { metadata.new.contents ≡ metadata.old.contents }
         ensures asked { self.new.asked ≡ self.old.asked }
         ensures task { self.new.task ≡ after self.old.task result }
@@ -173,12 +167,7 @@ impl Opener {
     /// Tells the opening what stands in the metadata sector that comes next. Where all was read, what the answer wants is made; the
     /// opening is refused where there is no memory for it, and in passthrough where what was read was not left clean.
     fn tell(&mut self, geometry: &Geometry, metadata: &mut MemDisk, left: u32) -> Got
-        requires there { self.old.asked.actor < ACTORS }
-        requires none { self.old.made ≡ None }
-        requires asks { IsGeometryAsked geometry.now self.old.asked.second self.old.opening.geometry }
-        requires size { length metadata.old.contents ≡ geometry.now.meta_sectors }
-        requires reads { IsReading geometry.now left self.old.opening.reading self.old.opening.commit }
-        requires finds { (was : Steps GlobalValue) → self.old.opening.reading ≡ Some was → FindsSizes geometry.now was metadata.old.contents }
+        requires reads { ReadsOn geometry.now ACTORS left self.old metadata.old.contents }
         ensures contents { metadata.new.contents ≡ metadata.old.contents }
         ensures asked { self.new.asked ≡ self.old.asked }
         ensures task { self.new.task ≡ self.old.task }

@@ -5,7 +5,7 @@ ghost use Rattle.wb_types.specs.declared.refusal.Refusal.TheVariants.{Memory};
 ghost use Rattle.wb_promise.specs.declared.event.Event.TheVariants.{Start, Step, FaultStep};
 ghost use Rattle.wb_machine.specs.declared.machine.TheConstants.{ACTORS};
 ghost use Rattle.wb_machine.specs.declared.phase.Phase.TheVariants.{Standing};
-ghost use Rattle.wb_machine.specs.Life.{Happens, IsThere, contents_of, shape_of, starts_beside, state_of, suits_mode, wants_target};
+ghost use Rattle.wb_machine.specs.Life.{Happens, contents_of, shape_of, starts_beside, state_of, suits_mode, wants_target};
 ghost use Rattle.wb_machine.specs.Serving.{IsPhaseServed};
 ghost use Rattle.wb_machine.specs.Standing.{IsSoundPhase};
 
@@ -22,8 +22,8 @@ use wb_disk::{CrashChoice, MemDisk};
 use wb_promise::{Job, What};
 use wb_types::{Geometry, Mode, Refusal};
 
-/// An actor gets a job, if it has none and the job may be started. `Memory` where there is no room for an order; then nothing has
-/// changed.
+/// An actor gets a job, if it has none and the job may be started; where no target stands, one that wants a target is skipped. `Memory`
+/// where there is no room for an order; then nothing has changed.
 pub(crate) fn start(
     geometry: &Geometry,
     alloc: Global,
@@ -32,38 +32,15 @@ pub(crate) fn start(
     actor: usize,
     job: &Job,
 ) -> Result<What, Refusal>
-    requires there { IsThere ACTORS phase.old }
     requires sound { IsSoundPhase geometry.now ACTORS devices.now phase.old }
-    ensures there { IsThere ACTORS phase.new }
     ensures sound { IsSoundPhase geometry.now ACTORS devices.now phase.new }
     ensures ok { IfOk result (λ what. Happens (shape_of geometry.now ACTORS) (state_of ACTORS devices.now phase.old) (Start actor job.now) what [] (state_of ACTORS devices.now phase.new)) }
     ensures err { OnErr result (state_of ACTORS devices.now phase.new ≡ state_of ACTORS devices.now phase.old) }
     ensures refusal { IfErr result (λ refusal. refusal ≡ Memory) }
 {
-    if wants_target(job) {
-        return start_there(geometry, alloc, devices, phase, actor, job);
+    if !wants_target(job) {
+        return Ok(open(geometry, alloc, devices, phase, actor, job));
     }
-    Ok(open(geometry, alloc, devices, phase, actor, job))
-}
-
-/// The same of a job that wants a target: where none stands it is skipped.
-fn start_there(
-    geometry: &Geometry,
-    alloc: Global,
-    devices: &Devices<MemDisk>,
-    phase: &mut Phase,
-    actor: usize,
-    job: &Job,
-) -> Result<What, Refusal>
-    requires there { IsThere ACTORS phase.old }
-    requires sound { IsSoundPhase geometry.now ACTORS devices.now phase.old }
-    requires over { wants_target job.now ≡ true }
-    ensures there { IsThere ACTORS phase.new }
-    ensures sound { IsSoundPhase geometry.now ACTORS devices.now phase.new }
-    ensures ok { IfOk result (λ what. Happens (shape_of geometry.now ACTORS) (state_of ACTORS devices.now phase.old) (Start actor job.now) what [] (state_of ACTORS devices.now phase.new)) }
-    ensures err { OnErr result (state_of ACTORS devices.now phase.new ≡ state_of ACTORS devices.now phase.old) }
-    ensures refusal { IfErr result (λ refusal. refusal ≡ Memory) }
-{
     let Phase::Standing(target, members) = phase else {
         return Ok(What::Skipped);
     };
@@ -80,10 +57,8 @@ fn start_over(
     actor: usize,
     job: &Job,
 ) -> Result<What, Refusal>
-    requires there { IsThere ACTORS (Standing target.old members.old) }
     requires sound { IsSoundPhase geometry.now ACTORS devices.now (Standing target.old members.old) }
     requires over { wants_target job.now ≡ true }
-    ensures there { IsThere ACTORS (Standing target.new members.new) }
     ensures sound { IsSoundPhase geometry.now ACTORS devices.now (Standing target.new members.new) }
     ensures ok { IfOk result (λ what. Happens (shape_of geometry.now ACTORS) (state_of ACTORS devices.now (Standing target.old members.old)) (Start actor job.now) what [] (state_of ACTORS devices.now (Standing target.new members.new))) }
     ensures err { OnErr result ((target.new ≡ target.old) × (members.new.items ≡ members.old.items)) }
@@ -139,10 +114,8 @@ pub(crate) fn step(
     phase: &mut Phase,
     actor: usize,
 ) -> Result<Outcome, Refusal>
-    requires there { IsThere ACTORS phase.old }
     requires sound { IsSoundPhase geometry.now ACTORS devices.old phase.old }
     requires served { IsPhaseServed geometry.now devices.old phase.old }
-    ensures there { IsThere ACTORS phase.new }
     ensures sound { IsSoundPhase geometry.now ACTORS devices.new phase.new }
     ensures ok { IfOk result (λ done. Happens (shape_of geometry.now ACTORS) (state_of ACTORS devices.old phase.old) (Step actor) done.what done.read.items (state_of ACTORS devices.new phase.new)) }
     ensures err { OnErr result (state_of ACTORS devices.new phase.new ≡ state_of ACTORS devices.old phase.old) }
@@ -164,10 +137,8 @@ fn step_over(
     members: &mut Vec<Member>,
     actor: usize,
 ) -> Result<Outcome, Refusal>
-    requires there { IsThere ACTORS (Standing target.old members.old) }
     requires sound { IsSoundPhase geometry.now ACTORS devices.old (Standing target.old members.old) }
     requires served { IsPhaseServed geometry.now devices.old (Standing target.old members.old) }
-    ensures there { IsThere ACTORS (Standing target.new members.new) }
     ensures sound { IsSoundPhase geometry.now ACTORS devices.new (Standing target.new members.new) }
     ensures ok { IfOk result (λ done. Happens (shape_of geometry.now ACTORS) (state_of ACTORS devices.old (Standing target.old members.old)) (Step actor) done.what done.read.items (state_of ACTORS devices.new (Standing target.new members.new))) }
     ensures err { OnErr result ((contents_of devices.new ≡ contents_of devices.old) × (target.new ≡ target.old) × (members.new.items ≡ members.old.items)) }
@@ -190,10 +161,8 @@ pub(crate) fn falter(
     actor: usize,
     choice: &CrashChoice,
 ) -> Result<What, Refusal>
-    requires there { IsThere ACTORS phase.old }
     requires sound { IsSoundPhase geometry.now ACTORS devices.old phase.old }
     requires served { IsPhaseServed geometry.now devices.old phase.old }
-    ensures there { IsThere ACTORS phase.new }
     ensures sound { IsSoundPhase geometry.now ACTORS devices.new phase.new }
     ensures ok { IfOk result (λ what. Happens (shape_of geometry.now ACTORS) (state_of ACTORS devices.old phase.old) (FaultStep actor choice.now) what [] (state_of ACTORS devices.new phase.new)) }
     ensures err { OnErr result (state_of ACTORS devices.new phase.new ≡ state_of ACTORS devices.old phase.old) }
@@ -215,10 +184,8 @@ fn fail_over(
     actor: usize,
     choice: &CrashChoice,
 ) -> Result<What, Refusal>
-    requires there { IsThere ACTORS (Standing target.old members.old) }
     requires sound { IsSoundPhase geometry.now ACTORS devices.old (Standing target.old members.old) }
     requires served { IsPhaseServed geometry.now devices.old (Standing target.old members.old) }
-    ensures there { IsThere ACTORS (Standing target.new members.new) }
     ensures sound { IsSoundPhase geometry.now ACTORS devices.new (Standing target.new members.new) }
     ensures ok { IfOk result (λ what. Happens (shape_of geometry.now ACTORS) (state_of ACTORS devices.old (Standing target.old members.old)) (FaultStep actor choice.now) what [] (state_of ACTORS devices.new (Standing target.new members.new))) }
     ensures err { OnErr result ((contents_of devices.new ≡ contents_of devices.old) × (target.new ≡ target.old) × (members.new.items ≡ members.old.items)) }

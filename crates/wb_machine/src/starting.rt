@@ -32,10 +32,8 @@ pub(crate) fn open(
     actor: usize,
     job: &Job,
 ) -> What
-    requires there { IsThere ACTORS phase.old }
     requires sound { IsSoundPhase geometry.now ACTORS devices.now phase.old }
     requires opening { wants_target job.now ≡ false }
-    ensures there { IsThere ACTORS phase.new }
     ensures sound { IsSoundPhase geometry.now ACTORS devices.now phase.new }
     ensures does { Happens (shape_of geometry.now ACTORS) (state_of ACTORS devices.now phase.old) (Start actor job.now) result [] (state_of ACTORS devices.now phase.new) }
 {

@@ -4,7 +4,7 @@ ghost use Rattle.std.specs.Prelude.{◌≡◌, [], false, IfOk, IfErr, OnErr};
 ghost use Rattle.wb_types.specs.declared.refusal.Refusal.TheVariants.{Memory};
 ghost use Rattle.wb_promise.specs.declared.event.Event.TheVariants.{Step, FaultStep};
 ghost use Rattle.wb_machine.specs.declared.machine.TheConstants.{ACTORS};
-ghost use Rattle.wb_machine.specs.Life.{Happens, IsThere, answered, contents_of, device_step_of, shape_of, stands, stands_by, state_of};
+ghost use Rattle.wb_machine.specs.Life.{Happens, answered, contents_of, device_step_of, shape_of, stands, stands_by, state_of};
 ghost use Rattle.wb_machine.specs.Serving.{IsPhaseServed};
 ghost use Rattle.wb_machine.specs.Standing.{IsSoundPhase};
 
@@ -26,11 +26,9 @@ pub(crate) fn step_opening(
     phase: &mut Phase,
     actor: usize,
 ) -> Result<What, Refusal>
-    requires there { IsThere ACTORS phase.old }
     requires sound { IsSoundPhase geometry.now ACTORS devices.old phase.old }
     requires served { IsPhaseServed geometry.now devices.old phase.old }
     requires no_target { stands phase.old ≡ false }
-    ensures there { IsThere ACTORS phase.new }
     ensures sound { IsSoundPhase geometry.now ACTORS devices.new phase.new }
     ensures ok { IfOk result (λ what. Happens (shape_of geometry.now ACTORS) (state_of ACTORS devices.old phase.old) (Step actor) what [] (state_of ACTORS devices.new phase.new)) }
     ensures err { OnErr result ((contents_of devices.new ≡ contents_of devices.old) × (phase.new ≡ phase.old)) }
@@ -91,10 +89,8 @@ pub(crate) fn fail_opening(
     actor: usize,
     choice: &CrashChoice,
 ) -> Result<What, Refusal>
-    requires there { IsThere ACTORS phase.old }
     requires sound { IsSoundPhase geometry.now ACTORS devices.old phase.old }
     requires no_target { stands phase.old ≡ false }
-    ensures there { IsThere ACTORS phase.new }
     ensures sound { IsSoundPhase geometry.now ACTORS devices.new phase.new }
     ensures ok { IfOk result (λ what. Happens (shape_of geometry.now ACTORS) (state_of ACTORS devices.old phase.old) (FaultStep actor choice.now) what [] (state_of ACTORS devices.new phase.new)) }
     ensures err { OnErr result ((contents_of devices.new ≡ contents_of devices.old) × (phase.new ≡ phase.old)) }

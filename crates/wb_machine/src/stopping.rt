@@ -18,7 +18,6 @@ use wb_types::Dev;
 /// apply to one of them.
 pub(crate) fn stop(devices: &mut Devices<MemDisk>, phase: &mut Phase, choice: &CrashChoice) -> What
     requires { IsThere ACTORS phase.old }
-    ensures there { IsThere ACTORS phase.new }
     ensures sound { (geometry : Geometry) → IsSoundPhase geometry ACTORS devices.old phase.old → IsSoundPhase geometry ACTORS devices.new phase.new }
     ensures does { (shape : Shape) → Happens shape (state_of ACTORS devices.old phase.old) (Stop choice.now) result [] (state_of ACTORS devices.new phase.new) }
 {

@@ -22,7 +22,7 @@ returns-then-opener-actor-clause-ok c = rw c.in-Underway.is (passes (shape_of c.
 
 pub returns-then-not-fails-clause-ok : goal.returns-then-not-fails-clause-ok
 returns-then-not-fails-clause-ok c =
-    let inside = subst (λ o. IsThere ACTORS o) c.in-Underway.is c.requires.there in
+    let inside = subst (λ o. IsThere ACTORS o) c.in-Underway.is c.requires.sound.there in
     let kind = sym c.device_step_of.ensures ∙ c.in-Some.is in
     let next = is_device_step c.want-want.result c.in-Some.step kind in
     let kept = on_false c.in_ok-fails.fails c.if-not-fails.true c.in_ok-fails.ensures.kept in
@@ -31,7 +31,7 @@ returns-then-not-fails-clause-ok c =
 
 pub returns-clause-ok : goal.returns-clause-ok
 returns-clause-ok c =
-    let inside = subst (λ o. IsThere ACTORS o) c.in-Underway.is c.requires.there in
+    let inside = subst (λ o. IsThere ACTORS o) c.in-Underway.is c.requires.sound.there in
     let kind = sym c.device_step_of.ensures ∙ c.in-Some.is in
     let next = is_device_step c.want-want.result c.in-Some.step kind in
     let shape = shape_of c.args.geometry.now ACTORS in
@@ -51,6 +51,7 @@ returns-clause-sound c =
     let opener = c.in-Underway.opener in
     let step = c.in-Some.step in
     record {
+      there = rw c.fail.ensures.asked (subst (λ o. IsThere ACTORS o) c.in-Underway.is c.requires.sound.there);
       whole = failed_size opener.opening.commit step c.args.choice.now (contents_of c.args.devices.now) (contents_of c.fail_step.new.devices) failed ∙ c.requires.sound.whole;
       stands = failed_stands c.args.geometry.now ACTORS opener c.fail.new.self step stands coming c.fail.ensures.asked c.fail.ensures.task c.fail.ensures.geometry;
     }
@@ -58,7 +59,7 @@ returns-clause-sound c =
 pub returns-in_default-device_step_of-clause-ok : goal.returns-in_default-device_step_of-clause-ok
 returns-in_default-device_step_of-clause-ok c =
     let opener = c.in-Underway.opener in
-    let inside = subst (λ o. IsThere ACTORS o) c.in-Underway.is c.requires.there in
+    let inside = subst (λ o. IsThere ACTORS o) c.in-Underway.is c.requires.sound.there in
     let stands = subst (λ o. StandsSo c.args.geometry.now ACTORS o) c.in-Underway.is c.requires.sound.stands in
     let none = ap device_step_of (sym c.want-want.ensures) ∙ sym c.device_step_of.ensures ∙ c.in_default-device_step_of.is in
     rw (c.in-Underway.is, ← c.if-opener-actor.false) (passes (shape_of c.args.geometry.now ACTORS) (state_of ACTORS c.args.devices.now (Underway opener)) (FaultStep opener.asked.actor c.args.choice.now) _

@@ -25,7 +25,7 @@ invariant_of-self-2 c =
     let m = c.self.inside in
     let r : Record = record { event = c.args.event; what = c.in_ok-what.field-0.what; read = c.in_ok-what.field-0.read } in
     let told : c.push_reserved.new.self.records ≡ m.trace.records ++ r ∷ [] = c.push_reserved.ensures ∙ ap (λ rs. rs ++ r ∷ []) c.reserve.ensures.records in
-    (reached (shape_of m.geometry ACTORS) m.trace.records c.push_reserved.new.self.records (state_of ACTORS m.devices m.phase) (state_of ACTORS c.happen.new.devices c.happen.new.phase) r c.in_ok-what.ensures.ok told c.self.invariant.0, (c.in_ok-what.ensures.there, c.in_ok-what.ensures.sound))
+    (reached (shape_of m.geometry ACTORS) m.trace.records c.push_reserved.new.self.records (state_of ACTORS m.devices m.phase) (state_of ACTORS c.happen.new.devices c.happen.new.phase) r c.in_ok-what.ensures.ok told c.self.invariant.0, c.in_ok-what.ensures.sound)
 
 pub returns-clause-ok : goal.returns-clause-ok
 returns-clause-ok c =
