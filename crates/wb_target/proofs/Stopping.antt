@@ -8,7 +8,7 @@ use Rattle.wb_types.specs.declared.refusal.Refusal.{Refusal}
 use Rattle.wb_types.specs.declared.refusal.Refusal.TheVariants.{Io}
 use Rattle.wb_disk.specs.Device.{History, newest, only, synced}
 use Rattle.wb_tasks.specs.Tables.{TaskJob, Opening as OpeningJob}
-use Rattle.wb_tasks.specs.Plan.{Plan, table, want, after, node_writes, opening_root, Fits, IsStep}
+use Rattle.wb_tasks.specs.Plan.{Plan, table, want, after, node_writes, opening_root, Fits}
 use Rattle.wb_tasks.specs.Run.{IsRunOf, Leads}
 use Rattle.wb_tasks.specs.declared.step.Answer.{Answer}
 use Rattle.wb_tasks.specs.declared.step.Answer.TheVariants.{Done as Finished, Refused as Refuses}
@@ -24,7 +24,8 @@ use Rattle.wb_devices.specs.Outcomes.{IsRefused}
 use Rattle.wb_devices.specs.declared.devices.Devices.{Devices}
 use Rattle.wb_devices.specs.declared.opening_stage.OpeningStage.{OpeningStage}
 use Rattle.wb_devices.proofs.Ending.{has_ended}
-use Rattle.wb_target.specs.Making.{Begins, MakingGoesOn, IsNotMadeFor, is_due, writes_metadata}
+use Rattle.wb_port.proofs.Paths.{peel}
+use Rattle.wb_target.specs.Making.{PolicyStarts, MakingGoesOn, IsNotMadeFor, is_due, writes_metadata}
 use Rattle.wb_target.specs.NotOpened.{AreOnlySynced}
 use Rattle.wb_target.specs.declared.office.Office.{Office}
 use Rattle.wb_target.specs.declared.making.MakingStage.{MakingStage}
@@ -49,10 +50,7 @@ there_no_cause made office there cause is = absurd (let wrong : Some (Ok office)
 not_finished : (job : TaskJob) (refusal : Refusal) (steps : List (Want × Got)) → IsRunOf (record { job = job; steps = []; answer = Finished }) steps (Refuses refusal) → ⊥
 not_finished job refusal steps r = let ends = ends_so job Finished (Refuses refusal) steps r in let wrong : Finished ≡ Refuses refusal = ends.1 in cc
 
-module _ {D P : Type 0} (tells : Type 0) (size : D → ℕ) (contents : D → List History) (faults : D → ℕ) (starts : Begins P) (with_setting : P → Key → ℕ → Option P) (keys : List (Key × ℕ)) (first : Devices D) where
-  abbrev Led : OpeningStage D → Want → Got → OpeningStage D → Type 0
-  Led = LedOpening tells size contents faults
-
+module _ {D P : Type 0} (tells : Type 0) (size : D → ℕ) (contents : D → List History) (faults : D → ℕ) (starts : PolicyStarts P) (with_setting : P → Key → ℕ → Option P) (keys : List (Key × ℕ)) (first : Devices D) where
   abbrev Makes : MakingStage D P → Want → Got → MakingStage D P → Type 0
   Makes = MakingGoesOn tells size contents faults starts with_setting
 
@@ -81,39 +79,17 @@ module _ {D P : Type 0} (tells : Type 0) (size : D → ℕ) (contents : D → Li
   record Alone (s : Plan) (old : OpeningStage D) (last : MakingStage D P) (refusal : Refusal) : Type 0 where
     steps : List (Want × Got)
     run : IsRunOf s steps (Refuses refusal)
-    leads : Leads Led old steps last.stage
+    leads : Leads (LedOpening tells size contents faults) old steps last.stage
     none : is_none last.made ≡ true
 
   abbrev Ends : Plan → OpeningStage D → MakingStage D P → Refusal → Type 0
   Ends s old last refusal = Alone s old last refusal ⊎ Failed last refusal ⊎ NotMade last refusal
 
-  step_first : (s : Plan) (old mid : OpeningStage D) (got : Got) (last : MakingStage D P) (refusal : Refusal) → Fits (want s) got → Led old (want s) got mid → Ends (after s got) mid last refusal → Ends s old last refusal
+  step_first : (s : Plan) (old mid : OpeningStage D) (got : Got) (last : MakingStage D P) (refusal : Refusal) → Fits (want s) got → LedOpening tells size contents faults old (want s) got mid → Ends (after s got) mid last refusal → Ends s old last refusal
   step_first s old mid got last refusal f led ends = elim ends [
     | inl a ↦ inl (record { steps = (want s, got) ∷ a.steps; run = (refl, f, a.run); leads = (mid, led, a.leads); none = a.none })
     | inr other ↦ inr other
   ]
-
-  -- a step that is to be taken is taken by a run
-  record Taken (s : Plan) (m last : MakingStage D P) (refusal : Refusal) : Type 0 where
-    got : Got
-    mid : MakingStage D P
-    rest : List (Want × Got)
-    fits : Fits (want s) got
-    makes : Makes m (want s) got mid
-    run : IsRunOf (after s got) rest (Refuses refusal)
-    leads : Leads Makes mid rest last
-
-  taken : (s : Plan) (m : MakingStage D P) (steps : List (Want × Got)) (last : MakingStage D P) (refusal : Refusal) → IsStep (want s) → IsRunOf s steps (Refuses refusal) → Leads Makes m steps last → Taken s m last refusal
-  taken s m [] last refusal is r l = absurd (subst IsStep r is)
-  taken s m (step ∷ steps) last refusal is r l = record {
-    got = step.1;
-    mid = l.0;
-    rest = steps;
-    fits = subst (λ (w : Want). Fits w step.1) r.0 r.1;
-    makes = subst (λ (w : Want). Makes m w step.1 l.0) r.0 l.1;
-    run = r.2;
-    leads = l.2;
-  }
 
   -- where the plan has no step left, the last stage is this one
   is_last : (job : TaskJob) (a : Answer) (m last : MakingStage D P) (refusal : Refusal) (steps : List (Want × Got)) → IsRunOf (record { job = job; steps = []; answer = a }) steps (Refuses refusal) → Leads Makes m steps last → m ≡ last
@@ -133,7 +109,7 @@ module _ {D P : Type 0} (tells : Type 0) (size : D → ℕ) (contents : D → Li
 
   -- a step that writes nothing
   record Passes (m mid : MakingStage D P) (w : Want) (got : Got) : Type 0 where
-    led : Led m.stage w got mid.stage
+    led : LedOpening tells size contents faults m.stage w got mid.stage
     waits : Waits mid
 
   passes : (m mid : MakingStage D P) (w : Want) (got : Got) → writes_metadata w ≡ false → Waits m → Makes m w got mid → Passes m mid w got
@@ -164,8 +140,8 @@ module _ {D P : Type 0} (tells : Type 0) (size : D → ℕ) (contents : D → Li
   putting : (left : ℕ) (ws : List Want) → AllPut ws → (m : MakingStage D P) (office : Office P) → m.made ≡ Some (Ok office) → (steps : List (Want × Got)) (last : MakingStage D P) (refusal : Refusal) → IsRunOf (to_come left ws) steps (Refuses refusal) → Leads Makes m steps last → Failed last refusal
   putting left [] all m office there steps last refusal r l = absurd (not_finished (OpeningJob left) refusal steps r)
   putting left (Device step ∷ ws) all m office there steps last refusal r l =
-      let next = taken (to_come left (Device step ∷ ws)) m steps last refusal tt r l in
-      let so = exact tells size contents faults starts with_setting m.stage.mode keys m next.mid (Device step) next.got (and_false (writes_metadata (Device step)) (is_none m.made) (none_less m.made (office, there))) next.makes in
+      let next = peel Makes (to_come left (Device step ∷ ws)) (Refuses refusal) steps m last tt r l in
+      let so = exact tells size contents faults starts with_setting m.stage.mode keys m next.mid (Device step) next.got (and_false (writes_metadata (Device step)) (is_none m.made) (none_less m.made (office, there))) next.did in
       elim (after_put left step ws next.got next.rest refusal all.0 next.fits next.run) [
         | inl well ↦ putting left ws all.1 next.mid office (so.same ∙ there) next.rest last refusal well.1 next.leads
         | inr failed ↦ record {
@@ -179,10 +155,10 @@ module _ {D P : Type 0} (tells : Type 0) (size : D → ℕ) (contents : D → Li
   put_first : (left : ℕ) (step : DeviceStep) (ws : List Want) → IsPut (Device step) → writes_metadata (Device step) ≡ true → AllPut ws → (m : MakingStage D P) → Waits m → Synced m.stage.devices → (steps : List (Want × Got)) (last : MakingStage D P) (refusal : Refusal)
       → IsRunOf (to_come left (Device step ∷ ws)) steps (Refuses refusal) → Leads Makes m steps last → Failed last refusal ⊎ NotMade last refusal
   put_first left step ws is writes all m h on steps last refusal r l =
-      let next = taken (to_come left (Device step ∷ ws)) m steps last refusal tt r l in
+      let next = peel Makes (to_come left (Device step ∷ ws)) (Refuses refusal) steps m last tt r l in
       let due : is_due m.made (Device step) ≡ true = ap (λ b. b && is_none m.made) writes ∙ h.none in
       let came = after_put left step ws next.got next.rest refusal is next.fits next.run in
-      elim next.makes.3 [
+      elim next.did.3 [
         | inl so ↦
             let made = so.3 due in
             elim came [
@@ -215,7 +191,7 @@ module _ {D P : Type 0} (tells : Type 0) (size : D → ℕ) (contents : D → Li
   rooting left m h on steps last refusal r l = inr (put_first left WriteRoot (Device (Sync Metadata) ∷ []) tt refl (tt, tt) m h on steps last refusal r l)
 
   -- a sync of what is only synced
-  synced_on : (m mid : MakingStage D P) → Led m.stage (Device (Sync Metadata)) Done mid.stage → Synced m.stage.devices → Synced mid.stage.devices
+  synced_on : (m mid : MakingStage D P) → LedOpening tells size contents faults m.stage (Device (Sync Metadata)) Done mid.stage → Synced m.stage.devices → Synced mid.stage.devices
   synced_on m mid led on = record {
     metadata = λ t. (led.4.2 t).0 ∙ ap synced (on.metadata t) ∙ synced_twice (contents first.metadata);
     copies = λ t. (ap contents led.0.0 ∙ (on.copies t).0, ap contents led.0.1 ∙ (on.copies t).1);
@@ -224,8 +200,8 @@ module _ {D P : Type 0} (tells : Type 0) (size : D → ℕ) (contents : D → Li
   writing : (left nodes : ℕ) (m : MakingStage D P) → Waits m → Synced m.stage.devices → (steps : List (Want × Got)) (last : MakingStage D P) (refusal : Refusal) → IsRunOf (to_come left (node_writes nodes 0 ++ Device (Sync Metadata) ∷ opening_root)) steps (Refuses refusal) → Leads Makes m steps last
       → Ends (to_come left (node_writes nodes 0 ++ Device (Sync Metadata) ∷ opening_root)) m.stage last refusal
   writing left zero m h on steps last refusal r l =
-      let next = taken (to_come left (Device (Sync Metadata) ∷ opening_root)) m steps last refusal tt r l in
-      write_none next.got next.mid next.rest next.fits next.makes next.run next.leads
+      let next = peel Makes (to_come left (Device (Sync Metadata) ∷ opening_root)) (Refuses refusal) steps m last tt r l in
+      write_none next.got next.mid next.rest next.fits next.did next.run next.leads
     where
       write_none : (got : Got) (mid : MakingStage D P) (rest : List (Want × Got)) → Fits (Device (Sync Metadata)) got → Makes m (Device (Sync Metadata)) got mid → IsRunOf (after (to_come left (Device (Sync Metadata) ∷ opening_root)) got) rest (Refuses refusal) → Leads Makes mid rest last
           → Ends (to_come left (Device (Sync Metadata) ∷ opening_root)) m.stage last refusal
@@ -240,7 +216,7 @@ module _ {D P : Type 0} (tells : Type 0) (size : D → ℕ) (contents : D → Li
 
   -- ---- reading
 
-  read_on : (more : ℕ) (got : Got) (m mid : MakingStage D P) → Led m.stage (Device (ReadMetadata more)) got mid.stage → Synced m.stage.devices → Synced mid.stage.devices
+  read_on : (more : ℕ) (got : Got) (m mid : MakingStage D P) → LedOpening tells size contents faults m.stage (Device (ReadMetadata more)) got mid.stage → Synced m.stage.devices → Synced mid.stage.devices
   read_on more got m mid led on = record {
     metadata = λ t. led.4.0 t ∙ on.metadata t;
     copies = λ t. (ap contents led.0.0 ∙ (on.copies t).0, ap contents led.0.1 ∙ (on.copies t).1);
@@ -308,9 +284,9 @@ module _ {D P : Type 0} (tells : Type 0) (size : D → ℕ) (contents : D → Li
       step_first (from_cache left) m.stage mid.stage Fault last refusal f p.led (stops (OpeningJob left) (Io Cache) mid p.waits rest last refusal r l)
   cache_by left m h meta cache origin Done mid rest last refusal f makes r l =
       let p = passes m mid (Device (Sync Cache)) Done refl h makes in
-      let next = taken (from_origin left) mid rest last refusal tt r l in
+      let next = peel Makes (from_origin left) (Refuses refusal) rest mid last tt r l in
       step_first (from_cache left) m.stage mid.stage Done last refusal f p.led (origin_by left mid p.waits (λ t. ap contents p.led.0.0 ∙ meta t) (λ t. (p.led.4.2 t).0 ∙ ap (λ (d : D). synced (contents d)) cache) (p.led.0.1 ∙ origin)
-      next.got next.mid next.rest last refusal next.fits next.makes next.run next.leads)
+      next.got next.mid next.rest last refusal next.fits next.did next.run next.leads)
   cache_by left m h meta cache origin got mid rest last refusal f makes r l = absurd f
 
   metadata_by : (left : ℕ) (m : MakingStage D P) → Waits m → m.stage.devices ≡ first → (got : Got) (mid : MakingStage D P) (rest : List (Want × Got)) (last : MakingStage D P) (refusal : Refusal)
@@ -320,10 +296,10 @@ module _ {D P : Type 0} (tells : Type 0) (size : D → ℕ) (contents : D → Li
       step_first (table (OpeningJob left)) m.stage mid.stage Fault last refusal f p.led (stops (OpeningJob left) (Io Metadata) mid p.waits rest last refusal r l)
   metadata_by left m h over Done mid rest last refusal f makes r l =
       let p = passes m mid (Device (Sync Metadata)) Done refl h makes in
-      let next = taken (from_cache left) mid rest last refusal tt r l in
+      let next = peel Makes (from_cache left) (Refuses refusal) rest mid last tt r l in
       step_first (table (OpeningJob left)) m.stage mid.stage Done last refusal f p.led (cache_by left mid p.waits (λ t. (p.led.4.2 t).0 ∙ ap (λ (d : Devices D). synced (contents d.metadata)) over)
       (p.led.0.0 ∙ ap (λ (d : Devices D). d.cache) over) (p.led.0.1 ∙ ap (λ (d : Devices D). d.origin) over)
-      next.got next.mid next.rest last refusal next.fits next.makes next.run next.leads)
+      next.got next.mid next.rest last refusal next.fits next.did next.run next.leads)
   metadata_by left m h over got mid rest last refusal f makes r l = absurd f
 
   -- ---- all of it
@@ -335,8 +311,8 @@ module _ {D P : Type 0} (tells : Type 0) (size : D → ℕ) (contents : D → Li
   pub has_stopped : (begun last : MakingStage D P) (left : ℕ) (steps : List (Want × Got)) (refusal : Refusal) → begun.stage.devices ≡ first → begun.keys.now ≡ keys → begun.made ≡ None → HasNotBegun begun.stage.opening
       → IsRunOf (table (OpeningJob left)) steps (Refuses refusal) → Leads Makes begun steps last → HasStopped begun last refusal
   has_stopped begun last left steps refusal over keys_are made_none not_begun r l =
-      let next = taken (table (OpeningJob left)) begun steps last refusal tt r l in
-      elim (metadata_by left begun (record { keys_are = keys_are; none = ap is_none made_none }) over next.got next.mid next.rest last refusal next.fits next.makes next.run next.leads) [
+      let next = peel Makes (table (OpeningJob left)) (Refuses refusal) steps begun last tt r l in
+      elim (metadata_by left begun (record { keys_are = keys_are; none = ap is_none made_none }) over next.got next.mid next.rest last refusal next.fits next.did next.run next.leads) [
         | inl a ↦ inl (none_no_cause last.made a.none, has_ended tells size contents faults begun.stage (table (OpeningJob left)) left a.steps (Refuses refusal) last.stage refl not_begun a.run a.leads)
         | inr other ↦ elim other [
           | inl failed ↦ inl (failed.no_cause, λ no. absurd (no Metadata failed.io))
