@@ -2,12 +2,12 @@
 use Rattle.std.proofs.Common.{◌≡◌, List, [], ◌∷◌, refl, subst}
 use Rattle.wb_types.specs.declared.refusal.Refusal.{Refusal}
 use Rattle.wb_words.specs.declared.step.CellStep.TheVariants.{Release, SetFailed}
-use Rattle.wb_tasks.specs.Tables.{BlockJob, Reading, Writing, Displacing, Invalidating, Migrating, OnBlock}
+use Rattle.wb_tasks.specs.Tables.{BlockJob, Reading, Writing, OnBlock}
 use Rattle.wb_tasks.specs.Plan.{Plan, after, refused, after_fault_of, Fits}
 use Rattle.wb_tasks.specs.Run.{IsRunOf}
 use Rattle.wb_tasks.specs.declared.step.DeskStep.TheVariants.{BreakCommit}
 use Rattle.wb_tasks.specs.declared.step.DeviceStep.{DeviceStep}
-use Rattle.wb_tasks.specs.declared.step.DeviceStep.TheVariants.{Read, Write, Sync, ReadMetadata, WriteNode, WriteRoot}
+use Rattle.wb_tasks.specs.declared.step.DeviceStep.TheVariants.{Read}
 use Rattle.wb_tasks.specs.declared.step.Answer.TheVariants.{Done as Finished, Refused as Refuses}
 use Rattle.wb_tasks.specs.declared.step.Want.{Want}
 use Rattle.wb_tasks.specs.declared.step.Want.TheVariants.{Cell, Device, Desk, End}
@@ -27,14 +27,8 @@ AreLettingGo (w ∷ ws) = ⊥
 pub lets_go_after : (job : BlockJob) (step : DeviceStep) → IsReadOrWrite job → AreLettingGo (after_fault_of (OnBlock job) step)
 lets_go_after (Reading part) (Read device e) q = tt
 lets_go_after (Writing part) (Read device e) q = tt
-lets_go_after (Displacing part) (Read device e) q = absurd q
-lets_go_after (Invalidating part) (Read device e) q = absurd q
-lets_go_after (Migrating migration part) (Read device e) q = absurd q
-lets_go_after job (Write device e) q = tt
-lets_go_after job (Sync device) q = tt
-lets_go_after job (ReadMetadata left) q = tt
-lets_go_after job (WriteNode number) q = tt
-lets_go_after job WriteRoot q = tt
+lets_go_after job (Read device e) q = absurd q
+lets_go_after job step q = tt
 
 only_done : (w : Want) (ws : List Want) (g : Got) → AreLettingGo (w ∷ ws) → Fits w g → (g ≡ Done) × AreLettingGo ws
 only_done (Cell (Release access block)) ws Done l f = (refl, l)

@@ -3,6 +3,7 @@ pub mod Paths
 pub mod Routes
 pub mod Passing
 pub mod Moved
+pub mod Led
 pub mod Served
 pub mod Readying
 pub mod Placed

@@ -25,7 +25,8 @@ use Rattle.wb_tasks.specs.declared.step.Got.TheVariants.{Word, Fault}
 use Rattle.wb_tasks.proofs.Pieces.{first_piece}
 use Rattle.wb_port.specs.declared.moving.TheConstants.{LONGEST}
 use Rattle.wb_tasks.specs.Phases.{job_on_block}
-use Rattle.wb_port.specs.Straight.{ComesTo, Continues, access_by, giving_back, is_deferred, job_by, left, part_at, range_in, straight_writing, straight_written, work_by}
+use Rattle.wb_port.specs.Requests.{ComesTo}
+use Rattle.wb_port.specs.Straight.{Continues, access_by, giving_back, is_deferred, job_by, left, part_at, range_in, straight_writing, straight_written, work_by}
 use Rattle.wb_port.specs.declared.straight.Part.{Part}
 use Rattle.wb_port.specs.declared.straight.Way.{Way}
 use Rattle.wb_port.specs.declared.straight.Way.TheVariants.{Reads, Writes}

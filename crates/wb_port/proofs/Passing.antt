@@ -20,7 +20,7 @@ use Rattle.wb_cells.specs.Passes.{PassState, StepsBy, IsFound, bits_after}
 use Rattle.wb_tasks.specs.Ready.{MayMake}
 use Rattle.wb_tasks.specs.Plan.{got_of}
 use Rattle.wb_tasks.specs.declared.step.Want.{Want}
-use Rattle.wb_tasks.specs.declared.step.Want.TheVariants.{Cell, Device, Desk, End}
+use Rattle.wb_tasks.specs.declared.step.Want.TheVariants.{Cell}
 use Rattle.wb_tasks.specs.declared.step.Got.{Got}
 use Rattle.wb_tasks.specs.declared.step.Got.TheVariants.{Done, Word}
 use Rattle.wb_port.specs.Hands.{DoneByPass}
@@ -34,16 +34,12 @@ with_card pass card = record pass { card = card }
 -- a step by a pass makes of its card what such a step may make
 pub made_by_pass : (blocks : ℕ) (pass pass' : PassState) (want : Want) (got : Got) → DoneByPass blocks pass want got pass' → MayMake want got pass.card pass'.card
 made_by_pass blocks pass pass' (Cell step) got h = (h.2.words, h.1 ∙ ap got_of h.2.result_is, ap (λ (p : PassState). p.card) h.2.pass_is)
-made_by_pass blocks pass pass' (Device step) got h = ap (λ (p : PassState). p.card) h
-made_by_pass blocks pass pass' (Desk step) got h = ap (λ (p : PassState). p.card) h
-made_by_pass blocks pass pass' (End answer) got h = ap (λ (p : PassState). p.card) h
+made_by_pass blocks pass pass' want got h = ap (λ (p : PassState). p.card) h
 
 -- and leaves it of the same words
 pub same_table : (blocks : ℕ) (pass pass' : PassState) (want : Want) (got : Got) → DoneByPass blocks pass want got pass' → pass'.table ≡ pass.table
 same_table blocks pass pass' (Cell step) got h = ap (λ (p : PassState). p.table) h.2.pass_is
-same_table blocks pass pass' (Device step) got h = ap (λ (p : PassState). p.table) h
-same_table blocks pass pass' (Desk step) got h = ap (λ (p : PassState). p.table) h
-same_table blocks pass pass' (End answer) got h = ap (λ (p : PassState). p.table) h
+same_table blocks pass pass' want got h = ap (λ (p : PassState). p.table) h
 
 module _ (blocks : ℕ) (pass pass' : PassState) where
   by_look : (word : WordName) (x : ℕ) → DoneByPass blocks pass (Cell (Look word)) (Word x) pass' → (pass' ≡ with_card pass (looked word x pass.card)) × IsFound word x pass

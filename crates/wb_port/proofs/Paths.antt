@@ -12,13 +12,13 @@ use Rattle.wb_words.specs.SharedWords.{place_in, dirty_in}
 use Rattle.wb_words.specs.declared.step.CellStep.{CellStep}
 use Rattle.wb_words.specs.declared.step.CellStep.TheVariants.{Look, Take, Release, Seal, Finish, Count}
 use Rattle.wb_tasks.specs.Tables.{BlockJob, OnBlock, range_of, access_of, work, taking}
-use Rattle.wb_tasks.specs.Plan.{Plan, table, after, after_look, answer_at, refused, may_take, is_worn, gives_back, Fits, IsStep}
+use Rattle.wb_tasks.specs.Plan.{Plan, table, want, after, after_look, answer_at, refused, may_take, is_worn, gives_back, Fits, IsStep}
 use Rattle.wb_tasks.specs.Run.{IsRunOf, Leads}
 use Rattle.wb_tasks.specs.declared.step.DeviceStep.TheVariants.{Read, Write}
 use Rattle.wb_tasks.specs.declared.step.Answer.{Answer}
 use Rattle.wb_tasks.specs.declared.step.Answer.TheVariants.{Done as Finished}
 use Rattle.wb_tasks.specs.declared.step.Want.{Want}
-use Rattle.wb_tasks.specs.declared.step.Want.TheVariants.{Cell, Device, Desk, End}
+use Rattle.wb_tasks.specs.declared.step.Want.TheVariants.{Cell, Device}
 use Rattle.wb_tasks.specs.declared.step.Got.{Got}
 use Rattle.wb_tasks.specs.declared.step.Got.TheVariants.{Done, Word, Lost, Fault}
 use Rattle.wb_tasks.proofs.Pieces.{first_piece}
@@ -33,27 +33,25 @@ going_to answer job ws = record { job = OnBlock job; steps = ws; answer = answer
 abbrev pub going : BlockJob → List Want → Plan
 going job ws = going_to Finished job ws
 
--- What the next step gave, and the rest of the run.
-pub record Peeled {S : Type 0} (led : S → Want → Got → S → Type 0) (s : Plan) (w : Want) (old new : S) : Type 0 where
+-- What the next step gave, and the rest of a run that is answered so.
+pub record Peeled {S : Type 0} (led : S → Want → Got → S → Type 0) (s : Plan) (answer : Answer) (old new : S) : Type 0 where
   pub got : Got
   pub mid : S
   pub rest : List (Want × Got)
-  pub fits : Fits w got
-  pub did : led old w got mid
-  pub run : IsRunOf (after s got) rest Finished
+  pub fits : Fits (want s) got
+  pub did : led old (want s) got mid
+  pub run : IsRunOf (after s got) rest answer
   pub leads : Leads led mid rest new
 
-peel : {S : Type 0} (led : S → Want → Got → S → Type 0) (answer : Answer) (job : BlockJob) (w : Want) (ws : List Want) (steps : List (Want × Got)) (old new : S) → IsStep w → IsRunOf (going_to answer job (w ∷ ws)) steps Finished → Leads led old steps new → Peeled led (going_to answer job (w ∷ ws)) w old new
-peel led answer job (Cell c) ws [] old new i r l = absurd (cc)
-peel led answer job (Device d) ws [] old new i r l = absurd (cc)
-peel led answer job (Desk d) ws [] old new i r l = absurd (cc)
-peel led answer job (End a) ws steps old new i r l = absurd i
-peel led answer job w ws (step ∷ steps) old new i r l = record {
+-- a step that is to be taken is taken by a run
+pub peel : {S : Type 0} (led : S → Want → Got → S → Type 0) (s : Plan) (answer : Answer) (steps : List (Want × Got)) (old new : S) → IsStep (want s) → IsRunOf s steps answer → Leads led old steps new → Peeled led s answer old new
+peel led s answer [] old new is r l = absurd (subst (λ (w : Want). IsStep w) r is)
+peel led s answer (step ∷ steps) old new is r l = record {
   got = step.1;
   mid = l.0;
   rest = steps;
-  fits = subst (λ (v : Want). Fits v step.1) r.0 r.1;
-  did = subst (λ (v : Want). led old v step.1 l.0) r.0 l.1;
+  fits = subst (λ (w : Want). Fits w step.1) r.0 r.1;
+  did = subst (λ (w : Want). led old w step.1 l.0) r.0 l.1;
   run = r.2;
   leads = l.2;
 }
@@ -72,7 +70,7 @@ OnlyDone job w ws = (g : Got) (rest : List (Want × Got)) → Fits w g → IsRun
 
 pub done : {S : Type 0} (led : S → Want → Got → S → Type 0) (job : BlockJob) (w : Want) (ws : List Want) (steps : List (Want × Got)) (old new : S) → IsStep w → OnlyDone job w ws → IsRunOf (going job (w ∷ ws)) steps Finished → Leads led old steps new → WasDone led job w ws old new
 done led job w ws steps old new i only r l =
-    let p = peel led Finished job w ws steps old new i r l in
+    let p = peel led (going job (w ∷ ws)) Finished steps old new i r l in
     let o : p.got ≡ Done = only p.got p.rest p.fits p.run in record {
       mid = p.mid;
       rest = p.rest;
@@ -134,7 +132,7 @@ record Looked {S : Type 0} (led : S → Want → Got → S → Type 0) (s : Plan
 
 look : {S : Type 0} (led : S → Want → Got → S → Type 0) (answer : Answer) (job : BlockJob) (w : WordName) (ws : List Want) (steps : List (Want × Got)) (old new : S) → IsRunOf (going_to answer job (Cell (Look w) ∷ ws)) steps Finished → Leads led old steps new → Looked led (going_to answer job (Cell (Look w) ∷ ws)) w old new
 look led answer job w ws steps old new r l =
-    let p = peel led answer job (Cell (Look w)) ws steps old new tt r l in
+    let p = peel led (going_to answer job (Cell (Look w) ∷ ws)) Finished steps old new tt r l in
     let o = only_word w p.got p.fits in record {
       found = o.0;
       mid = p.mid;

@@ -21,7 +21,7 @@ use Rattle.wb_tasks.specs.declared.step.DeviceStep.TheVariants.{Read, Write}
 use Rattle.wb_tasks.specs.declared.step.Migration.{Migration}
 use Rattle.wb_tasks.specs.declared.step.Migration.TheVariants.{Promote, Demote, Clean}
 use Rattle.wb_tasks.specs.declared.step.Want.{Want}
-use Rattle.wb_tasks.specs.declared.step.Want.TheVariants.{Cell, Device, Desk, End}
+use Rattle.wb_tasks.specs.declared.step.Want.TheVariants.{Cell, Device}
 use Rattle.wb_tasks.proofs.Placed.{Followed, IsFollowed, IsThere}
 use Rattle.wb_tasks.proofs.Seals.{dirty_told}
 use Rattle.wb_tasks.proofs.Working.{Works}
@@ -196,13 +196,9 @@ IsMoving job card next = IsThere (MovesAt job) job card next
 pub may_read : (part : BlockRange) (card : Card) (w : Want) → IsMoving (Reading part) card w → MayMove part.mode part.block_sectors card w
 may_read part card (Device (Read device e)) m = record { access = Shared; block = part.block; seal = m.1.0; held = m.0; seen = m.1.1; at = m.1.2 }
 may_read part card (Device step) m = absurd m.1.2
-may_read part card (Cell step) m = tt
-may_read part card (Desk step) m = tt
-may_read part card (End a) m = tt
+may_read part card w m = tt
 
 pub may_write : (part : BlockRange) (card : Card) (w : Want) → IsMoving (Writing part) card w → MayMove part.mode part.block_sectors card w
 may_write part card (Device (Write device e)) m = record { block = part.block; seal = m.1.0; owned = m.0; seen = m.1.1; dirty = m.1.2.1; at = m.1.2.0 }
 may_write part card (Device step) m = absurd m.1.2
-may_write part card (Cell step) m = tt
-may_write part card (Desk step) m = tt
-may_write part card (End a) m = tt
+may_write part card w m = tt

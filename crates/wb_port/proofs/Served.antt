@@ -1,5 +1,5 @@
 -- What a request that was answered done has done to a client's hand.
-use Rattle.std.proofs.Common.{◌≡◌, ◌≤◌, ◌+◌, ◌%◌, ℕ, Bool, true, false, List, [], ◌∷◌, ◌++◌, Option, Some, None, length, refl, sym, ap, ◌∙◌, subst, arith, append_assoc}
+use Rattle.std.proofs.Common.{◌≡◌, ◌≤◌, ◌<◌, ◌+◌, ◌%◌, ℕ, Bool, true, false, List, [], ◌∷◌, ◌++◌, Option, Some, None, length, refl, sym, ap, ◌∙◌, subst, arith, append_assoc}
 use Rattle.std.proofs.lemmas.List.{take_all}
 use Rattle.wb_types.specs.declared.extent.Extent.{Extent}
 use Rattle.wb_types.specs.Extents.{pieces}
@@ -28,10 +28,11 @@ use Rattle.wb_tasks.specs.declared.step.Got.TheVariants.{Done}
 use Rattle.wb_devices.specs.Moving.{OthersStay, device_in}
 use Rattle.wb_devices.specs.declared.devices.Devices.{Devices}
 use Rattle.wb_port.specs.declared.moving.TheConstants.{LONGEST}
-use Rattle.wb_port.specs.Hands.{ReadLed, WriteLed, begins_at}
+use Rattle.wb_port.specs.Hands.{ReadStep, WriteStep, ReadLed, WriteLed, begins_at}
 use Rattle.wb_port.specs.Requests.{part_of, first_at, read_kind, write_kind, taking_card, dirtied, WrittenAtEach, WasRead, WasWritten}
 use Rattle.wb_port.specs.declared.moving.ReadStage.{ReadStage}
 use Rattle.wb_port.specs.declared.moving.WriteStage.{WriteStage}
+use Rattle.wb_port.proofs.Led.{reading_at, writing_at, steps_read, steps_written}
 use Rattle.wb_port.proofs.Letting.{not_done}
 use Rattle.wb_port.proofs.Readying.{kept_by}
 use Rattle.wb_port.proofs.Paths.{going, going_to, done, at_end, OnlyDone, only_release, only_seal, only_finish, only_count, only_read, only_write, acquired, acquired_keeps, each_moved, all_moved, by_one, mapped, one_moved}
@@ -89,9 +90,9 @@ module _ {D : Type 0} (tells : Type 0) (size : D → ℕ) (contents : D → List
   write_led = WriteLed tells size contents faults
 
   -- a read that is answered done
-  pub read_whole : (steps : List (Want × Got)) (old new : ReadStage D) → old.moved ≡ 0 → length old.out.now ≡ sectors.count → sectors.first % block_sectors + sectors.count ≤ block_sectors
+  pub read_whole : (steps : List (Want × Got)) (old new : ReadStage D) → old.moved ≡ 0 → block.0 < old.cells.now.blocks → length old.out.now ≡ sectors.count → sectors.first % block_sectors + sectors.count ≤ block_sectors
       → IsRunOf (table (OnBlock (Reading (part old.hand.now.mode)))) steps Finished → Leads read_led old steps new → WasRead tells size contents faults block_sectors block sectors new.out.now old.hand.now new.hand.now
-  read_whole steps old new unmoved fits inside r l =
+  read_whole steps old new unmoved there fits inside r l =
       let p : BlockRange = part old.hand.now.mode in
       let job : BlockJob = Reading p in
       let a = acquired read_led job steps old new r l in
@@ -130,6 +131,7 @@ module _ {D : Type 0} (tells : Type 0) (size : D → ℕ) (contents : D → List
       let released = by_step c.mid.cells.now.blocks c.mid.hand.now.pass new.hand.now.pass (Release Shared block) (holding Nothing) (λ words. refl) refl last.by_pass in
       let ds : new.hand.now.devices ≡ all.mid.hand.now.devices = last.into.0 ∙ c.did.into.0 in
       let os : new.out.now ≡ all.mid.out.now = last.into.1 ∙ c.did.into.1 in
+      let moved_all : new.moved ≡ sectors.count = last.into.2 ∙ (c.did.into.2 ∙ known.moved) in
       let before : all.mid.hand.now.pass ≡ with_card old.hand.now.pass (taking_card Shared block a.lock a.seal a.number old.hand.now.pass.card) = known.pass_is ∙ took.0 in record {
         lock = a.lock;
         seal = a.seal;
@@ -143,6 +145,15 @@ module _ {D : Type 0} (tells : Type 0) (size : D → ℕ) (contents : D → List
         given = λ told. subst (GivesEach (contents (device_in (device_at place) old.hand.now.devices)) (first_at block_sectors place sectors.first)) (take_all sectors.count all.mid.out.now (omega (arith, known.many)) ∙ sym os) (known.given told);
         same = λ told. ap (λ (x : Devices D). contents (device_in (device_at place) x)) ds ∙ known.same told;
         no_fault = λ told. ap (λ (x : Devices D). faults (device_in (device_at place) x)) ds ∙ known.no_fault told;
+        blocks = old.cells.now.blocks;
+        there = there;
+        before = old.out.now;
+        run = (
+          steps,
+          r,
+          subst (λ (n : ℕ). Leads (ReadStep tells size contents faults old.cells.now.blocks) (record { hand = old.hand.now; out = old.out.now; moved = 0 }) steps (record { hand = new.hand.now; out = new.out.now; moved = n })) moved_all
+              (subst (λ (n : ℕ). Leads (ReadStep tells size contents faults old.cells.now.blocks) (record { hand = old.hand.now; out = old.out.now; moved = n }) steps (reading_at new)) unmoved (steps_read tells size contents faults steps old new l)),
+        );
       }
 
   -- In write-back a mapped block is sealed dirty where its copy was clean; then the sectors are to be written.
@@ -215,6 +226,7 @@ module _ {D : Type 0} (tells : Type 0) (size : D → ℕ) (contents : D → List
     mid : WriteStage D
     rest : List (Want × Got)
     pass_is : mid.hand.now.pass ≡ old.hand.now.pass
+    moved : mid.moved ≡ sectors.count
     written : WrittenAtEach tells size contents faults block_sectors sectors.first old.from.now places old.hand.now.devices mid.hand.now.devices
     run : IsRunOf (going (Writing (part mode)) ws) rest Finished
     leads : Leads write_led mid rest new
@@ -242,6 +254,7 @@ module _ {D : Type 0} (tells : Type 0) (size : D → ℕ) (contents : D → List
           mid = all.mid;
           rest = all.rest;
           pass_is = all.known.pass_is;
+          moved = all.known.moved;
           written = (all.mid.hand.now.devices, all_there tells size contents faults p sectors.first from place sectors.count devices all.mid.hand.now.devices fits all.known.others all.known.there, refl);
           run = all.run;
           leads = all.leads;
@@ -273,6 +286,7 @@ module _ {D : Type 0} (tells : Type 0) (size : D → ℕ) (contents : D → List
           mid = all.mid;
           rest = all.rest;
           pass_is = all.known.pass_is;
+          moved = all.known.moved;
           written = through_each tells size contents faults p sectors.first from sectors.count few inside pass c devices all.mid fits all.known;
           run = all.run;
           leads = all.leads;
@@ -285,9 +299,9 @@ module _ {D : Type 0} (tells : Type 0) (size : D → ℕ) (contents : D → List
     written_all Passthrough place is = at_one Passthrough None is (λ count moved. refl)
 
   -- a write that is answered done
-  pub write_whole : (steps : List (Want × Got)) (old new : WriteStage D) → old.moved ≡ 0 → length old.from.now ≡ sectors.count → sectors.first % block_sectors + sectors.count ≤ block_sectors
+  pub write_whole : (steps : List (Want × Got)) (old new : WriteStage D) → old.moved ≡ 0 → block.0 < old.cells.now.blocks → length old.from.now ≡ sectors.count → sectors.first % block_sectors + sectors.count ≤ block_sectors
       → IsRunOf (table (OnBlock (Writing (part old.hand.now.mode)))) steps Finished → Leads write_led old steps new → WasWritten tells size contents faults block_sectors block sectors old.from.now old.hand.now new.hand.now
-  write_whole steps old new unmoved fits inside r l =
+  write_whole steps old new unmoved there fits inside r l =
       let mode : Mode = old.hand.now.mode in
       let job : BlockJob = Writing (part mode) in
       let a = acquired write_led job steps old new r l in
@@ -316,6 +330,7 @@ module _ {D : Type 0} (tells : Type 0) (size : D → ℕ) (contents : D → List
       let counted = by_step b.mid.cells.now.blocks b.mid.hand.now.pass c.mid.hand.now.pass (Count (write_kind place)) (counting (write_kind place)) (λ words. refl) refl c.did.by_pass in
       let released = by_step c.mid.cells.now.blocks c.mid.hand.now.pass new.hand.now.pass (Release Owned block) (holding Nothing) (λ words. refl) refl last.by_pass in
       let after : new.hand.now.devices ≡ all.mid.hand.now.devices = last.from.0 ∙ (c.did.from.0 ∙ b.did.from.0) in
+      let moved_all : new.moved ≡ sectors.count = last.from.1 ∙ (c.did.from.1 ∙ (b.did.from.1 ∙ all.moved)) in
       let sealed : all.mid.hand.now.pass ≡ with_card p (dirtied mode block place dirty (taking_card Owned block a.lock a.seal a.number p.card)) =
       all.pass_is ∙ (d.pass_is ∙ ap (λ (q : PassState). with_card q (dirtied mode block place dirty q.card)) took.0) in
       let at_each : List Content → Devices D → Devices D → Type 0 = λ from x y. WrittenAtEach tells size contents faults block_sectors sectors.first from (places_written mode place) x y in record {
@@ -328,4 +343,12 @@ module _ {D : Type 0} (tells : Type 0) (size : D → ℕ) (contents : D → List
             ∙ ap (λ (q : PassState). with_card q (holding Nothing (counting (write_kind place) (finishing block q.card)))) sealed));
         least = took.1;
         written = subst (at_each old.from.now old.hand.now.devices) (sym after) (subst (λ (x : Devices D). at_each old.from.now x all.mid.hand.now.devices) ds (subst (λ f. at_each f.now d.mid.hand.now.devices all.mid.hand.now.devices) same_slice all.written));
+        blocks = old.cells.now.blocks;
+        there = there;
+        run = (
+          steps,
+          r,
+          subst (λ (n : ℕ). Leads (WriteStep tells size contents faults old.cells.now.blocks old.from.now) (record { hand = old.hand.now; moved = 0 }) steps (record { hand = new.hand.now; moved = n })) moved_all
+              (subst (λ (n : ℕ). Leads (WriteStep tells size contents faults old.cells.now.blocks old.from.now) (record { hand = old.hand.now; moved = n }) steps (writing_at new)) unmoved (steps_written tells size contents faults steps old new l)),
+        );
       }

@@ -1,5 +1,5 @@
 -- A stage of a request is ready for each of its steps; and from its run to what is told of it.
-use Rattle.std.proofs.Common.{◌≡◌, ◌≤◌, ◌<◌, ◌+◌, ◌/◌, ◌%◌, ℕ, List, [], ◌∷◌, Result, Ok, Err, length, sym, ap, ◌∙◌, subst}
+use Rattle.std.proofs.Common.{◌≡◌, ◌≤◌, ◌<◌, ◌+◌, ◌/◌, ◌%◌, ℕ, List, Result, Ok, Err, length, sym, ap, ◌∙◌, subst}
 use Rattle.std.specs.Prelude.{OnOk, IfErr}
 use Rattle.wb_types.specs.declared.extent.Extent.{Extent}
 use Rattle.wb_types.specs.declared.number.OBlock.{OBlock}
@@ -13,12 +13,12 @@ use Rattle.wb_tasks.specs.Plan.{Plan, table, want}
 use Rattle.wb_tasks.specs.Run.{IsRunOf, Leads}
 use Rattle.wb_tasks.specs.declared.step.Answer.{Answer}
 use Rattle.wb_tasks.specs.declared.step.Answer.TheVariants.{Done as Finished, Refused as Refuses}
-use Rattle.wb_tasks.specs.declared.step.DeviceStep.TheVariants.{Read, Write, Sync, ReadMetadata, WriteNode, WriteRoot}
+use Rattle.wb_tasks.specs.declared.step.DeviceStep.TheVariants.{Read, Write}
 use Rattle.wb_tasks.specs.declared.step.Want.{Want}
 use Rattle.wb_tasks.specs.declared.step.Want.TheVariants.{Cell, Device, Desk, End}
 use Rattle.wb_tasks.specs.declared.step.Got.{Got}
 use Rattle.wb_tasks.proofs.Causing.{refuses_for_cause}
-use Rattle.wb_port.specs.Hands.{IsReads, IsWrites, IsReadyToRead, IsReadyToWrite, ReadsInto, ReadState, WriteState, ReadStep, WriteStep, ReadLed, WriteLed}
+use Rattle.wb_port.specs.Hands.{IsReads, IsWrites, IsReadyToRead, IsReadyToWrite, ReadsInto, ReadStep, WriteStep, ReadLed, WriteLed}
 use Rattle.wb_port.specs.Requests.{part_of, WasRead, WasWritten, WasRefused, ReadRefused, WriteRefused}
 use Rattle.wb_port.specs.declared.moving.ReadStage.{ReadStage}
 use Rattle.wb_port.specs.declared.moving.WriteStage.{WriteStage}
@@ -27,6 +27,7 @@ use Rattle.wb_port.specs.Moves.{MayMove}
 use Rattle.wb_tasks.proofs.Placed.{moves_there}
 use Rattle.wb_port.proofs.Placed.{part_in, MovesAt, reads_there, writes_there, may_read, may_write}
 use Rattle.wb_port.proofs.Readying.{kept_by, ready_there, idle_again}
+use Rattle.wb_port.proofs.Led.{reading_at, writing_at, steps_read, steps_written}
 use Rattle.wb_port.proofs.Served.{read_whole, write_whole}
 
 own_reads : (part : BlockRange) (w : Want) → IsOwnStep (OnBlock (Reading part)) w → IsReads w
@@ -51,13 +52,6 @@ was_refused led job s steps answer (Err x) old new begun run leads is =
     let whole : IsRunOf (table (OnBlock job)) steps (Refuses x) = subst (λ (a : Answer). IsRunOf (table (OnBlock job)) steps a) is (subst (λ (t : Plan). IsRunOf t steps answer) begun run) in
     record { steps = steps; run = whole; leads = leads; cause = refuses_for_cause (OnBlock job) steps x whole }
 
--- what a stage is at
-abbrev pub reading_at : {D : Type 0} → ReadStage D → ReadState D
-reading_at x = record { hand = x.hand.now; out = x.out.now; moved = x.moved }
-
-abbrev pub writing_at : {D : Type 0} → WriteStage D → WriteState D
-writing_at x = record { hand = x.hand.now; moved = x.moved }
-
 module _ {D : Type 0} (tells : Type 0) (size : D → ℕ) (contents : D → List History) (faults : D → ℕ) (block_sectors : ℕ) (block : OBlock) (sectors : Extent) (s : Plan) (steps : List (Want × Got)) where
   module _ (old new : ReadStage D) (begun : s ≡ table (OnBlock (Reading (part_of old.hand.now.mode block_sectors block sectors)))) (leads : Leads (ReadLed tells size contents faults) old steps new) where
     pub read_same_hand : new.hand.ghost_name ≡ old.hand.ghost_name
@@ -77,14 +71,7 @@ module _ {D : Type 0} (tells : Type 0) (size : D → ℕ) (contents : D → List
       where
         many_read : (x y : ReadStage D) (w : Want) (g : Got) → ReadsInto tells size contents faults x.hand.now.devices x.out.now x.moved w g y.hand.now.devices y.out.now y.moved → length y.out.now ≡ length x.out.now
         many_read x y (Device (Read d e)) g h = h.many
-        many_read x y (Device (Write d e)) g h = ap length h.1
-        many_read x y (Device (Sync d)) g h = ap length h.1
-        many_read x y (Device (ReadMetadata left)) g h = ap length h.1
-        many_read x y (Device (WriteNode number)) g h = ap length h.1
-        many_read x y (Device WriteRoot) g h = ap length h.1
-        many_read x y (Cell step) g h = ap length h.1
-        many_read x y (Desk step) g h = ap length h.1
-        many_read x y (End answer) g h = ap length h.1
+        many_read x y w g h = ap length h.1
 
     pub read_mode : new.hand.now.mode ≡ old.hand.now.mode
     read_mode = kept_by (ReadLed tells size contents faults) (λ x. x.hand.now.mode) (λ x w g y h. h.same_mode) old steps new leads
@@ -109,22 +96,18 @@ module _ {D : Type 0} (tells : Type 0) (size : D → ℕ) (contents : D → List
 
     read_stopped : {A : Type 0} (answer : Answer) (r : Result A Refusal) → IsRunOf s steps answer → IfErr r (λ refusal. answer ≡ Refuses refusal)
         → IfErr r (λ refusal. WasRefused (ReadStep tells size contents faults old.cells.now.blocks) (Reading (part_of old.hand.now.mode block_sectors block sectors)) (reading_at old) refusal (reading_at new))
-    read_stopped answer r run is = was_refused (ReadStep tells size contents faults old.cells.now.blocks) (Reading (part_of old.hand.now.mode block_sectors block sectors)) s steps answer r (reading_at old) (reading_at new) begun run (plainly old steps leads) is
-      where
-        plainly : (x : ReadStage D) (done : List (Want × Got)) → Leads (ReadLed tells size contents faults) x done new → Leads (ReadStep tells size contents faults x.cells.now.blocks) (reading_at x) done (reading_at new)
-        plainly x [] e = ap (λ (y : ReadStage D). reading_at y) e
-        plainly x (step ∷ done) l = (reading_at l.0, (l.1.by_pass, l.1.into), subst (λ c. Leads (ReadStep tells size contents faults c.now.blocks) (reading_at l.0) done (reading_at new)) l.1.cells (plainly l.0 done l.2))
+    read_stopped answer r run is = was_refused (ReadStep tells size contents faults old.cells.now.blocks) (Reading (part_of old.hand.now.mode block_sectors block sectors)) s steps answer r (reading_at old) (reading_at new) begun run (steps_read tells size contents faults steps old new leads) is
 
     pub read_err : {A : Type 0} (answer : Answer) (r : Result A Refusal) → IsRunOf s steps answer → IfErr r (λ refusal. answer ≡ Refuses refusal)
         → old.moved ≡ 0 → IfErr r (λ refusal. ReadRefused tells size contents faults old.cells.now.blocks block_sectors block sectors old.hand.now old.out.now refusal new.hand.now new.out.now)
     read_err {A} answer (Ok x) run is unmoved = tt
     read_err {A} answer (Err x) run is unmoved = record { moved = new.moved; same_mode = read_mode; was = subst (λ (n : ℕ). WasRefused (ReadStep tells size contents faults old.cells.now.blocks) (Reading (part_of old.hand.now.mode block_sectors block sectors)) (record { hand = old.hand.now; out = old.out.now; moved = n }) x (reading_at new)) unmoved (read_stopped {A = A} answer (Err x) run is) }
 
-    pub read_ok : {A : Type 0} (answer : Answer) (r : Result A Refusal) → old.moved ≡ 0 → length old.out.now ≡ sectors.count → sectors.first % block_sectors + sectors.count ≤ block_sectors → IsRunOf s steps answer → OnOk r (answer ≡ Finished)
+    pub read_ok : {A : Type 0} (answer : Answer) (r : Result A Refusal) → old.moved ≡ 0 → block.0 < old.cells.now.blocks → length old.out.now ≡ sectors.count → sectors.first % block_sectors + sectors.count ≤ block_sectors → IsRunOf s steps answer → OnOk r (answer ≡ Finished)
         → OnOk r (WasRead tells size contents faults block_sectors block sectors new.out.now old.hand.now new.hand.now)
-    read_ok answer (Err x) unmoved fits inside run is = tt
-    read_ok answer (Ok x) unmoved fits inside run is =
-        read_whole tells size contents faults block_sectors block sectors steps old new unmoved fits inside
+    read_ok answer (Err x) unmoved there fits inside run is = tt
+    read_ok answer (Ok x) unmoved there fits inside run is =
+        read_whole tells size contents faults block_sectors block sectors steps old new unmoved there fits inside
         (subst (λ (a : Answer). IsRunOf (table (OnBlock (Reading (part_of old.hand.now.mode block_sectors block sectors)))) steps a) is (subst (λ (t : Plan). IsRunOf t steps answer) begun run)) leads
 
   module _ (old new : WriteStage D) (begun : s ≡ table (OnBlock (Writing (part_of old.hand.now.mode block_sectors block sectors)))) (leads : Leads (WriteLed tells size contents faults) old steps new) where
@@ -160,25 +143,16 @@ module _ {D : Type 0} (tells : Type 0) (size : D → ℕ) (contents : D → List
 
     write_stopped : {A : Type 0} (answer : Answer) (r : Result A Refusal) → IsRunOf s steps answer → IfErr r (λ refusal. answer ≡ Refuses refusal)
         → IfErr r (λ refusal. WasRefused (WriteStep tells size contents faults old.cells.now.blocks old.from.now) (Writing (part_of old.hand.now.mode block_sectors block sectors)) (writing_at old) refusal (writing_at new))
-    write_stopped answer r run is = was_refused (WriteStep tells size contents faults old.cells.now.blocks old.from.now) (Writing (part_of old.hand.now.mode block_sectors block sectors)) s steps answer r (writing_at old) (writing_at new) begun run (plainly old steps leads) is
-      where
-        plainly : (x : WriteStage D) (done : List (Want × Got)) → Leads (WriteLed tells size contents faults) x done new → Leads (WriteStep tells size contents faults x.cells.now.blocks x.from.now) (writing_at x) done (writing_at new)
-        plainly x [] e = ap (λ (y : WriteStage D). writing_at y) e
-        plainly x (step ∷ done) l = (
-          writing_at l.0,
-          (l.1.by_pass, l.1.from),
-          subst (λ f. Leads (WriteStep tells size contents faults x.cells.now.blocks f.now) (writing_at l.0) done (writing_at new)) l.1.same_slice
-              (subst (λ c. Leads (WriteStep tells size contents faults c.now.blocks l.0.from.now) (writing_at l.0) done (writing_at new)) l.1.cells (plainly l.0 done l.2)),
-        )
+    write_stopped answer r run is = was_refused (WriteStep tells size contents faults old.cells.now.blocks old.from.now) (Writing (part_of old.hand.now.mode block_sectors block sectors)) s steps answer r (writing_at old) (writing_at new) begun run (steps_written tells size contents faults steps old new leads) is
 
     pub write_err : {A : Type 0} (answer : Answer) (r : Result A Refusal) → IsRunOf s steps answer → IfErr r (λ refusal. answer ≡ Refuses refusal)
         → old.moved ≡ 0 → IfErr r (λ refusal. WriteRefused tells size contents faults old.cells.now.blocks block_sectors block sectors old.from.now old.hand.now refusal new.hand.now)
     write_err {A} answer (Ok x) run is unmoved = tt
     write_err {A} answer (Err x) run is unmoved = record { moved = new.moved; same_mode = write_mode; was = subst (λ (n : ℕ). WasRefused (WriteStep tells size contents faults old.cells.now.blocks old.from.now) (Writing (part_of old.hand.now.mode block_sectors block sectors)) (record { hand = old.hand.now; moved = n }) x (writing_at new)) unmoved (write_stopped {A = A} answer (Err x) run is) }
 
-    pub write_ok : {A : Type 0} (answer : Answer) (r : Result A Refusal) → old.moved ≡ 0 → length old.from.now ≡ sectors.count → sectors.first % block_sectors + sectors.count ≤ block_sectors → IsRunOf s steps answer → OnOk r (answer ≡ Finished)
+    pub write_ok : {A : Type 0} (answer : Answer) (r : Result A Refusal) → old.moved ≡ 0 → block.0 < old.cells.now.blocks → length old.from.now ≡ sectors.count → sectors.first % block_sectors + sectors.count ≤ block_sectors → IsRunOf s steps answer → OnOk r (answer ≡ Finished)
         → OnOk r (WasWritten tells size contents faults block_sectors block sectors old.from.now old.hand.now new.hand.now)
-    write_ok answer (Err x) unmoved fits inside run is = tt
-    write_ok answer (Ok x) unmoved fits inside run is =
-        write_whole tells size contents faults block_sectors block sectors steps old new unmoved fits inside
+    write_ok answer (Err x) unmoved there fits inside run is = tt
+    write_ok answer (Ok x) unmoved there fits inside run is =
+        write_whole tells size contents faults block_sectors block sectors steps old new unmoved there fits inside
         (subst (λ (a : Answer). IsRunOf (table (OnBlock (Writing (part_of old.hand.now.mode block_sectors block sectors)))) steps a) is (subst (λ (t : Plan). IsRunOf t steps answer) begun run)) leads

@@ -9,14 +9,13 @@ use Rattle.wb_words.specs.declared.step.CellStep.TheVariants.{Release, Finish}
 use Rattle.wb_tasks.specs.Tables.{BlockRange, BlockJob, Reading, Writing, OnBlock, write_step, write_count}
 use Rattle.wb_tasks.specs.Plan.{Plan}
 use Rattle.wb_tasks.specs.Ready.{StaysReady}
-use Rattle.wb_tasks.specs.Run.{IsRunOf, Leads}
 use Rattle.wb_tasks.specs.declared.block.Work.{Work}
 use Rattle.wb_tasks.specs.declared.block.Work.TheVariants.{Read, Write}
 use Rattle.wb_tasks.specs.declared.step.Answer.{Answer}
 use Rattle.wb_tasks.specs.declared.step.Want.{Want}
 use Rattle.wb_tasks.specs.declared.step.Want.TheVariants.{Cell}
 use Rattle.wb_tasks.specs.declared.step.Got.{Got}
-use Rattle.wb_port.specs.Requests.{part_of}
+use Rattle.wb_port.specs.Requests.{part_of, ComesTo}
 use Rattle.wb_port.specs.declared.straight.Part.{Part}
 use Rattle.wb_port.specs.declared.straight.Way.{Way}
 use Rattle.wb_port.specs.declared.straight.Way.TheVariants.{Reads, Writes}
@@ -62,10 +61,6 @@ straight_writing part (to ∷ places) place = write_step (range_in part) to part
 abbrev pub is_deferred : Mode → Option CBlock → Bool
 is_deferred Passthrough (Some c) = true
 is_deferred mode place = false
-
--- From such a state on, a run of what is left ends with this answer.
-abbrev pub ComesTo : {S : Type 0} → (S → Want → Got → S → Type 0) → Plan → S → Answer → S → Type 0
-ComesTo led s old answer new = (steps : List (Want × Got)) × IsRunOf s steps answer × Leads led old steps new
 
 -- A stage that stood at a state with some steps left stands at another with others left, and may go on from there: it is ready for what is
 -- left, and however a run of that ends, a run from the first state may end so.

@@ -6,8 +6,8 @@ ghost use Rattle.wb_tasks.specs.Ready.{StaysReady};
 ghost use Rattle.wb_tasks.specs.Tables.{OnBlock};
 ghost use Rattle.wb_tasks.specs.Phases.{job_on_block};
 ghost use Rattle.wb_tasks.specs.Plan.{table};
-ghost use Rattle.wb_port.specs.Straight.{ComesTo, part_at, work_by};
-ghost use Rattle.wb_port.specs.Requests.{WasRead, WasWritten, ReadRefused, WriteRefused};
+ghost use Rattle.wb_port.specs.Straight.{part_at, work_by};
+ghost use Rattle.wb_port.specs.Requests.{ComesTo, WasRead, WasWritten, ReadRefused, WriteRefused};
 
 use crate::moving::{LONGEST, ReadStage, WriteStage};
 use crate::straight::{Part, Way, request};

@@ -14,7 +14,8 @@ ghost use Rattle.wb_tasks.specs.Plan.{table, answer_at};
 ghost use Rattle.wb_tasks.specs.declared.step.Answer.TheVariants.{Done as Finished, Refused as Refuses};
 ghost use Rattle.wb_tasks.specs.declared.step.Want.TheVariants.{Cell, Device};
 ghost use Rattle.wb_tasks.specs.declared.step.DeviceStep.TheVariants.{Read, Write};
-ghost use Rattle.wb_port.specs.Straight.{ComesTo, Continues, access_by, giving_back, is_deferred, job_by, left, range_in, straight_writing, straight_written};
+ghost use Rattle.wb_port.specs.Requests.{ComesTo};
+ghost use Rattle.wb_port.specs.Straight.{Continues, access_by, giving_back, is_deferred, job_by, left, range_in, straight_writing, straight_written};
 
 use crate::stepping::{change, look, take, transfer};
 use wb_tasks::{Answer, CellStep, DeviceStep, Stage};

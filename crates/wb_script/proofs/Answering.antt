@@ -6,7 +6,7 @@ use Rattle.wb_opened.specs.Refused.{Demand}
 use Rattle.wb_target.specs.Tries.{Tried as OneByOne}
 use Rattle.wb_target.proofs.Tries.{SoFar, again}
 use Rattle.wb_script.specs.Answered.{DidPart, Reached, WentOn, WentThrough, WasAnswered, done_line}
-use Rattle.wb_script.specs.Stopped.{StoppedAt, StoppedWithin, IsOutsideOrStopped, WasStopped, WasRefused}
+use Rattle.wb_script.specs.Stopped.{StoppedAt, StoppedWithin, IsOutsideOrStopped, WasStopped, CallWasRefused}
 use Rattle.wb_types.specs.declared.refusal.Refusal.{Refusal}
 use Rattle.wb_types.specs.declared.refusal.Refusal.TheVariants.{Memory}
 use Rattle.wb_script.specs.declared.answers.Deed.{Deed as Doing}
@@ -71,10 +71,10 @@ stopped_on {C} did met doing first all end old reached new at next count printed
     inr (subst (λ (it : ℕ). StoppedWithin did met doing first it old refusal new) whole within)
 
 -- who was refused a call was refused so, or had it done and lacked memory for the line
-pub refused_before : {C T : Type 0} (did : C → Deed → C → Type 0) (met : C → Demand → Refusal → C → Type 0) (asked : Call) (old new : C) (r : Result T Refusal) → IfErr r (λ refusal. WasStopped did met asked old refusal new) → IfErr r (λ refusal. WasRefused did met asked old refusal new)
+pub refused_before : {C T : Type 0} (did : C → Deed → C → Type 0) (met : C → Demand → Refusal → C → Type 0) (asked : Call) (old new : C) (r : Result T Refusal) → IfErr r (λ refusal. WasStopped did met asked old refusal new) → IfErr r (λ refusal. CallWasRefused did met asked old refusal new)
 refused_before did met asked old new (Ok x) stopped = tt
 refused_before did met asked old new (Err refusal) stopped = inl stopped
 
-pub refused_behind : {C T : Type 0} (did : C → Deed → C → Type 0) (met : C → Demand → Refusal → C → Type 0) (asked : Call) (old new : C) (r : Result T Refusal) → WasAnswered did asked old done_line new → IfErr r (λ refusal. refusal ≡ Memory) → IfErr r (λ refusal. WasRefused did met asked old refusal new)
+pub refused_behind : {C T : Type 0} (did : C → Deed → C → Type 0) (met : C → Demand → Refusal → C → Type 0) (asked : Call) (old new : C) (r : Result T Refusal) → WasAnswered did asked old done_line new → IfErr r (λ refusal. refusal ≡ Memory) → IfErr r (λ refusal. CallWasRefused did met asked old refusal new)
 refused_behind did met asked old new (Ok x) answered lacks = tt
 refused_behind did met asked old new (Err refusal) answered lacks = inr (lacks, answered)

@@ -70,8 +70,8 @@ WasStopped did met Flush old refusal new = met old Flushes refusal new
 WasStopped did met Settle old refusal new = ⊥
 
 -- It was refused so; or it was done, and there was no memory for the line that says so.
-abbrev pub WasRefused : {C : Type 0} → (C → Deed → C → Type 0) → (C → Demand → Refusal → C → Type 0) → Call → C → Refusal → C → Type 0
-WasRefused did met asked old refusal new = WasStopped did met asked old refusal new ⊎ ((refusal ≡ Memory) × WasAnswered did asked old done_line new)
+abbrev pub CallWasRefused : {C : Type 0} → (C → Deed → C → Type 0) → (C → Demand → Refusal → C → Type 0) → Call → C → Refusal → C → Type 0
+CallWasRefused did met asked old refusal new = WasStopped did met asked old refusal new ⊎ ((refusal ≡ Memory) × WasAnswered did asked old done_line new)
 
 -- The client refused an order; or carried one out or had none, and there was no memory for the line that says so.
 abbrev pub WorkWasRefused : {C : Type 0} → (C → Deed → C → Type 0) → (C → Demand → Refusal → C → Type 0) → C → Refusal → C → Type 0
@@ -84,7 +84,7 @@ MessageWasRefused met says old refusal new =
 
 -- A line of the first client was refused so, or was done and lacked memory for its answer.
 abbrev pub PlayWasRefused : {C : Type 0} → (C → Deed → C → Type 0) → (C → Demand → Refusal → C → Type 0) → List ℕ → Line → C → Refusal → C → Type 0
-PlayWasRefused did met bytes (Asks call) old refusal new = WasRefused did met call old refusal new
+PlayWasRefused did met bytes (Asks call) old refusal new = CallWasRefused did met call old refusal new
 PlayWasRefused did met bytes Tick old refusal new = met old Ticks refusal new ⊎ ((refusal ≡ Memory) × did old Ticked new)
 PlayWasRefused did met bytes Work old refusal new = WorkWasRefused did met old refusal new
 PlayWasRefused did met bytes Status old refusal new = (refusal ≡ Memory) × (new ≡ old)

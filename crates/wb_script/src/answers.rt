@@ -10,7 +10,7 @@ ghost use Rattle.wb_script.specs.Request.{AsksForSectors, AsksInside};
 ghost use Rattle.wb_script.specs.Answered.{DidPart, WasAnswered, WentThrough, done_line, filled, worked_line};
 ghost use Rattle.wb_script.specs.Played.{BringsMessage};
 ghost use Rattle.wb_script.specs.Shown.{AreLinesOf};
-ghost use Rattle.wb_script.specs.Stopped.{StoppedAt, IsOutsideOrStopped, NotOfOneBlock, ReadWasNotTried, WriteWasNotTried, WasRefused, WorkWasRefused, MessageWasRefused};
+ghost use Rattle.wb_script.specs.Stopped.{StoppedAt, IsOutsideOrStopped, NotOfOneBlock, ReadWasNotTried, WriteWasNotTried, CallWasRefused, WorkWasRefused, MessageWasRefused};
 ghost use Rattle.wb_opened.specs.Deeds.{TriedRead, TriedWrite, Worked};
 ghost use Rattle.wb_policy.specs.declared.order.Order.{Order as CacheOrder};
 ghost use Rattle.wb_table.specs.Status.{status_line};
@@ -45,7 +45,7 @@ pub fn answer<R: Wait, C: Served, P: Paced>(
     progress: &mut P,
 ) -> Result<(), Refusal>
     ensures answered { OnOk result ((printed : List ℕ) × WasAnswered C.did asked client.old printed client.new × (string_bytes text.new ≡ string_bytes text.old ++ printed)) }
-    ensures refused { IfErr result (λ refusal. WasRefused C.did C.met asked client.old refusal client.new) }
+    ensures refused { IfErr result (λ refusal. CallWasRefused C.did C.met asked client.old refusal client.new) }
     ensures outside { AsksForSectors asked → ¬ AsksInside asked ((C.sizes client.old).block * (C.sizes client.old).origin_blocks) → IsErrOf result Refusal.Range }
     ensures inside { AsksForSectors asked → IsErrOf result Refusal.Range → ¬ AsksInside asked ((C.sizes client.old).block * (C.sizes client.old).origin_blocks) }
 {

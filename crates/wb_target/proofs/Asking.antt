@@ -10,9 +10,9 @@ use Rattle.wb_tasks.specs.declared.step.DeviceStep.{DeviceStep}
 use Rattle.wb_tasks.specs.declared.step.DeviceStep.TheVariants.{Read, Write, Sync, ReadMetadata, WriteNode, WriteRoot}
 use Rattle.wb_disk.specs.Device.{Content as Bytes}
 use Rattle.wb_tasks.specs.declared.step.Want.{Want}
-use Rattle.wb_tasks.specs.declared.step.Want.TheVariants.{Cell, Device, Desk, End}
+use Rattle.wb_tasks.specs.declared.step.Want.TheVariants.{Device, Desk}
 use Rattle.wb_tasks.specs.declared.step.Got.{Got}
-use Rattle.wb_tasks.specs.declared.step.Got.TheVariants.{Begin, Done, Word, Lost, Fault, Refused, Began, Ticket, Served, More}
+use Rattle.wb_tasks.specs.declared.step.Got.TheVariants.{Refused, Began, Ticket, Served}
 use Rattle.wb_devices.specs.declared.running.RunningCommit.{RunningCommit}
 use Rattle.wb_devices.specs.declared.devices.Devices.{Devices}
 use Rattle.wb_stage.specs.declared.share.Share.{Share}
@@ -33,23 +33,11 @@ commit_asked with_entry without_entry held BreakCommit share got d d' commit com
 commit_asked with_entry without_entry held (Arrive most) share Ticket d d' commit commit' h = h.3
 commit_asked with_entry without_entry held (Arrive most) share (Began nodes) d d' commit commit' h = (h.1.0, h.1.1, h.1.2, h.1.3)
 commit_asked with_entry without_entry held (Arrive most) share (Refused x) d d' commit commit' h = h.0
-commit_asked with_entry without_entry held (Arrive most) share Begin d d' commit commit' h = absurd h
-commit_asked with_entry without_entry held (Arrive most) share Done d d' commit commit' h = absurd h
-commit_asked with_entry without_entry held (Arrive most) share More d d' commit commit' h = absurd h
-commit_asked with_entry without_entry held (Arrive most) share Fault d d' commit commit' h = absurd h
-commit_asked with_entry without_entry held (Arrive most) share Lost d d' commit commit' h = absurd h
-commit_asked with_entry without_entry held (Arrive most) share (Word n) d d' commit commit' h = absurd h
-commit_asked with_entry without_entry held (Arrive most) share Served d d' commit commit' h = absurd h
+commit_asked with_entry without_entry held (Arrive most) share got d d' commit commit' h = absurd h
 commit_asked with_entry without_entry held (Ask most) share Served d d' commit commit' h = h.2
 commit_asked with_entry without_entry held (Ask most) share (Began nodes) d d' commit commit' h = (h.1.1.0, h.1.1.1, h.1.1.2, h.1.1.3)
 commit_asked with_entry without_entry held (Ask most) share (Refused x) d d' commit commit' h = h.0
-commit_asked with_entry without_entry held (Ask most) share Begin d d' commit commit' h = absurd h
-commit_asked with_entry without_entry held (Ask most) share Done d d' commit commit' h = absurd h
-commit_asked with_entry without_entry held (Ask most) share More d d' commit commit' h = absurd h
-commit_asked with_entry without_entry held (Ask most) share Fault d d' commit commit' h = absurd h
-commit_asked with_entry without_entry held (Ask most) share Lost d d' commit commit' h = absurd h
-commit_asked with_entry without_entry held (Ask most) share (Word n) d d' commit commit' h = absurd h
-commit_asked with_entry without_entry held (Ask most) share Ticket d d' commit commit' h = absurd h
+commit_asked with_entry without_entry held (Ask most) share got d d' commit commit' h = absurd h
 commit_asked with_entry without_entry held (BeginCommit most) share got d d' commit commit' h = absurd h
 commit_asked with_entry without_entry held EndCommit share got d d' commit commit' h = ends (is_all_done commit) d d' commit commit' h
 
@@ -59,10 +47,8 @@ some_told asked share step got commit commit' = (share' : Share) × asked share 
 
 pub told_some : {D : Type 0} (tells : Type 0) (size : D → ℕ) (contents : D → List History) (faults : D → ℕ) (asked : ShareTold) (share share' : Share) (old : Devices D) (buffer : List Bytes) (commit : Option RunningCommit) (w : Want) (g : Got) (new : Devices D) (buffer' : List Bytes) (commit' : Option RunningCommit)
     → WorksOn tells size contents faults (asked share share') old buffer commit w g new buffer' commit' → WorksOn tells size contents faults (some_told asked share) old buffer commit w g new buffer' commit'
-told_some tells size contents faults asked share share' old buffer commit (Device step) g new buffer' commit' h = h
 told_some tells size contents faults asked share share' old buffer commit (Desk step) g new buffer' commit' h = (h.0, h.1, h.2, (share', h.3))
-told_some tells size contents faults asked share share' old buffer commit (Cell step) g new buffer' commit' h = h
-told_some tells size contents faults asked share share' old buffer commit (End answer) g new buffer' commit' h = h
+told_some tells size contents faults asked share share' old buffer commit w g new buffer' commit' h = h
 
 pub may_perform : {D : Type 0} (tells : Type 0) (contents : D → List History) (size : ℕ) (held : List Order) (card : Card) (devices : Devices D) (commit : Option RunningCommit) (step : DeviceStep)
     → MayWork size held card (Device step) → WritesUnderCommit tells contents devices commit (Device step) → MayPerform tells contents size card devices commit step

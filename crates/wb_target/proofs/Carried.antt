@@ -1,23 +1,18 @@
 -- Runs that are refused as busy, and the one after them that is not, make a job that was done.
-use Rattle.std.proofs.Common.{◌≡◌, ◌∙◌, ℕ, List, [], ◌∷◌, Some, Result, refl, sym, subst}
+use Rattle.std.proofs.Common.{◌≡◌, ◌∙◌, ℕ, List, [], ◌∷◌, Result, refl, sym, subst}
 use Rattle.std.proofs.lemmas.Result.{on_ok_weaker}
 use Rattle.std.specs.Prelude.{OnOk}
-use Rattle.wb_types.specs.declared.geometry.Geometry.{Geometry}
-use Rattle.wb_types.specs.declared.number.OBlock.{OBlock}
-use Rattle.wb_types.specs.declared.number.CBlock.{CBlock}
 use Rattle.wb_types.specs.declared.refusal.Refusal.{Refusal}
 use Rattle.wb_types.specs.declared.refusal.Refusal.TheVariants.{Busy}
 use Rattle.wb_disk.specs.Device.{History}
 use Rattle.wb_policy.specs.declared.order.Order.{Order}
-use Rattle.wb_policy.specs.declared.order.Order.TheVariants.{Replace}
 use Rattle.wb_tasks.specs.Tables.{TaskJob}
 use Rattle.wb_tasks.specs.Plan.{Plan, table}
 use Rattle.wb_tasks.specs.declared.step.Answer.{Answer}
 use Rattle.wb_tasks.specs.declared.step.Answer.TheVariants.{Done as Finished, Refused as Refuses}
-use Rattle.wb_tasks.specs.declared.step.Migration.TheVariants.{Promote as Promoting, Demote as Demoting}
 use Rattle.wb_stage.specs.declared.share.Share.{Share}
 use Rattle.wb_target.specs.Works.{WorkState, ShareTold, PerformedWith}
-use Rattle.wb_target.specs.Carried.{Runs, WasDone, WasDoneWith, WereDone, migration_of, flush_of, jobs_of}
+use Rattle.wb_target.specs.Carried.{Runs, WasDone, WasDoneWith, WereDone}
 use Rattle.wb_target.proofs.Tries.{SoFar}
 
 -- a run, of the job and in the sizes that it is told of
@@ -51,21 +46,3 @@ module _ {D A : Type 0} (runs : List Order → TaskJob → WorkState D → Answe
   pub one_done : OnOk r (WasDone (runs (order ∷ [])) job old new) → OnOk r (WereDone (runs (order ∷ [])) (jobs order) old new)
   one_done h =
       subst (λ (js : List TaskJob). OnOk r (WereDone (runs (order ∷ [])) js old new)) (sym single) (on_ok_weaker r (λ (d : WasDone (runs (order ∷ [])) job old new). (new, d, refl)) h)
-
--- ---- a replacement's three jobs, in the sizes that stay
-
-module _ {D : Type 0} (tells : Type 0) (size : D → ℕ) (contents : D → List History) (faults : D → ℕ) (asked : List Order → ShareTold) where
-  abbrev pub runs_in : Geometry → List Order → TaskJob → WorkState D → Answer → WorkState D → Type 0
-  runs_in geometry = Runs tells size contents faults asked geometry.origin_blocks
-
-  pub jobs_in : (order : Order) (one first : Geometry) (old new : WorkState D) → one ≡ first → WereDone (runs_in one (order ∷ [])) (jobs_of one order) old new → WereDone (runs_in first (order ∷ [])) (jobs_of first order) old new
-  jobs_in order one first old new same h = subst (λ (g : Geometry). WereDone (runs_in g (order ∷ [])) (jobs_of g order) old new) same h
-
-  pub replaced : {A : Type 0} (r : Result A Refusal) (order : Order) (v x : OBlock) (to : CBlock) (first one two : Geometry) (s0 s1 s2 s3 : WorkState D) → order ≡ Replace v x to → one ≡ first → two ≡ one
-      → WasDone (runs_in first (Replace v x to ∷ [])) (migration_of first Demoting v) s0 s1 → WasDone (runs_in one (Replace v x to ∷ [])) (flush_of one (Some x)) s1 s2 → OnOk r (WasDone (runs_in two (Replace v x to ∷ [])) (migration_of two (Promoting to) x) s2 s3)
-      → OnOk r (WereDone (runs_in first (order ∷ [])) (jobs_of first order) s0 s3)
-  replaced r order v x to first one two s0 s1 s2 s3 is a b demoted flushed promoted =
-      let there : WasDone (runs_in first (Replace v x to ∷ [])) (flush_of first (Some x)) s1 s2 = subst (λ (g : Geometry). WasDone (runs_in g (Replace v x to ∷ [])) (flush_of g (Some x)) s1 s2) a flushed in
-      subst (λ (o : Order). OnOk r (WereDone (runs_in first (o ∷ [])) (jobs_of first o) s0 s3)) (sym is)
-      (on_ok_weaker r (λ (p : WasDone (runs_in first (Replace v x to ∷ [])) (migration_of first (Promoting to) x) s2 s3). (s1, demoted, (s2, there, (s3, p, refl))))
-      (subst (λ (g : Geometry). OnOk r (WasDone (runs_in g (Replace v x to ∷ [])) (migration_of g (Promoting to) x) s2 s3)) (b ∙ a) promoted))

@@ -6,7 +6,7 @@ use Rattle.wb_types.specs.declared.refusal.Refusal.TheVariants.{Failed, Memory, 
 use Rattle.wb_disk.specs.Device.{History, Content as Bytes}
 use Rattle.wb_words.specs.declared.word.Word.TheVariants.{Fail}
 use Rattle.wb_words.specs.declared.step.CellStep.TheVariants.{Look, SetFailed}
-use Rattle.wb_tasks.specs.Tables.{BlockJob, OnBlock, Reading, Writing, Displacing, Invalidating, Migrating, Flushing}
+use Rattle.wb_tasks.specs.Tables.{BlockJob, OnBlock, Reading, Flushing}
 use Rattle.wb_tasks.specs.Plan.{Plan, want, after, first_step, refused, release_orders, node_writes, root_steps, Fits}
 use Rattle.wb_tasks.specs.Run.{Leads}
 use Rattle.wb_tasks.specs.Ready.{AreFirst, IsFlushs, IsOwnStep, left_by}
@@ -47,22 +47,13 @@ weaken : (C O R C' O' R' : Type 0) → (C → C') → (O → O') → (R → R') 
 weaken C O R C' O' R' c o r [] k = tt
 weaken C O R C' O' R' c o r (Device (Sync Cache) ∷ ws) k = weaken (Unit {0}) O R (Unit {0}) O' R' (λ u. u) o r ws k
 weaken C O R C' O' R' c o r (Device (Sync Origin) ∷ ws) k = weaken C (Unit {0}) R C' (Unit {0}) R' c (λ u. u) r ws k
-weaken C O R C' O' R' c o r (Device (Sync Metadata) ∷ ws) k = weaken C O R C' O' R' c o r ws k
 weaken C O R C' O' R' c o r (Device (WriteNode number) ∷ ws) k = ((c k.0.0, o k.0.1, r k.0.2), weaken C O R C' O' R' c o r ws k.1)
 weaken C O R C' O' R' c o r (Device WriteRoot ∷ ws) k = ((c k.0.0, o k.0.1, r k.0.2), weaken C O R C' O' R' c o r ws k.1)
-weaken C O R C' O' R' c o r (Device (Read device e) ∷ ws) k = weaken C O R C' O' R' c o r ws k
-weaken C O R C' O' R' c o r (Device (Write device e) ∷ ws) k = weaken C O R C' O' R' c o r ws k
-weaken C O R C' O' R' c o r (Device (ReadMetadata left) ∷ ws) k = weaken C O R C' O' R' c o r ws k
 weaken C O R C' O' R' c o r (Desk EndCommit ∷ ws) k = weaken C O ⊥ C' O' ⊥ c o (λ u. u) ws k
-weaken C O R C' O' R' c o r (Desk BreakCommit ∷ ws) k = weaken C O R C' O' R' c o r ws k
 weaken C O R C' O' R' c o r (Desk (Arrive most) ∷ ws) k = tt
 weaken C O R C' O' R' c o r (Desk (Ask most) ∷ ws) k = tt
 weaken C O R C' O' R' c o r (Desk (BeginCommit most) ∷ ws) k = tt
-weaken C O R C' O' R' c o r (Desk (Map b place) ∷ ws) k = weaken C O R C' O' R' c o r ws k
-weaken C O R C' O' R' c o r (Desk (Unmap b) ∷ ws) k = weaken C O R C' O' R' c o r ws k
-weaken C O R C' O' R' c o r (Desk (ReleaseOrder b) ∷ ws) k = weaken C O R C' O' R' c o r ws k
-weaken C O R C' O' R' c o r (Cell step ∷ ws) k = weaken C O R C' O' R' c o r ws k
-weaken C O R C' O' R' c o r (End answer ∷ ws) k = weaken C O R C' O' R' c o r ws k
+weaken C O R C' O' R' c o r (w ∷ ws) k = weaken C O R C' O' R' c o r ws k
 
 nodes_from : (C O R : Type 0) → C → O → R → (nodes first : ℕ) → CommitsFrom C O R (node_writes nodes first ++ root_steps)
 nodes_from C O R c o r zero first = ((c, o, r), tt)
@@ -173,20 +164,8 @@ module _ {D S : Type 0} (tells : Type 0) (size : D → ℕ) (contents : D → Li
 
 -- a job on a block writes none
 pub block_commits : {D : Type 0} (tells : Type 0) (contents : D → List History) (devices : Devices D) (commit : Option RunningCommit) (job : BlockJob) (w : Want) → IsOwnStep (OnBlock job) w → WritesUnderCommit tells contents devices commit w
-block_commits tells contents devices commit job (Cell step) o = tt
-block_commits tells contents devices commit job (Desk step) o = tt
-block_commits tells contents devices commit job (End a) o = tt
-block_commits tells contents devices commit job (Device (Read device e)) o = tt
-block_commits tells contents devices commit job (Device (Write device e)) o = tt
-block_commits tells contents devices commit job (Device (Sync device)) o = tt
-block_commits tells contents devices commit job (Device (ReadMetadata left)) o = tt
 block_commits tells contents devices commit (Reading part) (Device (WriteNode number)) o = absurd o
-block_commits tells contents devices commit (Writing part) (Device (WriteNode number)) o = absurd o
-block_commits tells contents devices commit (Displacing part) (Device (WriteNode number)) o = absurd o
-block_commits tells contents devices commit (Invalidating part) (Device (WriteNode number)) o = absurd o
-block_commits tells contents devices commit (Migrating migration part) (Device (WriteNode number)) o = absurd o
+block_commits tells contents devices commit job (Device (WriteNode number)) o = absurd o
 block_commits tells contents devices commit (Reading part) (Device WriteRoot) o = absurd o
-block_commits tells contents devices commit (Writing part) (Device WriteRoot) o = absurd o
-block_commits tells contents devices commit (Displacing part) (Device WriteRoot) o = absurd o
-block_commits tells contents devices commit (Invalidating part) (Device WriteRoot) o = absurd o
-block_commits tells contents devices commit (Migrating migration part) (Device WriteRoot) o = absurd o
+block_commits tells contents devices commit job (Device WriteRoot) o = absurd o
+block_commits tells contents devices commit job w o = tt

@@ -12,10 +12,10 @@ use Rattle.wb_tasks.specs.Plan.{Plan, table, want}
 use Rattle.wb_tasks.specs.Ready.{AreFirst, IsOwnStep, MayMake, MayTake, left_by}
 use Rattle.wb_tasks.specs.Run.{IsRunOf, Leads}
 use Rattle.wb_tasks.specs.declared.step.Answer.{Answer}
-use Rattle.wb_tasks.specs.declared.step.DeviceStep.TheVariants.{Read, Write, Sync, ReadMetadata, WriteNode, WriteRoot}
-use Rattle.wb_tasks.specs.declared.step.DeskStep.TheVariants.{Map, Unmap, ReleaseOrder, Arrive, Ask, BeginCommit, EndCommit, BreakCommit}
+use Rattle.wb_tasks.specs.declared.step.DeviceStep.TheVariants.{Read, Write}
+use Rattle.wb_tasks.specs.declared.step.DeskStep.TheVariants.{Unmap}
 use Rattle.wb_tasks.specs.declared.step.Want.{Want}
-use Rattle.wb_tasks.specs.declared.step.Want.TheVariants.{Cell, Device, Desk, End}
+use Rattle.wb_tasks.specs.declared.step.Want.TheVariants.{Device, Desk}
 use Rattle.wb_tasks.specs.declared.step.Got.{Got}
 use Rattle.wb_tasks.proofs.Placed.{moves_there}
 use Rattle.wb_port.specs.Hands.{WriteState, WriteLed}
@@ -33,10 +33,7 @@ use Rattle.wb_target.specs.declared.displacing.DisplaceStage.{DisplaceStage}
 may_displace : (part : BlockRange) (card : Card) (w : Want) → IsMoving (Displacing part) card w → MayMove Passthrough part.block_sectors card w
 may_displace part card (Device (Write device e)) m = record { block = part.block; seal = m.1.0; owned = m.0; seen = m.1.1; dirty = tt; at = m.1.2 }
 may_displace part card (Device (Read device e)) m = absurd m.1.2
-may_displace part card (Device step) m = tt
-may_displace part card (Cell step) m = tt
-may_displace part card (Desk step) m = tt
-may_displace part card (End a) m = tt
+may_displace part card w m = tt
 
 module _ {R D P : Type 0} (tells : Type 0) (size : D → ℕ) (contents : D → List History) (faults : D → ℕ) (asked : DeskTold) where
   abbrev led : DisplaceStage R D P → Want → Got → DisplaceStage R D P → Type 0
@@ -48,29 +45,13 @@ module _ {R D P : Type 0} (tells : Type 0) (size : D → ℕ) (contents : D → 
   -- what a write's steps keep is kept
   keeps : {C : Type 0} (part : WriteStage D → C) → ((x : WriteStage D) (w : Want) (g : Got) (y : WriteStage D) → WriteLed tells size contents faults x w g y → part y ≡ part x) → (x : DisplaceStage R D P) (w : Want) (g : Got) (y : DisplaceStage R D P) → led x w g y → part y.write ≡ part x.write
   keeps part stays x (Desk (Unmap b)) g y h = ap part h.0
-  keeps part stays x (Desk (Map b c)) g y h = absurd h
-  keeps part stays x (Desk (ReleaseOrder b)) g y h = absurd h
-  keeps part stays x (Desk (Arrive most)) g y h = absurd h
-  keeps part stays x (Desk (Ask most)) g y h = absurd h
-  keeps part stays x (Desk (BeginCommit most)) g y h = absurd h
-  keeps part stays x (Desk EndCommit) g y h = absurd h
-  keeps part stays x (Desk BreakCommit) g y h = absurd h
-  keeps part stays x (Cell step) g y h = stays x.write (Cell step) g y.write h
-  keeps part stays x (Device step) g y h = stays x.write (Device step) g y.write h
-  keeps part stays x (End a) g y h = stays x.write (End a) g y.write h
+  keeps part stays x (Desk step) g y h = absurd h
+  keeps part stays x w g y h = stays x.write w g y.write h
 
   makes : (x : DisplaceStage R D P) (w : Want) (g : Got) (y : DisplaceStage R D P) → led x w g y → MayMake w g (card x) (card y)
   makes x (Desk (Unmap b)) g y h = ap (λ (s : WriteStage D). s.hand.now.pass.card) h.0
-  makes x (Desk (Map b c)) g y h = absurd h
-  makes x (Desk (ReleaseOrder b)) g y h = absurd h
-  makes x (Desk (Arrive most)) g y h = absurd h
-  makes x (Desk (Ask most)) g y h = absurd h
-  makes x (Desk (BeginCommit most)) g y h = absurd h
-  makes x (Desk EndCommit) g y h = absurd h
-  makes x (Desk BreakCommit) g y h = absurd h
-  makes x (Cell step) g y h = made_by_pass x.write.cells.now.blocks x.write.hand.now.pass y.write.hand.now.pass (Cell step) g h.by_pass
-  makes x (Device step) g y h = made_by_pass x.write.cells.now.blocks x.write.hand.now.pass y.write.hand.now.pass (Device step) g h.by_pass
-  makes x (End a) g y h = made_by_pass x.write.cells.now.blocks x.write.hand.now.pass y.write.hand.now.pass (End a) g h.by_pass
+  makes x (Desk step) g y h = absurd h
+  makes x w g y h = made_by_pass x.write.cells.now.blocks x.write.hand.now.pass y.write.hand.now.pass w g h.by_pass
 
   module _ (block_sectors : ℕ) (block : OBlock) (sectors : Extent) (steps : List (Want × Got)) (old new : DisplaceStage R D P) (leads : Leads led old steps new) where
     abbrev part : BlockRange
@@ -109,22 +90,11 @@ module _ {R D P : Type 0} (tells : Type 0) (size : D → ℕ) (contents : D → 
         words = at_words ∙ (at ∙ ap (λ x. x.now.table) (sym same_cells))
 
         by_want : (w : Want) → IsOwnStep (OnBlock (Displacing part)) w → MayTake new.write.cells.now.blocks (card new) w → MayMove new.write.hand.now.mode new.write.hand.now.block_sectors (card new) w → IsReadyToDisplace new w
-        by_want (Cell step) o may moves = ((words, may), tt, moves)
         by_want (Device (Write device e)) o may moves = ((words, may), tt, moves)
-        by_want (Device (Read device e)) o may moves = absurd o
-        by_want (Device (Sync device)) o may moves = absurd o
-        by_want (Device (ReadMetadata left)) o may moves = absurd o
-        by_want (Device (WriteNode number)) o may moves = absurd o
-        by_want (Device WriteRoot) o may moves = absurd o
+        by_want (Device step) o may moves = absurd o
         by_want (Desk (Unmap b)) o may moves = tt
-        by_want (Desk (Map b c)) o may moves = absurd o
-        by_want (Desk (ReleaseOrder b)) o may moves = absurd o
-        by_want (Desk (Arrive most)) o may moves = absurd o
-        by_want (Desk (Ask most)) o may moves = absurd o
-        by_want (Desk (BeginCommit most)) o may moves = absurd o
-        by_want (Desk EndCommit) o may moves = absurd o
-        by_want (Desk BreakCommit) o may moves = absurd o
-        by_want (End a) o may moves = ((words, may), tt, moves)
+        by_want (Desk step) o may moves = absurd o
+        by_want w o may moves = ((words, may), tt, moves)
 
     pub idle_then : (answer : Answer) → block.0 < old.write.cells.now.blocks → old.write.hand.now.pass.card.hold ≡ Nothing → IsRunOf plan steps answer → new.write.hand.now.pass.card.hold ≡ Nothing
     idle_then answer there idle run = idle_again led card makes old.write.cells.now.blocks plan (Displacing part) old refl there idle steps answer new run leads
@@ -144,16 +114,8 @@ module _ {R D P : Type 0} (tells : Type 0) (size : D → ℕ) (contents : D → 
     where
       one : (w : Want) (g : Got) → led x w g l.0 → DisplaceStep tells size contents faults asked x.write.cells.now.blocks x.write.from.now (at x) w g (at l.0)
       one (Desk (Unmap b)) g h = (ap (λ (s : WriteStage D). record { hand = s.hand.now; moved = s.moved }) h.0, h.1)
-      one (Desk (Map b c)) g h = absurd h
-      one (Desk (ReleaseOrder b)) g h = absurd h
-      one (Desk (Arrive most)) g h = absurd h
-      one (Desk (Ask most)) g h = absurd h
-      one (Desk (BeginCommit most)) g h = absurd h
-      one (Desk EndCommit) g h = absurd h
-      one (Desk BreakCommit) g h = absurd h
-      one (Cell step) g h = (h.by_pass, h.from)
-      one (Device step) g h = (h.by_pass, h.from)
-      one (End a) g h = (h.by_pass, h.from)
+      one (Desk step) g h = absurd h
+      one w g h = (h.by_pass, h.from)
 
   pub displaced : (block_sectors : ℕ) (block : OBlock) (sectors : Extent) (answer : Answer) (old new : DisplaceStage R D P) → (steps : List (Want × Got)) × IsRunOf (table (OnBlock (Displacing (part_of Passthrough block_sectors block sectors)))) steps answer × Leads led old steps new → old.write.moved ≡ 0
       → WasDisplaced tells size contents faults asked old.write.cells.now.blocks block_sectors block sectors old.write.from.now old.write.hand.now answer new.write.hand.now

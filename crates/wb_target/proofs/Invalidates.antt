@@ -20,8 +20,7 @@ use Rattle.wb_tasks.specs.Ready.{AreFirst, IsOwnStep, MayMake, MayTake, left_by}
 use Rattle.wb_tasks.specs.Run.{IsRunOf, Leads}
 use Rattle.wb_tasks.specs.declared.step.Answer.{Answer}
 use Rattle.wb_tasks.specs.declared.step.Answer.TheVariants.{Refused as Refuses}
-use Rattle.wb_tasks.specs.declared.step.DeviceStep.TheVariants.{Read, Write, Sync, ReadMetadata, WriteNode, WriteRoot}
-use Rattle.wb_tasks.specs.declared.step.DeskStep.TheVariants.{Map, Unmap, ReleaseOrder, Arrive, Ask, BeginCommit, EndCommit, BreakCommit}
+use Rattle.wb_tasks.specs.declared.step.DeskStep.TheVariants.{Unmap}
 use Rattle.wb_tasks.specs.declared.step.Want.{Want}
 use Rattle.wb_tasks.specs.declared.step.Want.TheVariants.{Cell, Device, Desk, End}
 use Rattle.wb_tasks.specs.declared.step.Got.{Got}
@@ -42,16 +41,8 @@ module _ {D : Type 0} (asked : DeskTold) (blocks : ℕ) where
   by_steps : (T : Hand D → Want → Got → Hand D → Type 0) → ((s : Hand D) (b : OBlock) (g : Got) → T s (Desk (Unmap b)) g s) → ((s : Hand D) (step : CellStep) (g : Got) (t : Hand D) → t ≡ record s { pass = t.pass } → DoneByPass blocks s.pass (Cell step) g t.pass → T s (Cell step) g t)
       → (s : Hand D) (w : Want) (g : Got) (t : Hand D) → InvalidateStep asked blocks s w g t → T s w g t
   by_steps T asks steps s (Desk (Unmap b)) g t h = subst (λ (x : Hand D). T s (Desk (Unmap b)) g x) (sym h.0) (asks s b g)
-  by_steps T asks steps s (Desk (Map b c)) g t h = absurd h
-  by_steps T asks steps s (Desk (ReleaseOrder b)) g t h = absurd h
-  by_steps T asks steps s (Desk (Arrive most)) g t h = absurd h
-  by_steps T asks steps s (Desk (Ask most)) g t h = absurd h
-  by_steps T asks steps s (Desk (BeginCommit most)) g t h = absurd h
-  by_steps T asks steps s (Desk EndCommit) g t h = absurd h
-  by_steps T asks steps s (Desk BreakCommit) g t h = absurd h
   by_steps T asks steps s (Cell step) g t h = steps s step g t h.0 h.1
-  by_steps T asks steps s (Device step) g t h = absurd h
-  by_steps T asks steps s (End a) g t h = absurd h
+  by_steps T asks steps s w g t h = absurd h
 
   makes_by : (s : Hand D) (w : Want) (g : Got) (t : Hand D) → InvalidateStep asked blocks s w g t → MayMake w g s.pass.card t.pass.card
   makes_by = by_steps (λ s w g t. MayMake w g s.pass.card t.pass.card) (λ s b g. refl) (λ s step g t kept by. made_by_pass blocks s.pass t.pass (Cell step) g by)
@@ -108,20 +99,9 @@ module _ {R D P : Type 0} (asked : DeskTold) where
 
         by_want : (w : Want) → IsOwnStep (OnBlock job) w → MayTake new.cells.now.blocks (card new) w → IsReadyToInvalidate new w
         by_want (Cell step) o may = (words, may)
-        by_want (Device (Write device e)) o may = absurd o
-        by_want (Device (Read device e)) o may = absurd o
-        by_want (Device (Sync device)) o may = absurd o
-        by_want (Device (ReadMetadata left)) o may = absurd o
-        by_want (Device (WriteNode number)) o may = absurd o
-        by_want (Device WriteRoot) o may = absurd o
+        by_want (Device step) o may = absurd o
         by_want (Desk (Unmap b)) o may = tt
-        by_want (Desk (Map b c)) o may = absurd o
-        by_want (Desk (ReleaseOrder b)) o may = absurd o
-        by_want (Desk (Arrive most)) o may = absurd o
-        by_want (Desk (Ask most)) o may = absurd o
-        by_want (Desk (BeginCommit most)) o may = absurd o
-        by_want (Desk EndCommit) o may = absurd o
-        by_want (Desk BreakCommit) o may = absurd o
+        by_want (Desk step) o may = absurd o
         by_want (End a) o may = tt
 
     pub idle_then : (answer : Answer) → block.0 < old.cells.now.blocks → old.hand.now.pass.card.hold ≡ Nothing → IsRunOf plan steps answer → new.hand.now.pass.card.hold ≡ Nothing
@@ -156,13 +136,7 @@ fails_alone asked blocks part Busy s w g t n c f h = absurd (n refl)
 fails_alone asked blocks part (Io device) s (Device step) g t n c f h = absurd h
 fails_alone asked blocks part Defer s (Cell (Look (SealWord block))) (Word word) t n c f h = absurd cc
 fails_alone asked blocks part Memory s (Desk (Unmap block)) (Refused given) t n c f h = absurd f
-fails_alone asked blocks part Memory s (Desk (Map block place)) (Refused given) t n c f h = absurd h
-fails_alone asked blocks part Memory s (Desk (ReleaseOrder block)) (Refused given) t n c f h = absurd h
-fails_alone asked blocks part Memory s (Desk (Arrive most)) (Refused given) t n c f h = absurd h
-fails_alone asked blocks part Memory s (Desk (Ask most)) (Refused given) t n c f h = absurd h
-fails_alone asked blocks part Memory s (Desk (BeginCommit most)) (Refused given) t n c f h = absurd h
-fails_alone asked blocks part Memory s (Desk EndCommit) (Refused given) t n c f h = absurd h
-fails_alone asked blocks part Memory s (Desk BreakCommit) (Refused given) t n c f h = absurd h
+fails_alone asked blocks part Memory s (Desk step) (Refused given) t n c f h = absurd h
 fails_alone asked blocks part Memory s (Device step) g t n c f h = absurd h
 fails_alone asked blocks part Worn s (Cell (Look (Number block))) (Word word) t n c f h = absurd cc
 fails_alone asked blocks part NotFormatted s (Device step) g t n c f h = absurd h
@@ -171,13 +145,7 @@ fails_alone asked blocks part Mismatch s (Device step) g t n c f h = absurd h
 fails_alone asked blocks part NotClean s (Device step) g t n c f h = absurd h
 fails_alone asked blocks part GenerationEnd s (Device step) g t n c f h = absurd h
 fails_alone asked blocks part GenerationEnd s (Desk (Unmap block)) (Refused given) t n c f h = absurd f
-fails_alone asked blocks part GenerationEnd s (Desk (Map block place)) (Refused given) t n c f h = absurd h
-fails_alone asked blocks part GenerationEnd s (Desk (ReleaseOrder block)) (Refused given) t n c f h = absurd h
-fails_alone asked blocks part GenerationEnd s (Desk (Arrive most)) (Refused given) t n c f h = absurd h
-fails_alone asked blocks part GenerationEnd s (Desk (Ask most)) (Refused given) t n c f h = absurd h
-fails_alone asked blocks part GenerationEnd s (Desk (BeginCommit most)) (Refused given) t n c f h = absurd h
-fails_alone asked blocks part GenerationEnd s (Desk EndCommit) (Refused given) t n c f h = absurd h
-fails_alone asked blocks part GenerationEnd s (Desk BreakCommit) (Refused given) t n c f h = absurd h
+fails_alone asked blocks part GenerationEnd s (Desk step) (Refused given) t n c f h = absurd h
 fails_alone asked blocks part r s w g t n c f h = absurd c
 
 -- nor do its steps

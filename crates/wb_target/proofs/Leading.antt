@@ -26,11 +26,6 @@ led_on due Made Once Kept Not tells size contents faults old before new (Cell st
 led_on due Made Once Kept Not tells size contents faults old before new (Desk step) got taken m kept led made once = absurd led
 led_on due Made Once Kept Not tells size contents faults old before new (End answer) got taken m kept led made once = absurd led
 
--- what holds of every refusal holds of the one that there is
-pub err_anyway : {T E : Type 0} (r : Result T E) (Q : E → Type 0) → ((e : E) → Q e) → IfErr r Q
-err_anyway (Ok x) Q f = tt
-err_anyway (Err e) Q f = f e
-
 -- where a call answered, what follows from its answer and what it promises of it
 pub answered_with : {T E : Type 0} (r : Result T E) (b : Bool) (P : T → Type 0) (Q : Type 0) → b ≡ is_ok r → ((t : T) → r ≡ Ok t → P t → Q) → IfOk r P → OnTrue b Q
 answered_with (Ok t) b P Q is f p = OnTrue_from b Q (λ yes. f t refl p)

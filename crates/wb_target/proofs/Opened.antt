@@ -14,7 +14,7 @@ use Rattle.wb_meta.specs.declared.read_steps.ReadSteps.{ReadSteps}
 use Rattle.wb_meta.specs.declared.read_steps.ReadSteps.TheVariants.{Done as AllRead}
 use Rattle.wb_meta.specs.declared.read_steps.State.{State}
 use Rattle.wb_tasks.specs.Tables.{TaskJob, Opening as OpeningJob}
-use Rattle.wb_tasks.specs.Plan.{Plan, table, want, after, node_writes, opening_root, Fits, IsStep}
+use Rattle.wb_tasks.specs.Plan.{Plan, table, want, after, node_writes, opening_root, Fits}
 use Rattle.wb_tasks.specs.Run.{IsRunOf, Leads}
 use Rattle.wb_tasks.specs.declared.step.Answer.{Answer}
 use Rattle.wb_tasks.specs.declared.step.Answer.TheVariants.{Done as Finished, Refused as Refuses}
@@ -33,7 +33,8 @@ use Rattle.wb_devices.specs.declared.devices.Devices.{Devices}
 use Rattle.wb_devices.specs.declared.opening_stage.OpeningStage.{OpeningStage}
 use Rattle.wb_devices.specs.declared.running.RunningCommit.{RunningCommit}
 use Rattle.wb_devices.proofs.Ending.{has_ended}
-use Rattle.wb_target.specs.Making.{Begins, IsMadeOf, MakingGoesOn, WasOpened, is_due, writes_metadata}
+use Rattle.wb_port.proofs.Paths.{peel}
+use Rattle.wb_target.specs.Making.{PolicyStarts, IsMadeOf, MakingGoesOn, WasOpened, is_due, writes_metadata}
 use Rattle.wb_target.specs.declared.office.Office.{Office}
 use Rattle.wb_target.specs.declared.making.MakingStage.{MakingStage}
 
@@ -90,7 +91,7 @@ none_less made there = ap is_none there.1
 image_stays : (size : ℕ) (next : RunningCommit) (step : _) (got : Got) (commit commit' : Option RunningCommit) → commit ≡ Some next → Goes size commit step got commit' → (later : RunningCommit) × (commit' ≡ Some later) × (later.image ≡ next.image)
 image_stays size next step got commit commit' is goes = let so : Goes size (Some next) step got commit' = subst (λ (c : Option RunningCommit). Goes size c step got commit') is goes in (so.0, so.1, so.2)
 
-module _ {D P : Type 0} (tells : Type 0) (size : D → ℕ) (contents : D → List History) (faults : D → ℕ) (starts : Begins P) (with_setting : P → Key → ℕ → Option P) (mode : Mode) (keys : List (Key × ℕ)) where
+module _ {D P : Type 0} (tells : Type 0) (size : D → ℕ) (contents : D → List History) (faults : D → ℕ) (starts : PolicyStarts P) (with_setting : P → Key → ℕ → Option P) (mode : Mode) (keys : List (Key × ℕ)) where
   abbrev Led : OpeningStage D → Want → Got → OpeningStage D → Type 0
   Led = LedOpening tells size contents faults
 
@@ -129,28 +130,6 @@ module _ {D P : Type 0} (tells : Type 0) (size : D → ℕ) (contents : D → Li
 
   step_first : (s : Plan) (old mid : OpeningStage D) (got : Got) (last : MakingStage D P) → Fits (want s) got → Led old (want s) got mid → Alone (after s got) mid last → Alone s old last
   step_first s old mid got last f led a = record { steps = (want s, got) ∷ a.steps; run = (refl, f, a.run); new = a.new; leads = (mid, led, a.leads); devices = a.devices; made = a.made; there = a.there }
-
-  -- a step that is to be taken is taken by a run
-  record Taken (s : Plan) (m last : MakingStage D P) : Type 0 where
-    got : Got
-    mid : MakingStage D P
-    rest : List (Want × Got)
-    fits : Fits (want s) got
-    makes : Makes m (want s) got mid
-    run : IsRunOf (after s got) rest Finished
-    leads : Leads Makes mid rest last
-
-  taken : (s : Plan) (m : MakingStage D P) (steps : List (Want × Got)) (last : MakingStage D P) → IsStep (want s) → IsRunOf s steps Finished → Leads Makes m steps last → Taken s m last
-  taken s m [] last is r l = absurd (subst IsStep r is)
-  taken s m (step ∷ steps) last is r l = record {
-    got = step.1;
-    mid = l.0;
-    rest = steps;
-    fits = subst (λ (w : Want). Fits w step.1) r.0 r.1;
-    makes = subst (λ (w : Want). Makes m w step.1 l.0) r.0 l.1;
-    run = r.2;
-    leads = l.2;
-  }
 
   -- a step that is the opening's own, as it stands
   pub record Stays (m mid : MakingStage D P) (w : Want) (got : Got) : Type 0 where
@@ -292,9 +271,9 @@ module _ {D P : Type 0} (tells : Type 0) (size : D → ℕ) (contents : D → Li
       let is : m ≡ last = subst (λ (s : List (Want × Got)). Leads Makes m s last) nothing l in
       record { steps = []; run = refl; new = with_read m.stage state; leads = refl; devices = ap (λ (x : MakingStage D P). x.stage.devices) is; made = h.made; there = subst (λ (x : MakingStage D P). IsThere x) is h.there }
   putting left (Device step ∷ ws) all m state h steps last r l =
-      let next = taken (to_come left (Device step ∷ ws)) m steps last tt r l in
+      let next = peel Makes (to_come left (Device step ∷ ws)) Finished steps m last tt r l in
       let well = after_put left step ws next.got next.rest all.0 next.fits next.run in
-      let w = wrote_on step m next.mid state all.0 h (subst (λ (got : Got). Makes m (Device step) got next.mid) well.0 next.makes) in
+      let w = wrote_on step m next.mid state all.0 h (subst (λ (got : Got). Makes m (Device step) got next.mid) well.0 next.did) in
       before_put left step ws (with_read m.stage state) (with_read next.mid.stage w.state) last all.0 w.led (putting left ws all.1 next.mid w.state w.holds next.rest last well.1 next.leads)
   putting left (w ∷ ws) all m state h steps last r l = absurd all.0
 
@@ -302,9 +281,9 @@ module _ {D P : Type 0} (tells : Type 0) (size : D → ℕ) (contents : D → Li
   put_first : (left : ℕ) (step : DeviceStep) (ws : List Want) → IsPut (Device step) → writes_metadata (Device step) ≡ true → AllPut ws → (m : MakingStage D P) → Stands m → (steps : List (Want × Got)) (last : MakingStage D P) → IsRunOf (to_come left (Device step ∷ ws)) steps Finished → Leads Makes m steps last
       → Alone (to_come left (Device step ∷ ws)) m.stage last
   put_first left step ws is first all m h steps last r l =
-      let next = taken (to_come left (Device step ∷ ws)) m steps last tt r l in
+      let next = peel Makes (to_come left (Device step ∷ ws)) Finished steps m last tt r l in
       let well = after_put left step ws next.got next.rest is next.fits next.run in
-      let w = wrote step m next.mid is first h (subst (λ (got : Got). Makes m (Device step) got next.mid) well.0 next.makes) in
+      let w = wrote step m next.mid is first h (subst (λ (got : Got). Makes m (Device step) got next.mid) well.0 next.did) in
       before_put left step ws m.stage (with_read next.mid.stage w.state) last is w.led (putting left ws all next.mid w.state w.holds next.rest last well.1 next.leads)
 
   -- ---- the root, and the nodes of what is converted before it
@@ -315,9 +294,9 @@ module _ {D P : Type 0} (tells : Type 0) (size : D → ℕ) (contents : D → Li
   writing : (left nodes : ℕ) (m : MakingStage D P) → Stands m → (steps : List (Want × Got)) (last : MakingStage D P) → IsRunOf (to_come left (node_writes nodes 0 ++ Device (Sync Metadata) ∷ opening_root)) steps Finished → Leads Makes m steps last
       → Alone (to_come left (node_writes nodes 0 ++ Device (Sync Metadata) ∷ opening_root)) m.stage last
   writing left zero m h steps last r l =
-      let next = taken (to_come left (Device (Sync Metadata) ∷ opening_root)) m steps last tt r l in
+      let next = peel Makes (to_come left (Device (Sync Metadata) ∷ opening_root)) Finished steps m last tt r l in
       let well = after_put left (Sync Metadata) opening_root next.got next.rest tt next.fits next.run in
-      let p = passes m next.mid (Device (Sync Metadata)) Done refl h (subst (λ (got : Got). Makes m (Device (Sync Metadata)) got next.mid) well.0 next.makes) in
+      let p = passes m next.mid (Device (Sync Metadata)) Done refl h (subst (λ (got : Got). Makes m (Device (Sync Metadata)) got next.mid) well.0 next.did) in
       before_put left (Sync Metadata) opening_root m.stage next.mid.stage last tt p.led (rooting left next.mid p.stands next.rest last well.1 next.leads)
   writing left (suc nodes) m h steps last r l = put_first left (WriteNode 0) (node_writes nodes 1 ++ Device (Sync Metadata) ∷ opening_root) tt refl (all_put nodes 1) m h steps last r l
 
@@ -361,20 +340,20 @@ module _ {D P : Type 0} (tells : Type 0) (size : D → ℕ) (contents : D → Li
       IsRunOf (after (to_come left (Device (Sync Cache) ∷ Device (Sync Origin) ∷ (to_read left left).steps)) got) rest Finished → Leads Makes mid rest last → Alone (to_come left (Device (Sync Cache) ∷ Device (Sync Origin) ∷ (to_read left left).steps)) m.stage last
   cache_by left m h Fault mid rest last f makes r l = absurd (not_done (OpeningJob left) (Io Cache) rest r)
   cache_by left m h Done mid rest last f makes r l =
-      let next = taken (to_come left (Device (Sync Origin) ∷ (to_read left left).steps)) mid rest last tt r l in
+      let next = peel Makes (to_come left (Device (Sync Origin) ∷ (to_read left left).steps)) Finished rest mid last tt r l in
       let p = passes m mid (Device (Sync Cache)) Done refl h makes in
       step_first (to_come left (Device (Sync Cache) ∷ Device (Sync Origin) ∷ (to_read left left).steps)) m.stage mid.stage Done last f p.led
-      (origin_by left mid p.stands next.got next.mid next.rest last next.fits next.makes next.run next.leads)
+      (origin_by left mid p.stands next.got next.mid next.rest last next.fits next.did next.run next.leads)
   cache_by left m h got mid rest last f makes r l = absurd f
 
   metadata_by : (left : ℕ) (m : MakingStage D P) → Stands m → (got : Got) (mid : MakingStage D P) (rest : List (Want × Got)) (last : MakingStage D P) → Fits (Device (Sync Metadata)) got → Makes m (Device (Sync Metadata)) got mid →
       IsRunOf (after (table (OpeningJob left)) got) rest Finished → Leads Makes mid rest last → Alone (table (OpeningJob left)) m.stage last
   metadata_by left m h Fault mid rest last f makes r l = absurd (not_done (OpeningJob left) (Io Metadata) rest r)
   metadata_by left m h Done mid rest last f makes r l =
-      let next = taken (to_come left (Device (Sync Cache) ∷ Device (Sync Origin) ∷ (to_read left left).steps)) mid rest last tt r l in
+      let next = peel Makes (to_come left (Device (Sync Cache) ∷ Device (Sync Origin) ∷ (to_read left left).steps)) Finished rest mid last tt r l in
       let p = passes m mid (Device (Sync Metadata)) Done refl h makes in
       step_first (table (OpeningJob left)) m.stage mid.stage Done last f p.led
-      (cache_by left mid p.stands next.got next.mid next.rest last next.fits next.makes next.run next.leads)
+      (cache_by left mid p.stands next.got next.mid next.rest last next.fits next.did next.run next.leads)
   metadata_by left m h got mid rest last f makes r l = absurd f
 
   -- ---- all of it
@@ -382,8 +361,8 @@ module _ {D P : Type 0} (tells : Type 0) (size : D → ℕ) (contents : D → Li
   -- an opening that has made no target yet, and is done in the end, of the devices alone
   done_alone : (first last : MakingStage D P) (left : ℕ) (steps : List (Want × Got)) → Stands first → IsRunOf (table (OpeningJob left)) steps Finished → Leads Makes first steps last → Alone (table (OpeningJob left)) first.stage last
   done_alone first last left steps h r l =
-      let next = taken (table (OpeningJob left)) first steps last tt r l in
-      metadata_by left first h next.got next.mid next.rest last next.fits next.makes next.run next.leads
+      let next = peel Makes (table (OpeningJob left)) Finished steps first last tt r l in
+      metadata_by left first h next.got next.mid next.rest last next.fits next.did next.run next.leads
 
   -- it has made its target
   pub has_made : (first last : MakingStage D P) (left : ℕ) (steps : List (Want × Got)) → MayGoOn (size first.stage.devices.metadata) first.stage.opening → first.stage.mode ≡ mode → first.keys.now ≡ keys → first.made ≡ None

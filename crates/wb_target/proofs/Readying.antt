@@ -5,9 +5,9 @@ use Rattle.wb_words.specs.declared.card.Hold.TheVariants.{Nothing}
 use Rattle.wb_types.specs.declared.extent.Extent.{Extent}
 use Rattle.wb_types.specs.declared.number.OBlock.{OBlock}
 use Rattle.wb_policy.specs.declared.order.Order.{Order}
-use Rattle.wb_tasks.specs.declared.step.DeviceStep.TheVariants.{Read, Write, Sync, ReadMetadata, WriteNode, WriteRoot}
+use Rattle.wb_tasks.specs.declared.step.DeviceStep.TheVariants.{Read, Write}
 use Rattle.wb_tasks.specs.declared.step.Migration.{Migration}
-use Rattle.wb_tasks.specs.declared.step.Want.TheVariants.{Cell, Device, Desk, End}
+use Rattle.wb_tasks.specs.declared.step.Want.TheVariants.{Device}
 use Rattle.wb_port.specs.Moves.{copied_to}
 use Rattle.wb_tasks.proofs.Placed.{moves_there}
 use Rattle.wb_port.proofs.Placed.{AreIn, IsMoving, MovesAt, whole_in, copies_there}
@@ -30,25 +30,13 @@ use Rattle.wb_stage.proofs.Readying.{served, begins, same_job}
 may_copy : (migration : Migration) (part : BlockRange) (held : List Order) (card : Card) (w : Want) → IsOrdered held part.block (copied_to migration) → IsMoving (Migrating migration part) card w → MayWork part.block_sectors held card w
 may_copy migration part held card (Device (Read device e)) o m = record { block = part.block; seal = m.1.0; owned = m.0; seen = m.1.1; dirty = m.1.2.1; at = m.1.2.0 }
 may_copy migration part held card (Device (Write device e)) o m = (record { block = part.block; to = copied_to migration; seal = m.1.0; owned = m.0; seen = m.1.1; dirty = m.1.2.1; at = m.1.2.0 }, o)
-may_copy migration part held card (Device (Sync device)) o m = tt
-may_copy migration part held card (Device (ReadMetadata left)) o m = tt
-may_copy migration part held card (Device (WriteNode number)) o m = tt
-may_copy migration part held card (Device WriteRoot) o m = tt
-may_copy migration part held card (Cell step) o m = tt
-may_copy migration part held card (Desk step) o m = tt
-may_copy migration part held card (End a) o m = tt
+may_copy migration part held card w o m = tt
 
 -- and a flush nothing
 flush_moves : (serves : List OBlock) (most size : ℕ) (held : List Order) (card : Card) (w : Want) → IsOwnStep (Flushing serves most) w → MayWork size held card w
 flush_moves serves most size held card (Device (Read device e)) o = absurd o
 flush_moves serves most size held card (Device (Write device e)) o = absurd o
-flush_moves serves most size held card (Device (Sync device)) o = tt
-flush_moves serves most size held card (Device (ReadMetadata left)) o = tt
-flush_moves serves most size held card (Device (WriteNode number)) o = tt
-flush_moves serves most size held card (Device WriteRoot) o = tt
-flush_moves serves most size held card (Cell step) o = tt
-flush_moves serves most size held card (Desk step) o = tt
-flush_moves serves most size held card (End a) o = tt
+flush_moves serves most size held card w o = tt
 
 -- Where every step makes of a card what such a step may make, its actor is ready wherever the steps have led.
 module _ {S : Type 0} (led : S → Want → Got → S → Type 0) (card : S → Card) (makes : (s : S) (w : Want) (g : Got) (t : S) → led s w g t → MayMake w g (card s) (card t)) where

@@ -19,7 +19,7 @@ use Rattle.wb_tasks.specs.declared.step.Got.{Got}
 use Rattle.wb_devices.specs.Openings.{HasNotBegun}
 use Rattle.wb_devices.specs.Outcomes.{IsRefused, IsRefusedFor}
 use Rattle.wb_devices.specs.declared.devices.Devices.{Devices}
-use Rattle.wb_target.specs.Making.{Begins, MakingGoesOn, WasRun}
+use Rattle.wb_target.specs.Making.{PolicyStarts, MakingGoesOn, WasRun}
 use Rattle.wb_target.specs.NotOpened.{IsOfSizes, IsToldOf, AreOnlySynced, WereRefused, WasReadOnly, IsNotOpened}
 use Rattle.wb_target.specs.declared.office.Office.{Office}
 use Rattle.wb_target.specs.declared.making.MakingStage.{MakingStage}
@@ -39,7 +39,7 @@ told_cause made answer refusal cause kept told = subst (λ m. IsToldOf m answer 
 told_none : {O : Type 0} (made : Option (Result O Refusal)) (refusal : Refusal) (office : O) → made ≡ Some (Ok office) → IsToldOf made Finished refusal → ⊥
 told_none made refusal office there told = let wrong : Finished ≡ Refuses refusal = subst (λ m. IsToldOf m Finished refusal) there told in cc
 
-module _ {D P : Type 0} (tells : Type 0) (size : D → ℕ) (contents : D → List History) (faults : D → ℕ) (starts : Begins P) (with_setting : P → Key → ℕ → Option P) (mode : Mode) (keys : List (Key × ℕ)) (block : ℕ) (metadata2 : Bool) (devices : Devices D)
+module _ {D P : Type 0} (tells : Type 0) (size : D → ℕ) (contents : D → List History) (faults : D → ℕ) (starts : PolicyStarts P) (with_setting : P → Key → ℕ → Option P) (mode : Mode) (keys : List (Key × ℕ)) (block : ℕ) (metadata2 : Bool) (devices : Devices D)
     (geometry : Geometry) (asked : IsOfSizes size devices block metadata2 geometry) (left : ℕ) (first last : MakingStage D P) (over : first.stage.devices ≡ devices) (in_mode : first.stage.mode ≡ mode) (of_geometry : first.stage.opening.geometry ≡ geometry)
     (keys_are : first.keys.now ≡ keys) (made_none : first.made ≡ None) (begins : HasNotBegun first.stage.opening) (steps : List (Want × Got)) (leads : Leads (MakingGoesOn tells size contents faults starts with_setting) first steps last) (back : Devices D) (back_is : back ≡ last.stage.devices) where
   abbrev Tried : Answer → Type 0

@@ -1,6 +1,6 @@
 -- Looks at seals, one run of them behind another.
-use Rattle.std.proofs.Common.{◌≡◌, ◌≤◌, ◌<◌, ◌∙◌, ◌+◌, ◌++◌, ℕ, suc, Bool, List, [], ◌∷◌, Option, Some, None, refl, sym, ap, subst, arith, map, if◌then◌else◌}
-use Rattle.std.proofs.lemmas.Bool.{le-ltb, lt-ltb}
+use Rattle.std.proofs.Common.{◌≡◌, ◌<◌, ◌∙◌, ◌+◌, ◌++◌, ℕ, suc, Bool, List, [], ◌∷◌, Option, Some, refl, sym, ap, subst, arith, map, if◌then◌else◌}
+use Rattle.std.proofs.lemmas.Bool.{lt-ltb}
 use Rattle.std.proofs.lemmas.List.{append_assoc, map-append}
 use Rattle.wb_tree.specs.Mapping.{Mapping, entry_at}
 use Rattle.wb_words.specs.SharedWords.{dirty_in}
@@ -12,11 +12,7 @@ use Rattle.wb_types.specs.declared.number.OBlock.{OBlock}
 use Rattle.wb_target.specs.Suspends.{block_within}
 use Rattle.wb_target.specs.Shown.{SawDirty, dirty_among, seals_latest_first}
 
--- none at all
-pub saw_none : (card : Card) → SawDirty card card [] 0
-saw_none card = record { looks = []; saw = refl; words_are = refl; dirty_are = refl }
-
--- and one
+-- one alone
 pub saw_one : (before after : Card) (word : Word) (x : ℕ) → after.saw ≡ (word, x) ∷ before.saw → SawDirty before after (word ∷ []) (if dirty_in x then 1 else 0)
 saw_one before after word x saw = record { looks = (word, x) ∷ []; saw = saw; words_are = refl; dirty_are = omega (arith) }
 
@@ -34,17 +30,9 @@ saw_more first mid last words more dirty others one two = record {
 
 -- ---- what a look at one cache block showed
 
-pub at_none : (count : ℕ) (found : Option Entry) (card : Card) → found ≡ None → SawDirty card card (map SealWord (block_within count found)) 0
-at_none count found card is = subst (λ (e : Option Entry). SawDirty card card (map SealWord (block_within count e)) 0) (sym is) (saw_none card)
-
 -- by whether the block is there
 abbrev listed_if : Bool → OBlock → List OBlock
 listed_if there block = if there then (block ∷ []) else []
-
-pub at_outside : (count : ℕ) (found : Option Entry) (entry : Entry) (card : Card) → found ≡ Some entry → count ≤ entry.origin.0 → SawDirty card card (map SealWord (block_within count found)) 0
-at_outside count found entry card is le =
-    subst (λ (e : Option Entry). SawDirty card card (map SealWord (block_within count e)) 0) (sym is)
-    (subst (λ (b : Bool). SawDirty card card (map SealWord (listed_if b entry.origin)) 0) (sym (le-ltb entry.origin.0 count le)) (saw_none card))
 
 pub at_seal : (count : ℕ) (found : Option Entry) (entry : Entry) (before after : Card) (x : ℕ) (b : Bool) → found ≡ Some entry → entry.origin.0 < count → after.saw ≡ (SealWord entry.origin, x) ∷ before.saw → dirty_in x ≡ b
     → SawDirty before after (map SealWord (block_within count found)) (if b then 1 else 0)

@@ -16,7 +16,7 @@ use Rattle.wb_tasks.specs.Run.{Leads}
 use Rattle.wb_tasks.specs.declared.step.Want.{Want}
 use Rattle.wb_tasks.specs.declared.step.Got.{Got}
 use Rattle.wb_devices.specs.Openings.{MayGoOn}
-use Rattle.wb_target.specs.Making.{Begins, MakingGoesOn}
+use Rattle.wb_target.specs.Making.{PolicyStarts, MakingGoesOn}
 use Rattle.wb_types.specs.declared.message.Key.{Key}
 use Rattle.wb_target.specs.declared.making.MakingStage.{MakingStage}
 
@@ -40,7 +40,7 @@ pub fits_written : (sectors : ℕ) (reading : Option (ReadSteps Global)) (state 
     → FitsDevice root.geometry.meta_sectors root state.tree state.used.items
 fits_written sectors reading state root is steps same = same_fits sectors state root same (subst (λ (r : Option (ReadSteps Global)). IfSome r (AreStepsOn sectors)) is steps).0
 
-pub goes_on_making : {D P : Type 0} (tells : Type 0) (size : D → ℕ) (contents : D → List History) (faults : D → ℕ) (starts : Begins P) (with_setting : P → Key → ℕ → Option P) (old : MakingStage D P) (steps : List (Want × Got)) (new : MakingStage D P) → MayGoOn (size old.stage.devices.metadata) old.stage.opening → Leads (MakingGoesOn tells size contents faults starts with_setting) old steps new
+pub goes_on_making : {D P : Type 0} (tells : Type 0) (size : D → ℕ) (contents : D → List History) (faults : D → ℕ) (starts : PolicyStarts P) (with_setting : P → Key → ℕ → Option P) (old : MakingStage D P) (steps : List (Want × Got)) (new : MakingStage D P) → MayGoOn (size old.stage.devices.metadata) old.stage.opening → Leads (MakingGoesOn tells size contents faults starts with_setting) old steps new
     → MayGoOn (size new.stage.devices.metadata) new.stage.opening
 goes_on_making {D} {P} tells size contents faults starts with_setting old [] new h e = subst (λ (s : MakingStage D P). MayGoOn (size s.stage.devices.metadata) s.stage.opening) e h
 goes_on_making tells size contents faults starts with_setting old (step ∷ steps) new h l = goes_on_making tells size contents faults starts with_setting l.0 steps new l.1.0 l.2

@@ -46,13 +46,13 @@ abbrev pub IsReadyToMake : {D P : Type 0} → (D → ℕ) → MakingStage D P �
 IsReadyToMake size making want = IsOpenings want × MayGoOn (size making.stage.devices.metadata) making.stage.opening
 
 -- how a policy may begin, over these sizes with these entries
-abbrev pub Begins : Type 0 → Type 1
-Begins P = Geometry → List (Option Entry) → P → Type 0
+abbrev pub PolicyStarts : Type 0 → Type 1
+PolicyStarts P = Geometry → List (Option Entry) → P → Type 0
 
 -- What lies under a target's lock was made of this tree, whose places are these, by a root of this generation, in this mode, with the last value of each
 -- key: its desk, whose policy began with these entries; and as many seats as there may be clients, of the same words as the one that watches, by which the blocks of these entries, and no
 -- others, were sealed.
-pub record IsMade {P : Type 0} (starts : Begins P) (with_setting : P → Key → ℕ → Option P) (geometry : Geometry) (generation : ℕ) (tree : Mapping) (used : List Place) (entries : List (Option Entry)) (mode : Mode) (keys : List (Key × ℕ)) (office : Office P) : Type 0 where
+pub record IsMade {P : Type 0} (starts : PolicyStarts P) (with_setting : P → Key → ℕ → Option P) (geometry : Geometry) (generation : ℕ) (tree : Mapping) (used : List Place) (entries : List (Option Entry)) (mode : Mode) (keys : List (Key × ℕ)) (office : Office P) : Type 0 where
   pub desk_is : office.desk ≡ opened geometry generation tree used mode office.desk.policy (threshold_of (last_value MigrationThreshold keys)) (mapped_now office.desk)
   pub first : P
   pub begins : starts geometry entries first
@@ -62,11 +62,11 @@ pub record IsMade {P : Type 0} (starts : Begins P) (with_setting : P → Key →
   pub sealed : office.watch.pass.card.stored ≡ seals_stored 0 entries []
 
 -- it was made of this state, as it is opened, by the root of this image
-abbrev pub IsMadeOf : {P : Type 0} → Begins P → (P → Key → ℕ → Option P) → State Global → Image → Mode → List (Key × ℕ) → Office P → Type 0
+abbrev pub IsMadeOf : {P : Type 0} → PolicyStarts P → (P → Key → ℕ → Option P) → State Global → Image → Mode → List (Key × ℕ) → Office P → Type 0
 IsMadeOf starts with_setting state image mode keys office = IsMade starts with_setting state.root.geometry image.root.generation state.tree state.used.items (opened_mapping state.root.clean (entries_of state)) mode keys office
 
 -- it was made of what was read, or was converted, by the root that comes next
-pub record IsMadeOfRead {D P : Type 0} (starts : Begins P) (with_setting : P → Key → ℕ → Option P) (making : MakingStage D P) (office : Office P) : Type 0 where
+pub record IsMadeOfRead {D P : Type 0} (starts : PolicyStarts P) (with_setting : P → Key → ℕ → Option P) (making : MakingStage D P) (office : Office P) : Type 0 where
   pub state : State Global
   pub next : RunningCommit
   pub reading_is : making.stage.opening.reading ≡ Some (AllRead state)
@@ -83,7 +83,7 @@ writes_metadata want = false
 abbrev pub is_due : {M : Type 0} → Option M → Want → Bool
 is_due made want = writes_metadata want && is_none made
 
-abbrev pub MadeFirst : {D P : Type 0} → Begins P → (P → Key → ℕ → Option P) → MakingStage D P → Want → Option (Result (Office P) Refusal) → Type 0
+abbrev pub MadeFirst : {D P : Type 0} → PolicyStarts P → (P → Key → ℕ → Option P) → MakingStage D P → Want → Option (Result (Office P) Refusal) → Type 0
 MadeFirst {D} {P} starts with_setting making want made = is_due making.made want ≡ true → (office : Office P) × (made ≡ Some (Ok office)) × IsMadeOfRead starts with_setting making office
 
 -- and once alone
@@ -115,7 +115,7 @@ pub record IsTakenFor {D : Type 0} (due : Bool) (old before : OpeningStage D) : 
 
 -- A step is one of the opening in its mode, over what was read so far or, where that was taken for the target, without it, and that was made before the first
 -- node or root is written, and stays; or it was due and could not be made, and no device was asked. What was read so far, where it is still there, is of the metadata device; the keys stay.
-abbrev pub MakingGoesOn : {D P : Type 0} → Type 0 → (D → ℕ) → (D → List History) → (D → ℕ) → Begins P → (P → Key → ℕ → Option P) → MakingStage D P → Want → Got → MakingStage D P → Type 0
+abbrev pub MakingGoesOn : {D P : Type 0} → Type 0 → (D → ℕ) → (D → List History) → (D → ℕ) → PolicyStarts P → (P → Key → ℕ → Option P) → MakingStage D P → Want → Got → MakingStage D P → Type 0
 MakingGoesOn {D} tells size contents faults starts with_setting old want got new =
     MayGoOn (size new.stage.devices.metadata) new.stage.opening
     × (new.stage.mode ≡ old.stage.mode)
@@ -124,7 +124,7 @@ MakingGoesOn {D} tells size contents faults starts with_setting old want got new
     ⊎ ((got ≡ Fault) × (is_due old.made want ≡ true) × (new.stage.devices ≡ old.stage.devices) × WasNotMade with_setting old.keys.now old.stage.opening old.made new.made))
 
 -- An opening in this mode that had not begun was run over these devices, by its table up to this answer, and what its devices are then is handed back.
-pub record WasRun {D P : Type 0} (tells : Type 0) (size : D → ℕ) (contents : D → List History) (faults : D → ℕ) (starts : Begins P) (with_setting : P → Key → ℕ → Option P) (mode : Mode) (devices : Devices D) (answer : Answer) (back : Devices D) : Type 0 where
+pub record WasRun {D P : Type 0} (tells : Type 0) (size : D → ℕ) (contents : D → List History) (faults : D → ℕ) (starts : PolicyStarts P) (with_setting : P → Key → ℕ → Option P) (mode : Mode) (devices : Devices D) (answer : Answer) (back : Devices D) : Type 0 where
   pub left : ℕ
   pub first : MakingStage D P
   pub last : MakingStage D P
@@ -141,7 +141,7 @@ pub record WasRun {D P : Type 0} (tells : Type 0) (size : D → ℕ) (contents :
 -- same as version 2 has it, whose nodes and root were written since then, and are durable. What cache and origin held is durable; in passthrough it was left
 -- clean. And what lies under the target's lock was made of just that state, by that root, desk and seals: so what its mapping shows of each sector is the content that is on
 -- the place which the metadata name.
-pub record WasOpened {D P : Type 0} (tells : Type 0) (size : D → ℕ) (contents : D → List History) (starts : Begins P) (with_setting : P → Key → ℕ → Option P) (mode : Mode) (keys : List (Key × ℕ)) (devices back : Devices D) : Type 0 where
+pub record WasOpened {D P : Type 0} (tells : Type 0) (size : D → ℕ) (contents : D → List History) (starts : PolicyStarts P) (with_setting : P → Key → ℕ → Option P) (mode : Mode) (keys : List (Key × ℕ)) (devices back : Devices D) : Type 0 where
   pub opening : Opening
   pub done : IsOpen (size back.metadata) opening
   pub over : tells → IsOpenOver done (contents devices.metadata) (contents back.metadata)

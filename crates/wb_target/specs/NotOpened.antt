@@ -12,7 +12,7 @@ use Rattle.wb_disk.specs.Device.{History, newest, synced}
 use Rattle.wb_tasks.specs.declared.step.Answer.{Answer}
 use Rattle.wb_tasks.specs.declared.step.Answer.TheVariants.{Refused as Refuses}
 use Rattle.wb_devices.specs.Outcomes.{DataIsDurable, IsRefusedFor}
-use Rattle.wb_target.specs.Making.{Begins, WasRun, IsNotMadeFor}
+use Rattle.wb_target.specs.Making.{PolicyStarts, WasRun, IsNotMadeFor}
 use Rattle.wb_devices.specs.declared.devices.Devices.{Devices}
 
 -- This geometry has the sizes of these devices, of which cache and origin are of whole blocks, and metadata of the version that is asked for.
@@ -45,14 +45,14 @@ pub record WereRefused {D : Type 0} (tells : Type 0) (size : D → ℕ) (content
   pub cause : tells → IsRefusedFor mode (map newest (synced (contents devices.metadata))) geometry refusal
 
 -- Before anything was written no target could be made: there is none for want of memory, or for a key's value.
-pub record WasReadOnly {D P : Type 0} (tells : Type 0) (size : D → ℕ) (contents : D → List History) (faults : D → ℕ) (starts : Begins P) (with_setting : P → Key → ℕ → Option P) (mode : Mode) (keys : List (Key × ℕ)) (devices : Devices D) (refusal : Refusal) (back : Devices D) : Type 0 where
+pub record WasReadOnly {D P : Type 0} (tells : Type 0) (size : D → ℕ) (contents : D → List History) (faults : D → ℕ) (starts : PolicyStarts P) (with_setting : P → Key → ℕ → Option P) (mode : Mode) (keys : List (Key × ℕ)) (devices : Devices D) (refusal : Refusal) (back : Devices D) : Type 0 where
   pub run : WasRun tells size contents faults starts with_setting mode devices (Refuses (Io Metadata)) back
   pub durable : AreOnlySynced tells contents devices back
   pub cause : IsNotMadeFor with_setting keys refusal
 
 -- Why no target was opened over devices that were these and are those: no cache has their sizes, and they are as they were; or no target could be made;
 -- or a run of the opening's table ended so, and unless it was that a device failed, the metadata were refused.
-abbrev pub IsNotOpened : {D P : Type 0} → Type 0 → (D → ℕ) → (D → List History) → (D → ℕ) → Begins P → (P → Key → ℕ → Option P) → Mode → List (Key × ℕ) → ℕ → Bool → Devices D → Devices D → Refusal → Type 0
+abbrev pub IsNotOpened : {D P : Type 0} → Type 0 → (D → ℕ) → (D → List History) → (D → ℕ) → PolicyStarts P → (P → Key → ℕ → Option P) → Mode → List (Key × ℕ) → ℕ → Bool → Devices D → Devices D → Refusal → Type 0
 IsNotOpened tells size contents faults starts with_setting mode keys block metadata2 devices back refusal =
     ((refusal ≡ NoGeometry) × AreNoSizes size devices block metadata2 × (back ≡ devices))
     ⊎ WasReadOnly tells size contents faults starts with_setting mode keys devices refusal back

@@ -9,7 +9,6 @@ ghost use Rattle.wb_tasks.specs.Ready.{StaysReady};
 ghost use Rattle.wb_tasks.specs.Tables.{OnBlock, Displacing};
 ghost use Rattle.wb_port.specs.Ports.{block_at};
 ghost use Rattle.wb_port.specs.Requests.{part_of};
-ghost use Rattle.wb_port.specs.Straight.{ComesTo};
 ghost use Rattle.wb_target.specs.Blocking.{IsInsideOrigin, WriteCame};
 ghost use Rattle.wb_target.specs.Displaces.{IsReadyToDisplace, DisplaceLed, WasDisplaced};
 ghost use Rattle.wb_target.specs.Works.{WasAsked};

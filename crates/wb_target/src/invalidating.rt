@@ -5,7 +5,7 @@ ghost use Rattle.wb_types.specs.declared.number.OBlock.{OBlock as OBlockValue};
 ghost use Rattle.wb_words.specs.declared.card.Hold.TheVariants.{Nothing};
 ghost use Rattle.wb_tasks.specs.Ready.{StaysReady};
 ghost use Rattle.wb_port.specs.Hands.{saw_fail_word};
-ghost use Rattle.wb_port.specs.Straight.{ComesTo};
+ghost use Rattle.wb_port.specs.Requests.{ComesTo};
 ghost use Rattle.wb_target.specs.Invalidates.{invalidation, IsReadyToInvalidate, InvalidateLed, WasInvalidated, InvalidationCame, WasFound, IsEmptied, range_places, HaveLeftCache, HaveFailed, LeavesTheRest, WereInvalidated, InvalidateRefused};
 ghost use Rattle.wb_target.specs.Works.{WasAsked};
 

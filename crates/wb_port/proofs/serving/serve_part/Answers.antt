@@ -2,7 +2,7 @@ use Rattle.std.proofs.Common.{sym, subst}
 use Rattle.wb_tasks.specs.Ready.{StaysReady}
 use Rattle.wb_tasks.specs.Tables.{OnBlock}
 use Rattle.wb_tasks.specs.Plan.{table}
-use Rattle.wb_port.specs.Straight.{ComesTo}
+use Rattle.wb_port.specs.Requests.{ComesTo}
 use Rattle.wb_port.proofs.Onward.{one_part}
 use Rattle.wb_port.proofs.serving.serve_part.Goals as goal
 

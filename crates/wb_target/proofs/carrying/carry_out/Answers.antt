@@ -2,8 +2,8 @@ use Rattle.std.proofs.Common.{[], ◌∷◌}
 use Rattle.wb_policy.specs.declared.order.Order.TheVariants.{Replace}
 use Rattle.wb_target.specs.Carried.{client_state, Runs, jobs_of, share_of}
 use Rattle.wb_meta.proofs.Loaded.{IfErr-handed}
-use Rattle.wb_target.proofs.Carried.{done_of, one_done, replaced}
-use Rattle.wb_target.proofs.Turns.{one_given_up, demotion_given_up, flush_given_up, promotion_given_up}
+use Rattle.wb_target.proofs.Carried.{done_of, one_done}
+use Rattle.wb_target.proofs.Turns.{replaced, one_given_up, demotion_given_up, flush_given_up, promotion_given_up}
 use Rattle.wb_target.specs.Works.{AskedSharing}
 use Rattle.wb_target.proofs.carrying.carry_out.Goals as goal
 

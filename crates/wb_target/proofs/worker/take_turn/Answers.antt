@@ -2,8 +2,7 @@ use Rattle.std.proofs.Common.{◌≡◌, Option, Some, subst, [], ◌∷◌}
 use Rattle.std.proofs.lemmas.Result.{IfErr-at_err}
 use Rattle.wb_target.specs.Carried.{client_state, Runs, jobs_of}
 use Rattle.wb_target.specs.Workers.{GaveUpAmong, Carried, GaveUp, GaveBack}
-use Rattle.wb_target.proofs.Carried.{jobs_in}
-use Rattle.wb_target.proofs.Turns.{looked, gave_up_in, stopped_at}
+use Rattle.wb_target.proofs.Turns.{looked, jobs_in, gave_up_in, stopped_at}
 use Rattle.wb_target.specs.Works.{AskedSharing}
 use Rattle.wb_policy.specs.declared.order.Order.{Order}
 use Rattle.wb_target.specs.Told.{WasNext}

@@ -3,8 +3,7 @@ use Rattle.wb_policy.specs.declared.order.Order.{Order}
 use Rattle.wb_target.specs.Told.{WasNext}
 use Rattle.wb_meta.proofs.Loaded.{IfErr-handed}
 use Rattle.wb_target.specs.Carried.{client_state}
-use Rattle.wb_target.proofs.Carried.{jobs_in}
-use Rattle.wb_target.proofs.Turns.{begun_by, gave_up_in}
+use Rattle.wb_target.proofs.Turns.{begun_by, jobs_in, gave_up_in}
 use Rattle.wb_target.specs.Works.{AskedSharing}
 use Rattle.wb_target.proofs.client.Client.work_one.Goals as goal
 
