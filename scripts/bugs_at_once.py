@@ -133,4 +133,5 @@ def main():
             shutil.move(f"{seed}/{kept}", kept)
 
 
-main()
+if __name__ == "__main__":
+    main()

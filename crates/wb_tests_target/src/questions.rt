@@ -13,7 +13,7 @@ use crate::requests::{defers, refuses, settles_all, settles_alone};
 use crate::retiring::writes_twice;
 use crate::sharing::leads_alone;
 use crate::suspends::is_kept;
-use crate::ticks::ticks;
+use crate::ticks::{ticks, ticks_once};
 use crate::unclean::orders;
 use crate::workers::{carries_out_all, takes_no_more};
 use std::alloc::Global;
@@ -36,6 +36,7 @@ pub enum Question {
     SettlesAlone,
     SettlesAll,
     Ticks,
+    TicksOnce,
     TakesNoMore,
     CarriesOutAll,
     /// Whether a sector begins with this byte.
@@ -153,6 +154,7 @@ fn answer(
         Question::SettlesAlone => settles_alone(rt, client),
         Question::SettlesAll => settles_all(rt, client),
         Question::Ticks => ticks(rt, target, client),
+        Question::TicksOnce => ticks_once(rt, target, client),
         Question::TakesNoMore => takes_no_more(rt, client),
         Question::CarriesOutAll => carries_out_all(rt, target, client),
         Question::Shows(at, byte) => shows(rt, client, at, byte),

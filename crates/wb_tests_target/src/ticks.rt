@@ -1,5 +1,6 @@
 //! Ticks, by which dirty blocks are written back.
 
+use crate::caching::fills_and_flushes;
 use crate::fixture::{Lent, begun_with, shows, worked, write_and_read};
 use crate::questions::{Question, answered};
 use std::sync::Wait;
@@ -20,8 +21,24 @@ pub fn ticks(rt: &impl Wait, target: &Target<TinyLfu>, client: &mut Lent<'_>) ->
         && shows(rt, client, 70, 0x22)
 }
 
+/// Whether a tick orders that the least recent of four dirty blocks be written back, and no other.
+pub fn ticks_once(rt: &impl Wait, target: &Target<TinyLfu>, client: &mut Lent<'_>) -> bool {
+    fills_and_flushes(rt, client)
+        && target.dirty(rt) == 4
+        && client.tick(rt).is_ok()
+        && worked(rt, client) == Some(Order::Clean(OBlock(0)))
+        && worked(rt, client).is_none()
+        && target.dirty(rt) == 3
+}
+
 #[test]
 fn a_tick_has_a_dirty_block_written_back(rt: HostRuntime) -> Result<(), Fail> {
     assert!(rt; answered(&rt, rt.alloc(), Question::Ticks)?);
+    Ok(())
+}
+
+#[test]
+fn a_tick_has_one_of_several_dirty_blocks_written_back(rt: HostRuntime) -> Result<(), Fail> {
+    assert!(rt; answered(&rt, rt.alloc(), Question::TicksOnce)?);
     Ok(())
 }
