@@ -4,7 +4,7 @@
 
 A body that answers `Memory` and does nothing meets a contract that says `Memory`. Each row here is a public call with the answer that it then gives, put in
 front of its body in a copy of the sources, and a test that asks for the answer there is with ample memory: it has to fail. The copy is compiled
-without a proof by `rt try`; a test 'wbcache' or 'wbnbd' is a run of that program with what it has to print. With words, the rows whose call has
+without a proof by `rt try`. With words, the rows whose call has
 one of them are tried; 'together' tries those of one crate of tests in one copy, which says what it says where none of these calls is made by the tests of
 another one of them. It prints for each row which tests failed, and at the end 'N passed, N failed'. One row takes half a minute or more, all of
 them some 40 minutes, so the gate does not call it.

@@ -27,7 +27,8 @@ def rows(words):
 def put(folder, edit):
     """Makes an edit in the copy: it is one of the crate whose folder it stands in."""
     file, old, new = pair_of(f"{TOP}/{edit}")
-    name = f"{folder}/crates/{edit.split('/')[-3 if '/bugs/' in edit else -2]}/{file}"
+    crate = os.path.basename(os.path.dirname(edit.replace("/bugs/", "/")))
+    name = f"{folder}/crates/{crate}/{file}"
     with open(name, encoding="utf-8") as source:
         text = source.read()
     if text.count(old) != 1:
