@@ -1,5 +1,6 @@
 //! The sizes of a cache.
 
+ghost use Rattle.std.specs.Bool.{OnTrue, OnFalse};
 ghost use Rattle.std.specs.Prelude.{◌≡◌, ◌≤◌, ◌+◌, ◌*◌, ◌^◌, ℕ, IfOk, IfErr};
 ghost use Rattle.wb_types.specs.declared.version.Version.TheVariants.{One};
 ghost use Rattle.wb_types.specs.Limits.{IsWithinLimits, HasRoom, IsDepth, depth_of, dirty_depth_of, dirty_node_count, dirty_nodes, most_nodes, node_count, nodes_up_to};
@@ -42,13 +43,21 @@ impl Geometry {
         ensures refused { IfErr result (λ r. r ≡ Refusal.Geometry) }
         ensures outside { IfErr result (λ _. ¬ IsWithinLimits block cache_blocks origin_blocks meta_sectors) }
     {
-        within_limits(
-            block,
-            cache_blocks,
-            origin_blocks,
-            meta_sectors,
-            Version::One,
-        )
+        let sizes_fit = (64..=2_097_152).contains(&block)
+            && block % 64 == 0
+            && (1..=1_048_575).contains(&cache_blocks)
+            && (1..=1_048_576).contains(&origin_blocks)
+            && meta_sectors <= 4_294_967_295;
+        if !sizes_fit || meta_sectors < 2 + 2 * u64::from(count_nodes(cache_blocks as u32)) {
+            return Err(Refusal::Geometry);
+        }
+        Ok(Geometry {
+            block: block as u32,
+            cache_blocks: cache_blocks as u32,
+            origin_blocks: origin_blocks as u32,
+            meta_sectors: meta_sectors as u32,
+            version: Version::One,
+        })
     }
 
     /// The geometry of these sizes, as `new` takes them, with metadata of the version that has this number; `Geometry`
@@ -72,7 +81,34 @@ impl Geometry {
         let Some(version) = Version::of(version) else {
             return Err(Refusal::Geometry);
         };
-        within_limits(block, cache_blocks, origin_blocks, meta_sectors, version)
+        let sizes = Geometry::new(block, cache_blocks, origin_blocks, meta_sectors)?;
+        if !sizes.has_room(version) {
+            return Err(Refusal::Geometry);
+        }
+        let Geometry {
+            block,
+            cache_blocks,
+            origin_blocks,
+            meta_sectors,
+            ..
+        } = sizes;
+        Ok(Geometry {
+            block,
+            cache_blocks,
+            origin_blocks,
+            meta_sectors,
+            version,
+        })
+    }
+
+    /// Whether the metadata device has room for metadata of this version.
+    fn has_room(&self, version: Version) -> bool
+        ensures room { OnTrue result (HasRoom version self.now.cache_blocks self.now.meta_sectors) }
+        ensures no_room { OnFalse result (¬ HasRoom version self.now.cache_blocks self.now.meta_sectors) }
+    {
+        let dirty = count_dirty_nodes(version, self.cache_blocks);
+        let least = 2 + 2 * u64::from(count_nodes(self.cache_blocks)) + u64::from(dirty);
+        u64::from(self.meta_sectors) >= least
     }
 
     /// The levels of the mapping tree, 1 to 4.
@@ -131,45 +167,6 @@ impl Geometry {
     {
         u64::from(self.block) * u64::from(self.cache_blocks)
     }
-}
-
-/// The geometry of these sizes and this version; `Geometry` exactly where they lie outside the limits, or give it too
-/// little room.
-fn within_limits(
-    block: u64,
-    cache_blocks: u64,
-    origin_blocks: u64,
-    meta_sectors: u64,
-    version: Version,
-) -> Result<Geometry, Refusal>
-    ensures block { IfOk result (λ g. g.block ≡ block) }
-    ensures cache_blocks { IfOk result (λ g. g.cache_blocks ≡ cache_blocks) }
-    ensures origin_blocks { IfOk result (λ g. g.origin_blocks ≡ origin_blocks) }
-    ensures meta_sectors { IfOk result (λ g. g.meta_sectors ≡ meta_sectors) }
-    ensures version { IfOk result (λ g. g.version ≡ version) }
-    ensures refused { IfErr result (λ r. r ≡ Refusal.Geometry) }
-    ensures outside { IfErr result (λ _. IsWithinLimits block cache_blocks origin_blocks meta_sectors → ¬ HasRoom version cache_blocks meta_sectors) }
-{
-    let sizes_fit = (64..=2_097_152).contains(&block)
-        && block % 64 == 0
-        && (1..=1_048_575).contains(&cache_blocks)
-        && (1..=1_048_576).contains(&origin_blocks)
-        && meta_sectors <= 4_294_967_295;
-    if !sizes_fit {
-        return Err(Refusal::Geometry);
-    }
-    let nodes = count_nodes(cache_blocks as u32);
-    let dirty = count_dirty_nodes(version, cache_blocks as u32);
-    if meta_sectors < 2 + 2 * u64::from(nodes) + u64::from(dirty) {
-        return Err(Refusal::Geometry);
-    }
-    Ok(Geometry {
-        block: block as u32,
-        cache_blocks: cache_blocks as u32,
-        origin_blocks: origin_blocks as u32,
-        meta_sectors: meta_sectors as u32,
-        version,
-    })
 }
 
 /// The least number of levels of 32 words a node that hold so many words, each of a cache block or of 64 dirty bits.
