@@ -69,9 +69,7 @@ impl Geometry {
         meta_sectors: u64,
         version: u32,
     ) -> Result<Geometry, Refusal>
-        ensures block { IfOk result (λ g. g.block ≡ block) }
-        ensures cache_blocks { IfOk result (λ g. g.cache_blocks ≡ cache_blocks) }
-        ensures origin_blocks { IfOk result (λ g. g.origin_blocks ≡ origin_blocks) }
+        ensures blocks { IfOk result (λ g. (g.block ≡ block) × (g.cache_blocks ≡ cache_blocks) × (g.origin_blocks ≡ origin_blocks)) }
         ensures meta_sectors { IfOk result (λ g. g.meta_sectors ≡ meta_sectors) }
         ensures version { IfOk result (λ g. version ≡ version_number g.version) }
         ensures refused { IfErr result (λ r. r ≡ Refusal.Geometry) }
