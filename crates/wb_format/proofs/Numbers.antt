@@ -67,6 +67,18 @@ same-before a b c t u p q l k low high = p k low (omega arith) ∙ q k low high
 pub same-after : (a b c : List ℕ) (f g : ℕ) → SameBytes a b f 512 → SameBytes b c g 512 → g ≤ f → SameBytes a c f 512
 same-after a b c f g p q l k low high = p k low high ∙ q k (omega arith) high
 
+-- the same bytes before one offset, and from another on
+pub record SameAround (one other : List ℕ) (from to : ℕ) : Type 0 where
+  pub before : SameBytes one other 0 from
+  pub after : SameBytes one other to 512
+
+-- one write more, in front of the others
+pub same-around : (a b c : List ℕ) (from to f g : ℕ) → SameAround a b from to → SameBytes b c 0 f → SameBytes b c g 512 → f ≤ from → g ≤ to → SameAround a c f to
+same-around a b c from to f g around before after low high = record {
+  before = same-before a b c from f around.before before low;
+  after = same-after a b c to g around.after after high;
+}
+
 -- two ranges that touch
 pub same-beside : (s t : List ℕ) (from mid to : ℕ) → SameBytes s t from mid → SameBytes s t mid to → SameBytes s t from to
 same-beside s t from mid to p q k low high = elim (cases_lt k mid) [ inl below ↦ p k low below | inr above ↦ q k above high ]
