@@ -63,10 +63,10 @@ ClientDid tells size contents faults asked settled ticked next messaged old (Wro
     × (how ≡ Led → tells → AreSynced contents new.port.hand.devices)
 ClientDid tells size contents faults asked settled ticked next messaged old Flushed new = DidFlush tells size contents faults asked old new
 ClientDid tells size contents faults asked settled ticked next messaged old (TriedRead at content) new =
-    WasRead tells size contents faults old.port.geometry.block (block_at old.port.geometry at) (record { first = at; count = length content }) content old.port.hand new.port.hand
+    (before : List Bytes) × WasRead tells size contents faults old.port.cells.value.blocks old.port.geometry.block (block_at old.port.geometry at) (record { first = at; count = length content }) before content old.port.hand new.port.hand
     × (new.port.accesses.items ≡ old.port.accesses.items ++ block_at old.port.geometry at ∷ [])
 ClientDid tells size contents faults asked settled ticked next messaged old (TriedWrite at content) new =
-    WasWritten tells size contents faults old.port.geometry.block (block_at old.port.geometry at) (record { first = at; count = length content }) content old.port.hand new.port.hand
+    WasWritten tells size contents faults old.port.cells.value.blocks old.port.geometry.block (block_at old.port.geometry at) (record { first = at; count = length content }) content old.port.hand new.port.hand
     × (new.port.accesses.items ≡ old.port.accesses.items ++ block_at old.port.geometry at ∷ [])
 ClientDid tells size contents faults asked settled ticked next messaged old Settled new =
     (0 < length old.port.accesses.items → settled old.port.accesses.items) × (new.port.accesses.items ≡ []) × (new.port.hand ≡ old.port.hand)

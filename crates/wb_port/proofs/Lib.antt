@@ -10,4 +10,3 @@ pub mod Placed
 pub mod Ranging
 pub mod Serves
 pub mod Onward
-pub mod Making

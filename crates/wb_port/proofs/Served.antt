@@ -90,9 +90,9 @@ module _ {D : Type 0} (tells : Type 0) (size : D → ℕ) (contents : D → List
   write_led = WriteLed tells size contents faults
 
   -- a read that is answered done
-  pub read_whole : (steps : List (Want × Got)) (old new : ReadStage D) → old.moved ≡ 0 → block.0 < old.cells.now.blocks → length old.out.now ≡ sectors.count → sectors.first % block_sectors + sectors.count ≤ block_sectors
-      → IsRunOf (table (OnBlock (Reading (part old.hand.now.mode)))) steps Finished → Leads read_led old steps new → WasRead tells size contents faults block_sectors block sectors new.out.now old.hand.now new.hand.now
-  read_whole steps old new unmoved there fits inside r l =
+  pub read_whole : (steps : List (Want × Got)) (old new : ReadStage D) → old.moved ≡ 0 → length old.out.now ≡ sectors.count → sectors.first % block_sectors + sectors.count ≤ block_sectors
+      → IsRunOf (table (OnBlock (Reading (part old.hand.now.mode)))) steps Finished → Leads read_led old steps new → WasRead tells size contents faults old.cells.now.blocks block_sectors block sectors old.out.now new.out.now old.hand.now new.hand.now
+  read_whole steps old new unmoved fits inside r l =
       let p : BlockRange = part old.hand.now.mode in
       let job : BlockJob = Reading p in
       let a = acquired read_led job steps old new r l in
@@ -145,9 +145,6 @@ module _ {D : Type 0} (tells : Type 0) (size : D → ℕ) (contents : D → List
         given = λ told. subst (GivesEach (contents (device_in (device_at place) old.hand.now.devices)) (first_at block_sectors place sectors.first)) (take_all sectors.count all.mid.out.now (omega (arith, known.many)) ∙ sym os) (known.given told);
         same = λ told. ap (λ (x : Devices D). contents (device_in (device_at place) x)) ds ∙ known.same told;
         no_fault = λ told. ap (λ (x : Devices D). faults (device_in (device_at place) x)) ds ∙ known.no_fault told;
-        blocks = old.cells.now.blocks;
-        there = there;
-        before = old.out.now;
         run = (
           steps,
           r,
@@ -299,9 +296,9 @@ module _ {D : Type 0} (tells : Type 0) (size : D → ℕ) (contents : D → List
     written_all Passthrough place is = at_one Passthrough None is (λ count moved. refl)
 
   -- a write that is answered done
-  pub write_whole : (steps : List (Want × Got)) (old new : WriteStage D) → old.moved ≡ 0 → block.0 < old.cells.now.blocks → length old.from.now ≡ sectors.count → sectors.first % block_sectors + sectors.count ≤ block_sectors
-      → IsRunOf (table (OnBlock (Writing (part old.hand.now.mode)))) steps Finished → Leads write_led old steps new → WasWritten tells size contents faults block_sectors block sectors old.from.now old.hand.now new.hand.now
-  write_whole steps old new unmoved there fits inside r l =
+  pub write_whole : (steps : List (Want × Got)) (old new : WriteStage D) → old.moved ≡ 0 → length old.from.now ≡ sectors.count → sectors.first % block_sectors + sectors.count ≤ block_sectors
+      → IsRunOf (table (OnBlock (Writing (part old.hand.now.mode)))) steps Finished → Leads write_led old steps new → WasWritten tells size contents faults old.cells.now.blocks block_sectors block sectors old.from.now old.hand.now new.hand.now
+  write_whole steps old new unmoved fits inside r l =
       let mode : Mode = old.hand.now.mode in
       let job : BlockJob = Writing (part mode) in
       let a = acquired write_led job steps old new r l in
@@ -343,8 +340,6 @@ module _ {D : Type 0} (tells : Type 0) (size : D → ℕ) (contents : D → List
             ∙ ap (λ (q : PassState). with_card q (holding Nothing (counting (write_kind place) (finishing block q.card)))) sealed));
         least = took.1;
         written = subst (at_each old.from.now old.hand.now.devices) (sym after) (subst (λ (x : Devices D). at_each old.from.now x all.mid.hand.now.devices) ds (subst (λ f. at_each f.now d.mid.hand.now.devices all.mid.hand.now.devices) same_slice all.written));
-        blocks = old.cells.now.blocks;
-        there = there;
         run = (
           steps,
           r,

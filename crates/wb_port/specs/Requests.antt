@@ -92,10 +92,10 @@ read_at hand seal = place_read hand.mode (place_in seal)
 abbrev pub IsWithin : {D : Type 0} → (D → ℕ) → ℕ → ℕ → ℕ → Option CBlock → Devices D → Type 0
 IsWithin size block_sectors first count place devices = 1 ≤ count → first_at block_sectors place first + count ≤ size (device_in (device_at place) devices)
 
--- A read: its steps were a run of its table to its end, by words of so many blocks, this one among them, over a slice that held this before, and
--- moved all of its sectors. What the slice has is what the device gave on which the block stood, by the seal that was seen, but in passthrough the
+-- A read: its steps were a run of its table to its end, by words of so many blocks, over a slice that held this before, and moved all of its
+-- sectors. What the slice has is what the device gave on which the block stood, by the seal that was seen, but in passthrough the
 -- origin, and the device has all of these sectors; no device changed, and none failed. The block's number is no less than any that the pass has seen of it.
-pub record WasRead {D : Type 0} (tells : Type 0) (size : D → ℕ) (contents : D → List History) (faults : D → ℕ) (block_sectors : ℕ) (block : OBlock) (sectors : Extent) (out : List Bytes) (old new : Hand D) : Type 0 where
+pub record WasRead {D : Type 0} (tells : Type 0) (size : D → ℕ) (contents : D → List History) (faults : D → ℕ) (blocks block_sectors : ℕ) (block : OBlock) (sectors : Extent) (before out : List Bytes) (old new : Hand D) : Type 0 where
   pub lock : ℕ
   pub seal : ℕ
   pub number : ℕ
@@ -108,9 +108,6 @@ pub record WasRead {D : Type 0} (tells : Type 0) (size : D → ℕ) (contents : 
   pub given : tells → GivesEach (contents (device_in (device_at (read_at old seal)) old.devices)) (first_at block_sectors (read_at old seal) sectors.first) out
   pub same : tells → contents (device_in (device_at (read_at old seal)) new.devices) ≡ contents (device_in (device_at (read_at old seal)) old.devices)
   pub no_fault : tells → faults (device_in (device_at (read_at old seal)) new.devices) ≡ faults (device_in (device_at (read_at old seal)) old.devices)
-  pub blocks : ℕ
-  pub there : block.0 < blocks
-  pub before : List Bytes
   pub run : ComesTo (ReadStep tells size contents faults blocks) (table (OnBlock (Reading (part_of old.mode block_sectors block sectors)))) (record { hand = old; out = before; moved = 0 }) Finished (record { hand = new; out = out; moved = sectors.count })
 
 -- Sectors of a block that stands at this place were written the slice there, from this sector of the origin on: the device has all of them, and
@@ -128,10 +125,10 @@ WrittenAtEach tells size contents faults block_sectors first from [] old new = n
 WrittenAtEach {D} tells size contents faults block_sectors first from (place ∷ places) old new =
     (mid : Devices D) × WrittenAt tells size contents faults block_sectors first from place old mid × WrittenAtEach tells size contents faults block_sectors first from places mid new
 
--- A write: its steps were a run of its table to its end, by words of so many blocks, this one among them, and moved all of its sectors. Each place where
+-- A write: its steps were a run of its table to its end, by words of so many blocks, and moved all of its sectors. Each place where
 -- the mode has it written was written the slice, the block standing where the seal tells that was seen: one device, or in write-through of a mapped
 -- block origin and cache.
-pub record WasWritten {D : Type 0} (tells : Type 0) (size : D → ℕ) (contents : D → List History) (faults : D → ℕ) (block_sectors : ℕ) (block : OBlock) (sectors : Extent) (from : List Bytes) (old new : Hand D) : Type 0 where
+pub record WasWritten {D : Type 0} (tells : Type 0) (size : D → ℕ) (contents : D → List History) (faults : D → ℕ) (blocks block_sectors : ℕ) (block : OBlock) (sectors : Extent) (from : List Bytes) (old new : Hand D) : Type 0 where
   pub lock : ℕ
   pub seal : ℕ
   pub number : ℕ
@@ -139,8 +136,6 @@ pub record WasWritten {D : Type 0} (tells : Type 0) (size : D → ℕ) (contents
   pub pass_is : new.pass ≡ record old.pass { card = write_card old.mode block lock seal number old.pass.card }
   pub least : SawAtMost block number old.pass.card.saw
   pub written : WrittenAtEach tells size contents faults block_sectors sectors.first from (places_written old.mode (place_in seal)) old.devices new.devices
-  pub blocks : ℕ
-  pub there : block.0 < blocks
   pub run : ComesTo (WriteStep tells size contents faults blocks from) (table (OnBlock (Writing (part_of old.mode block_sectors block sectors)))) (record { hand = old; moved = 0 }) Finished (record { hand = new; moved = sectors.count })
 
 -- A request was refused: its steps were a run of its table that refuses so, they led from the stage before to the one after, and

@@ -16,7 +16,6 @@ use wb_devices::{Devices, RunningCommit};
 use wb_disk::Disk;
 use wb_tasks::{CellResult, CellStep, DeviceStep, Got};
 use wb_types::{Content, Dev, Extent, Mode};
-use wb_words::{Access, Own, Share};
 
 /// What a client steps with: a pass, which knows what it has done to the shared words, and three devices of its own. Both are
 /// reached by its calls alone: a pass stays with its devices, and these move no extent but of a block that the pass has.
@@ -117,35 +116,7 @@ impl<D: Disk> Hand<D> {
         ensures step { StepsBy cells.now.blocks self.old.pass step result self.new.pass }
         ensures hand { self.new ≡ record self.old { pass = self.new.pass } }
     {
-        // What is made often is a few instructions, where its kind is known as it is compiled.
-        match step {
-            CellStep::Look(word) => CellResult::Word(cells.look(&mut self.pass, word)),
-            CellStep::Count(kind) => {
-                cells.count(&mut self.pass, kind);
-                CellResult::Done
-            }
-            CellStep::Release(Access::Shared, block) => {
-                let share = Share {
-                    block,
-                    place: None,
-                    dirty: false,
-                    number: 0,
-                };
-                cells.leave(&mut self.pass, share);
-                CellResult::Done
-            }
-            CellStep::Release(Access::Owned, block) => {
-                let own = Own {
-                    block,
-                    place: None,
-                    dirty: false,
-                    number: 0,
-                };
-                cells.disown(&mut self.pass, own);
-                CellResult::Done
-            }
-            _ => cells.step(&mut self.pass, step),
-        }
+        cells.step(&mut self.pass, step)
     }
 
     /// One look of the pass at a word.

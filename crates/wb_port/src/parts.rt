@@ -31,7 +31,7 @@ pub fn read_part<'a, D: Disk>(
     requires idle { hand.old.pass.card.hold ≡ Nothing }
     requires fits { length out.old ≡ sectors.count }
     ensures many { length out.new ≡ length out.old }
-    ensures read { OnOk result (WasRead D.tells D.size D.contents D.faults block_sectors block sectors out.new hand.old hand.new) }
+    ensures read { OnOk result (WasRead D.tells D.size D.contents D.faults cells.now.blocks block_sectors block sectors out.old out.new hand.old hand.new) }
     ensures refused { IfErr result (λ refusal. ReadRefused D.tells D.size D.contents D.faults cells.now.blocks block_sectors block sectors hand.old out.old refusal hand.new out.new) }
     ensures never_range { IfErr result (λ refusal. refusal ≢ Refusal.Range) }
     ensures at { hand.new.pass.table ≡ hand.old.pass.table }
@@ -68,7 +68,7 @@ pub fn write_part<'a, D: Disk>(
     requires at { hand.old.pass.table ≡ cells.now.table }
     requires idle { hand.old.pass.card.hold ≡ Nothing }
     requires fits { length from.now ≡ sectors.count }
-    ensures written { OnOk result (WasWritten D.tells D.size D.contents D.faults block_sectors block sectors from.now hand.old hand.new) }
+    ensures written { OnOk result (WasWritten D.tells D.size D.contents D.faults cells.now.blocks block_sectors block sectors from.now hand.old hand.new) }
     ensures refused { IfErr result (λ refusal. WriteRefused D.tells D.size D.contents D.faults cells.now.blocks block_sectors block sectors from.now hand.old refusal hand.new) }
     ensures never_range { IfErr result (λ refusal. refusal ≢ Refusal.Range) }
     ensures at { hand.new.pass.table ≡ hand.old.pass.table }

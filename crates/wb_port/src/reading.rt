@@ -1,12 +1,12 @@
 //! The steps of a read.
 
-ghost use Rattle.std.specs.Prelude.{◌≡◌, ◌≤◌, length, take, drop};
+ghost use Rattle.std.specs.Prelude.{◌≡◌, ◌≤◌, length};
 ghost use Rattle.wb_tasks.specs.Plan.{Fits};
 ghost use Rattle.wb_tasks.specs.declared.step.Want.TheVariants.{Device};
 ghost use Rattle.wb_tasks.specs.declared.step.DeviceStep.TheVariants.{Read};
-ghost use Rattle.wb_devices.specs.Moving.{IsOutcome, DidRead, OthersStay, device_in};
+ghost use Rattle.wb_devices.specs.Moving.{IsOutcome};
 ghost use Rattle.wb_port.specs.Moves.{MayRead};
-ghost use Rattle.wb_port.specs.Hands.{IsReadyToRead, DidReadInto, ReadLed};
+ghost use Rattle.wb_port.specs.Hands.{IsReadyToRead, DidReadInto, ReadLed, further};
 
 use crate::hand::Hand;
 use crate::moving::ReadStage;
@@ -62,14 +62,10 @@ fn read_behind<D: Disk>(
     requires within { moved ≤ length out.old }
     requires held { MayRead hand.old.mode hand.old.block_sectors hand.old.pass.card device extent }
     ensures kind { IsOutcome result }
-    ensures before { take moved out.new ≡ take moved out.old }
-    ensures many { length out.new ≡ length out.old }
     ensures pass { hand.new.pass ≡ hand.old.pass }
     ensures block { hand.new.block_sectors ≡ hand.old.block_sectors }
     ensures mode { hand.new.mode ≡ hand.old.mode }
-    ensures others { OthersStay device hand.old.devices hand.new.devices }
-    ensures sized { D.size (device_in device hand.new.devices) ≡ D.size (device_in device hand.old.devices) }
-    ensures did { D.tells → DidRead extent result (D.size (device_in device hand.old.devices)) (D.contents (device_in device hand.old.devices)) (D.faults (device_in device hand.old.devices)) (drop moved out.new) (D.contents (device_in device hand.new.devices)) (D.faults (device_in device hand.new.devices)) }
+    ensures did { DidReadInto D.tells D.size D.contents D.faults device extent result hand.old.devices out.old moved hand.new.devices out.new (further (length out.old) moved extent result) }
 {
     let (_, rest) = out.split_at_mut(moved);
     hand.read(device, extent, rest)

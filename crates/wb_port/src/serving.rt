@@ -36,7 +36,7 @@ impl<'a, D: Disk> ReadStage<'a, D> {
         ensures same_hand { self.new.hand.ghost_name ≡ self.old.hand.ghost_name }
         ensures same_slice { self.new.out.ghost_name ≡ self.old.out.ghost_name }
         ensures many { length self.new.out.now ≡ length self.old.out.now }
-        ensures read { OnOk result (WasRead D.tells D.size D.contents D.faults block_sectors block sectors self.new.out.now self.old.hand.now self.new.hand.now) }
+        ensures read { OnOk result (WasRead D.tells D.size D.contents D.faults self.old.cells.now.blocks block_sectors block sectors self.old.out.now self.new.out.now self.old.hand.now self.new.hand.now) }
         ensures refused { IfErr result (λ refusal. ReadRefused D.tells D.size D.contents D.faults self.old.cells.now.blocks block_sectors block sectors self.old.hand.now self.old.out.now refusal self.new.hand.now self.new.out.now) }
         ensures never_range { IfErr result (λ refusal. refusal ≢ Refusal.Range) }
         ensures at { self.new.hand.now.pass.table ≡ self.old.hand.now.pass.table }
@@ -68,7 +68,7 @@ impl<'a, D: Disk> WriteStage<'a, D> {
         requires unmoved { self.old.moved ≡ 0 }
         requires fits { length self.old.from.now ≡ sectors.count }
         ensures same_hand { self.new.hand.ghost_name ≡ self.old.hand.ghost_name }
-        ensures written { OnOk result (WasWritten D.tells D.size D.contents D.faults block_sectors block sectors self.old.from.now self.old.hand.now self.new.hand.now) }
+        ensures written { OnOk result (WasWritten D.tells D.size D.contents D.faults self.old.cells.now.blocks block_sectors block sectors self.old.from.now self.old.hand.now self.new.hand.now) }
         ensures refused { IfErr result (λ refusal. WriteRefused D.tells D.size D.contents D.faults self.old.cells.now.blocks block_sectors block sectors self.old.from.now self.old.hand.now refusal self.new.hand.now) }
         ensures never_range { IfErr result (λ refusal. refusal ≢ Refusal.Range) }
         ensures at { self.new.hand.now.pass.table ≡ self.old.hand.now.pass.table }

@@ -17,7 +17,7 @@ impl<D: Disk> Port<D> {
     /// accesses are unsettled; and what `read_part` refuses. After a refusal the slice may hold any contents.
     pub fn try_read(&mut self, at: Sector, out: &mut [Content]) -> Result<(), Refusal>
         ensures many { length out.new ≡ length out.old }
-        ensures read { OnOk result (WasRead D.tells D.size D.contents D.faults self.old.geometry.block (block_at self.old.geometry at.0) (record { first = at.0; count = length out.old }) out.new self.old.hand self.new.hand) }
+        ensures read { OnOk result (WasRead D.tells D.size D.contents D.faults self.old.cells.value.blocks self.old.geometry.block (block_at self.old.geometry at.0) (record { first = at.0; count = length out.old }) out.old out.new self.old.hand self.new.hand) }
         ensures noted { OnOk result (self.new.accesses.items ≡ self.old.accesses.items ++ block_at self.old.geometry at.0 ∷ []) }
         ensures refused { IfErr result (λ refusal. TryReadRefused D.tells D.size D.contents D.faults self.old at.0 out.old refusal self.new out.new) }
         ensures range { IfErr result (λ refusal. refusal ≡ Refusal.Range → IsOutside self.old.geometry at.0 (length out.old)) }
@@ -47,7 +47,7 @@ impl<D: Disk> Port<D> {
     ///
     /// `Range`, `Crosses` and `Defer` as `try_read`; and what `write_part` refuses.
     pub fn try_write(&mut self, at: Sector, from: &[Content]) -> Result<(), Refusal>
-        ensures written { OnOk result (WasWritten D.tells D.size D.contents D.faults self.old.geometry.block (block_at self.old.geometry at.0) (record { first = at.0; count = length from.now }) from.now self.old.hand self.new.hand) }
+        ensures written { OnOk result (WasWritten D.tells D.size D.contents D.faults self.old.cells.value.blocks self.old.geometry.block (block_at self.old.geometry at.0) (record { first = at.0; count = length from.now }) from.now self.old.hand self.new.hand) }
         ensures noted { OnOk result (self.new.accesses.items ≡ self.old.accesses.items ++ block_at self.old.geometry at.0 ∷ []) }
         ensures refused { IfErr result (λ refusal. TryWriteRefused D.tells D.size D.contents D.faults self.old at.0 from.now refusal self.new) }
         ensures range { IfErr result (λ refusal. refusal ≡ Refusal.Range → IsOutside self.old.geometry at.0 (length from.now)) }

@@ -47,7 +47,8 @@ module _ {D : Type 0} (tells : Type 0) (size : D → ℕ) (contents : D → List
       (subst (λ (n : ℕ). WriteRefused tells size contents faults n port.geometry.block (block_at port.geometry first) (at count) from port.hand refusal port'.hand) sized
       (subst (λ (n : ℕ). WriteRefused tells size contents faults port.cells.value.blocks port.geometry.block (block_at port.geometry first) (at n) from port.hand refusal port'.hand) many h))
 
-  pub was_read : (out out' : List Content) → length out ≡ count → WasRead tells size contents faults port.geometry.block (block_at port.geometry first) (at (length out)) out' port.hand port'.hand → ReadCame tells size contents faults geometry None (at count) (port.hand, out) (port'.hand, out')
+  pub was_read : (out out' : List Content) → length out ≡ count → WasRead tells size contents faults port.cells.value.blocks port.geometry.block (block_at port.geometry first) (at (length out)) out out' port.hand port'.hand → ReadCame tells size contents faults geometry None (at count) (port.hand, out) (port'.hand, out')
   was_read out out' many h =
-      subst (λ (g : Geometry). WasRead tells size contents faults g.block (block_at g first) (at count) out' port.hand port'.hand) same
-      (subst (λ (n : ℕ). WasRead tells size contents faults port.geometry.block (block_at port.geometry first) (at n) out' port.hand port'.hand) many h)
+      subst (λ (g : Geometry). WasRead tells size contents faults g.origin_blocks g.block (block_at g first) (at count) out out' port.hand port'.hand) same
+      (subst (λ (n : ℕ). WasRead tells size contents faults n port.geometry.block (block_at port.geometry first) (at count) out out' port.hand port'.hand) sized
+      (subst (λ (n : ℕ). WasRead tells size contents faults port.cells.value.blocks port.geometry.block (block_at port.geometry first) (at n) out out' port.hand port'.hand) many h))

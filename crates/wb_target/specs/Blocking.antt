@@ -18,13 +18,13 @@ use Rattle.wb_target.specs.declared.blocking.Stopped.{Stopped}
 -- done, or refused.
 
 abbrev pub ReadCame : {D : Type 0} → Type 0 → (D → ℕ) → (D → List History) → (D → ℕ) → Geometry → Option Refusal → Extent → Hand D × List Bytes → Hand D × List Bytes → Type 0
-ReadCame tells size contents faults geometry None part s t = WasRead tells size contents faults geometry.block (block_at geometry part.first) part t.1 s.0 t.0
+ReadCame tells size contents faults geometry None part s t = WasRead tells size contents faults geometry.origin_blocks geometry.block (block_at geometry part.first) part s.1 t.1 s.0 t.0
 ReadCame tells size contents faults geometry (Some refusal) part s t = ReadRefused tells size contents faults geometry.origin_blocks geometry.block (block_at geometry part.first) part s.0 s.1 refusal t.0 t.1
 
 -- in passthrough a write that was deferred is done by the desk
 abbrev pub WriteCame : {D : Type 0} → Type 0 → (D → ℕ) → (D → List History) → (D → ℕ) → DeskTold → Geometry → Option Refusal → Extent → Hand D × List Bytes → Hand D × List Bytes → Type 0
 WriteCame tells size contents faults asked geometry None part s t =
-    (WasWritten tells size contents faults geometry.block (block_at geometry part.first) part s.1 s.0 t.0 ⊎ WasDeferred tells size contents faults asked geometry part s.1 s.0 Finished t.0) × (t.1 ≡ s.1)
+    (WasWritten tells size contents faults geometry.origin_blocks geometry.block (block_at geometry part.first) part s.1 s.0 t.0 ⊎ WasDeferred tells size contents faults asked geometry part s.1 s.0 Finished t.0) × (t.1 ≡ s.1)
 WriteCame tells size contents faults asked geometry (Some refusal) part s t =
     (WriteRefused tells size contents faults geometry.origin_blocks geometry.block (block_at geometry part.first) part s.1 s.0 refusal t.0 ⊎ WasDeferred tells size contents faults asked geometry part s.1 s.0 (Refuses refusal) t.0) × (t.1 ≡ s.1)
 

@@ -13,7 +13,7 @@ pub returns-clause-same_slice : goal.returns-clause-same_slice
 returns-clause-same_slice g c = let run = c.serve_part.ensures in read_same_slice g.D.Disk.tells g.D.Disk.size g.D.Disk.contents g.D.Disk.faults c.args.block_sectors c.args.block c.args.sectors _ run.0 c.args.self.now c.serve_part.new.stage refl run.2
 
 pub returns-clause-read : goal.returns-clause-read
-returns-clause-read g c = let run = c.serve_part.ensures in read_ok g.D.Disk.tells g.D.Disk.size g.D.Disk.contents g.D.Disk.faults c.args.block_sectors c.args.block c.args.sectors _ run.0 c.args.self.now c.serve_part.new.stage refl run.2 c.serve_part.result c.answered.result c.requires.unmoved c.requires.block c.requires.fits c.requires.inside run.1 c.answered.ensures.done
+returns-clause-read g c = let run = c.serve_part.ensures in read_ok g.D.Disk.tells g.D.Disk.size g.D.Disk.contents g.D.Disk.faults c.args.block_sectors c.args.block c.args.sectors _ run.0 c.args.self.now c.serve_part.new.stage refl run.2 c.serve_part.result c.answered.result c.requires.unmoved c.requires.fits c.requires.inside run.1 c.answered.ensures.done
 
 pub returns-clause-refused : goal.returns-clause-refused
 returns-clause-refused g c = let run = c.serve_part.ensures in read_err g.D.Disk.tells g.D.Disk.size g.D.Disk.contents g.D.Disk.faults c.args.block_sectors c.args.block c.args.sectors _ run.0 c.args.self.now c.serve_part.new.stage refl run.2 c.serve_part.result c.answered.result run.1 c.answered.ensures.refused c.requires.unmoved

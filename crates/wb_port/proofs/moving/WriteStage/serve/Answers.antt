@@ -10,7 +10,7 @@ pub returns-clause-same_hand : goal.returns-clause-same_hand
 returns-clause-same_hand g c = let run = c.serve_part.ensures in write_same_hand g.D.Disk.tells g.D.Disk.size g.D.Disk.contents g.D.Disk.faults c.args.block_sectors c.args.block c.args.sectors _ run.0 c.args.self.now c.serve_part.new.stage refl run.2
 
 pub returns-clause-written : goal.returns-clause-written
-returns-clause-written g c = let run = c.serve_part.ensures in write_ok g.D.Disk.tells g.D.Disk.size g.D.Disk.contents g.D.Disk.faults c.args.block_sectors c.args.block c.args.sectors _ run.0 c.args.self.now c.serve_part.new.stage refl run.2 c.serve_part.result c.answered.result c.requires.unmoved c.requires.block c.requires.fits c.requires.inside run.1 c.answered.ensures.done
+returns-clause-written g c = let run = c.serve_part.ensures in write_ok g.D.Disk.tells g.D.Disk.size g.D.Disk.contents g.D.Disk.faults c.args.block_sectors c.args.block c.args.sectors _ run.0 c.args.self.now c.serve_part.new.stage refl run.2 c.serve_part.result c.answered.result c.requires.unmoved c.requires.fits c.requires.inside run.1 c.answered.ensures.done
 
 pub returns-clause-refused : goal.returns-clause-refused
 returns-clause-refused g c = let run = c.serve_part.ensures in write_err g.D.Disk.tells g.D.Disk.size g.D.Disk.contents g.D.Disk.faults c.args.block_sectors c.args.block c.args.sectors _ run.0 c.args.self.now c.serve_part.new.stage refl run.2 c.serve_part.result c.answered.result run.1 c.answered.ensures.refused c.requires.unmoved
