@@ -63,6 +63,12 @@ pub record Keeps {S D : Type 0} (led : S → Want → Got → S → Type 0) (wor
   pub mode : (x : S) (w : Want) (g : Got) (y : S) → led x w g y → (hand y).mode ≡ (hand x).mode
   pub by_pass : (x : S) (w : Want) (g : Got) (y : S) → led x w g y → DoneByPass (words x).blocks (hand x).pass w g (hand y).pass
 
+-- what a hand keeps at a read or a write
+pub record IsKept {D : Type 0} (old new : Hand D) : Type 0 where
+  pub at : new.pass.table ≡ old.pass.table
+  pub mode : new.mode ≡ old.mode
+  pub size : new.block_sectors ≡ old.block_sectors
+
 -- Where steps of a read or a write have led a stage.
 module _ {S D : Type 0} (led : S → Want → Got → S → Type 0) (words : S → CellsState) (hand : S → Hand D) (keeps : Keeps led words hand) (job : BlockRange → BlockJob) (part : BlockRange) (s : Plan) (steps : List (Want × Got)) (old new : S) (begun : s ≡ table (OnBlock (job part))) (leads : Leads led old steps new) where
   makes : (x : S) (w : Want) (g : Got) (y : S) → led x w g y → MayMake w g (hand x).pass.card (hand y).pass.card
@@ -71,14 +77,12 @@ module _ {S D : Type 0} (led : S → Want → Got → S → Type 0) (words : S �
   pub same_words : words new ≡ words old
   same_words = kept_by led words keeps.cells old steps new leads
 
-  pub same_pass_table : (hand new).pass.table ≡ (hand old).pass.table
-  same_pass_table = kept_by led (λ x. (hand x).pass.table) (λ x w g y h. same_table (words x).blocks (hand x).pass (hand y).pass w g (keeps.by_pass x w g y h)) old steps new leads
-
-  pub same_mode : (hand new).mode ≡ (hand old).mode
-  same_mode = kept_by led (λ x. (hand x).mode) keeps.mode old steps new leads
-
-  pub same_size : (hand new).block_sectors ≡ (hand old).block_sectors
-  same_size = kept_by led (λ x. (hand x).block_sectors) keeps.sized old steps new leads
+  pub kept : IsKept (hand old) (hand new)
+  kept = record {
+    at = kept_by led (λ x. (hand x).pass.table) (λ x w g y h. same_table (words x).blocks (hand x).pass (hand y).pass w g (keeps.by_pass x w g y h)) old steps new leads;
+    mode = kept_by led (λ x. (hand x).mode) keeps.mode old steps new leads;
+    size = kept_by led (λ x. (hand x).block_sectors) keeps.sized old steps new leads;
+  }
 
   module _ (there : (block_of (job part)).0 < (words old).blocks) (idle : (hand old).pass.card.hold ≡ Nothing) where
     pub let_go : (answer : Answer) → IsRunOf s steps answer → (hand new).pass.card.hold ≡ Nothing
@@ -90,10 +94,10 @@ module _ {S D : Type 0} (led : S → Want → Got → S → Type 0) (words : S �
     ready_on works may mode sized at f =
         let both = ready_there led (λ x. (hand x).pass.card) makes (words old).blocks s (job part) old begun there idle steps new f leads in
         let moving = moves_there (MovesAt (job part)) (job part) works led (λ x. (hand x).pass.card) makes (words old).blocks s old begun there idle steps new f leads in (
-          (same_pass_table ∙ (at ∙ ap (λ (ws : CellsState). ws.table) (sym same_words)), subst (λ (ws : CellsState). MayTake ws.blocks (hand new).pass.card (want (left_by s steps))) (sym same_words) both.0),
+          (kept.at ∙ (at ∙ ap (λ (ws : CellsState). ws.table) (sym same_words)), subst (λ (ws : CellsState). MayTake ws.blocks (hand new).pass.card (want (left_by s steps))) (sym same_words) both.0),
           both.1,
-          subst (λ (m : Mode). MayMove m (hand new).block_sectors (hand new).pass.card (want (left_by s steps))) (sym (same_mode ∙ mode))
-              (subst (λ (n : ℕ). MayMove part.mode n (hand new).pass.card (want (left_by s steps))) (sym (same_size ∙ sized)) (may (hand new).pass.card (want (left_by s steps)) moving)),
+          subst (λ (m : Mode). MayMove m (hand new).block_sectors (hand new).pass.card (want (left_by s steps))) (sym (kept.mode ∙ mode))
+              (subst (λ (n : ℕ). MayMove part.mode n (hand new).pass.card (want (left_by s steps))) (sym (kept.size ∙ sized)) (may (hand new).pass.card (want (left_by s steps)) moving)),
         )
 
 module _ {D : Type 0} (tells : Type 0) (size : D → ℕ) (contents : D → List History) (faults : D → ℕ) (block_sectors : ℕ) (block : OBlock) (sectors : Extent) (s : Plan) (steps : List (Want × Got)) where
@@ -114,14 +118,8 @@ module _ {D : Type 0} (tells : Type 0) (size : D → ℕ) (contents : D → List
         many_read x y (Device (Read d e)) g h = h.many
         many_read x y w g h = ap length h.1
 
-    pub read_at : new.hand.now.pass.table ≡ old.hand.now.pass.table
-    read_at = same_pass_table (ReadLed tells size contents faults) (λ (x : ReadStage D). x.cells.now) (λ x. x.hand.now) read_keeps Reading (part_of old.hand.now.mode block_sectors block sectors) s steps old new begun leads
-
-    pub read_mode : new.hand.now.mode ≡ old.hand.now.mode
-    read_mode = same_mode (ReadLed tells size contents faults) (λ (x : ReadStage D). x.cells.now) (λ x. x.hand.now) read_keeps Reading (part_of old.hand.now.mode block_sectors block sectors) s steps old new begun leads
-
-    pub read_size : new.hand.now.block_sectors ≡ old.hand.now.block_sectors
-    read_size = same_size (ReadLed tells size contents faults) (λ (x : ReadStage D). x.cells.now) (λ x. x.hand.now) read_keeps Reading (part_of old.hand.now.mode block_sectors block sectors) s steps old new begun leads
+    pub read_kept : IsKept old.hand.now new.hand.now
+    read_kept = kept (ReadLed tells size contents faults) (λ (x : ReadStage D). x.cells.now) (λ x. x.hand.now) read_keeps Reading (part_of old.hand.now.mode block_sectors block sectors) s steps old new begun leads
 
     pub read_idle : (answer : Answer) → block.0 < old.cells.now.blocks → old.hand.now.pass.card.hold ≡ Nothing → IsRunOf s steps answer → new.hand.now.pass.card.hold ≡ Nothing
     read_idle answer there idle run = let_go (ReadLed tells size contents faults) (λ (x : ReadStage D). x.cells.now) (λ x. x.hand.now) read_keeps Reading (part_of old.hand.now.mode block_sectors block sectors) s steps old new begun leads there idle answer run
@@ -139,7 +137,7 @@ module _ {D : Type 0} (tells : Type 0) (size : D → ℕ) (contents : D → List
     pub read_err : {A : Type 0} (answer : Answer) (r : Result A Refusal) → IsRunOf s steps answer → IfErr r (λ refusal. answer ≡ Refuses refusal)
         → old.moved ≡ 0 → IfErr r (λ refusal. ReadRefused tells size contents faults old.cells.now.blocks block_sectors block sectors old.hand.now old.out.now refusal new.hand.now new.out.now)
     read_err {A} answer (Ok x) run is unmoved = tt
-    read_err {A} answer (Err x) run is unmoved = record { moved = new.moved; same_mode = read_mode; was = subst (λ (n : ℕ). WasRefused (ReadStep tells size contents faults old.cells.now.blocks) (Reading (part_of old.hand.now.mode block_sectors block sectors)) (record { hand = old.hand.now; out = old.out.now; moved = n }) x (reading_at new)) unmoved (read_stopped {A = A} answer (Err x) run is) }
+    read_err {A} answer (Err x) run is unmoved = record { moved = new.moved; same_mode = read_kept.mode; was = subst (λ (n : ℕ). WasRefused (ReadStep tells size contents faults old.cells.now.blocks) (Reading (part_of old.hand.now.mode block_sectors block sectors)) (record { hand = old.hand.now; out = old.out.now; moved = n }) x (reading_at new)) unmoved (read_stopped {A = A} answer (Err x) run is) }
 
     pub read_ok : {A : Type 0} (answer : Answer) (r : Result A Refusal) → old.moved ≡ 0 → length old.out.now ≡ sectors.count → sectors.first % block_sectors + sectors.count ≤ block_sectors → IsRunOf s steps answer → OnOk r (answer ≡ Finished)
         → OnOk r (WasRead tells size contents faults old.cells.now.blocks block_sectors block sectors old.out.now new.out.now old.hand.now new.hand.now)
@@ -152,26 +150,20 @@ module _ {D : Type 0} (tells : Type 0) (size : D → ℕ) (contents : D → List
   write_keeps = record { cells = λ x w g y h. ap (λ c. c.now) h.cells; sized = λ x w g y h. h.sized; mode = λ x w g y h. h.same_mode; by_pass = λ x w g y h. h.by_pass }
 
   module _ (old new : WriteStage D) (begun : s ≡ table (OnBlock (Writing (part_of old.hand.now.mode block_sectors block sectors)))) (leads : Leads (WriteLed tells size contents faults) old steps new) where
-    pub write_same_hand : new.hand.ghost_name ≡ old.hand.ghost_name
-    write_same_hand = kept_by (WriteLed tells size contents faults) (λ x. x.hand.ghost_name) (λ x w g y h. h.same_hand) old steps new leads
-
-    pub write_at : new.hand.now.pass.table ≡ old.hand.now.pass.table
-    write_at = same_pass_table (WriteLed tells size contents faults) (λ (x : WriteStage D). x.cells.now) (λ x. x.hand.now) write_keeps Writing (part_of old.hand.now.mode block_sectors block sectors) s steps old new begun leads
-
-    pub write_mode : new.hand.now.mode ≡ old.hand.now.mode
-    write_mode = same_mode (WriteLed tells size contents faults) (λ (x : WriteStage D). x.cells.now) (λ x. x.hand.now) write_keeps Writing (part_of old.hand.now.mode block_sectors block sectors) s steps old new begun leads
-
-    pub write_size : new.hand.now.block_sectors ≡ old.hand.now.block_sectors
-    write_size = same_size (WriteLed tells size contents faults) (λ (x : WriteStage D). x.cells.now) (λ x. x.hand.now) write_keeps Writing (part_of old.hand.now.mode block_sectors block sectors) s steps old new begun leads
-
-    pub write_idle : (answer : Answer) → block.0 < old.cells.now.blocks → old.hand.now.pass.card.hold ≡ Nothing → IsRunOf s steps answer → new.hand.now.pass.card.hold ≡ Nothing
-    write_idle answer there idle run = let_go (WriteLed tells size contents faults) (λ (x : WriteStage D). x.cells.now) (λ x. x.hand.now) write_keeps Writing (part_of old.hand.now.mode block_sectors block sectors) s steps old new begun leads there idle answer run
+    pub write_kept : IsKept old.hand.now new.hand.now
+    write_kept = kept (WriteLed tells size contents faults) (λ (x : WriteStage D). x.cells.now) (λ x. x.hand.now) write_keeps Writing (part_of old.hand.now.mode block_sectors block sectors) s steps old new begun leads
 
     pub write_ready : 0 < block_sectors → sectors.first / block_sectors ≡ block.0 → sectors.first % block_sectors + sectors.count ≤ block_sectors → old.hand.now.block_sectors ≡ block_sectors → block.0 < old.cells.now.blocks → old.hand.now.pass.table ≡ old.cells.now.table → old.hand.now.pass.card.hold ≡ Nothing → AreFirst s steps → IsReadyToWrite new (want (left_by s steps))
     write_ready some of inside sized there at idle f =
         let part : BlockRange = part_of old.hand.now.mode block_sectors block sectors in
         let ready = ready_on (WriteLed tells size contents faults) (λ (x : WriteStage D). x.cells.now) (λ x. x.hand.now) write_keeps Writing (part_of old.hand.now.mode block_sectors block sectors) s steps old new begun leads there idle (writes_there part some (part_in old.hand.now.mode block_sectors block sectors of inside)) (may_write part) refl sized at f in
         (ready.0, own_writes part (want (left_by s steps)) ready.1, ready.2)
+
+    pub write_same_hand : new.hand.ghost_name ≡ old.hand.ghost_name
+    write_same_hand = kept_by (WriteLed tells size contents faults) (λ x. x.hand.ghost_name) (λ x w g y h. h.same_hand) old steps new leads
+
+    pub write_idle : (answer : Answer) → block.0 < old.cells.now.blocks → old.hand.now.pass.card.hold ≡ Nothing → IsRunOf s steps answer → new.hand.now.pass.card.hold ≡ Nothing
+    write_idle answer there idle run = let_go (WriteLed tells size contents faults) (λ (x : WriteStage D). x.cells.now) (λ x. x.hand.now) write_keeps Writing (part_of old.hand.now.mode block_sectors block sectors) s steps old new begun leads there idle answer run
 
     write_stopped : {A : Type 0} (answer : Answer) (r : Result A Refusal) → IsRunOf s steps answer → IfErr r (λ refusal. answer ≡ Refuses refusal)
         → IfErr r (λ refusal. WasRefused (WriteStep tells size contents faults old.cells.now.blocks old.from.now) (Writing (part_of old.hand.now.mode block_sectors block sectors)) (writing_at old) refusal (writing_at new))
@@ -180,7 +172,7 @@ module _ {D : Type 0} (tells : Type 0) (size : D → ℕ) (contents : D → List
     pub write_err : {A : Type 0} (answer : Answer) (r : Result A Refusal) → IsRunOf s steps answer → IfErr r (λ refusal. answer ≡ Refuses refusal)
         → old.moved ≡ 0 → IfErr r (λ refusal. WriteRefused tells size contents faults old.cells.now.blocks block_sectors block sectors old.from.now old.hand.now refusal new.hand.now)
     write_err {A} answer (Ok x) run is unmoved = tt
-    write_err {A} answer (Err x) run is unmoved = record { moved = new.moved; same_mode = write_mode; was = subst (λ (n : ℕ). WasRefused (WriteStep tells size contents faults old.cells.now.blocks old.from.now) (Writing (part_of old.hand.now.mode block_sectors block sectors)) (record { hand = old.hand.now; moved = n }) x (writing_at new)) unmoved (write_stopped {A = A} answer (Err x) run is) }
+    write_err {A} answer (Err x) run is unmoved = record { moved = new.moved; same_mode = write_kept.mode; was = subst (λ (n : ℕ). WasRefused (WriteStep tells size contents faults old.cells.now.blocks old.from.now) (Writing (part_of old.hand.now.mode block_sectors block sectors)) (record { hand = old.hand.now; moved = n }) x (writing_at new)) unmoved (write_stopped {A = A} answer (Err x) run is) }
 
     pub write_ok : {A : Type 0} (answer : Answer) (r : Result A Refusal) → old.moved ≡ 0 → length old.from.now ≡ sectors.count → sectors.first % block_sectors + sectors.count ≤ block_sectors → IsRunOf s steps answer → OnOk r (answer ≡ Finished)
         → OnOk r (WasWritten tells size contents faults old.cells.now.blocks block_sectors block sectors old.from.now old.hand.now new.hand.now)

@@ -69,10 +69,10 @@ impl<D: Disk> Hand<D> {
         ensures devices { result.1 ≡ self.devices }
     {
         let Hand {
-            pass,
-            block_sectors: _,
-            mode: _,
             devices,
+            pass,
+            mode: _,
+            block_sectors: _,
         } = self;
         (pass, devices)
     }

@@ -4,6 +4,7 @@ ghost use Rattle.std.specs.Prelude.{◌≡◌, ◌≤◌, ◌<◌, ◌+◌, ◌/
 ghost use Rattle.std.specs.Bool.{OnTrue, OnFalse};
 ghost use Rattle.wb_words.specs.declared.card.Hold.TheVariants.{Nothing};
 ghost use Rattle.wb_port.specs.declared.port.TheConstants.{UNSETTLED as MostUnsettled};
+ghost use Rattle.wb_port.specs.declared.moving.TheConstants.{LONGEST as LongestStep};
 ghost use Rattle.wb_port.specs.Hands.{saw_fail_word};
 
 use crate::hand::Hand;
@@ -25,7 +26,7 @@ pub struct Port<D> {
     pub cells: Arc<Cells, Global>,
     pub hand: Hand<D>,
     pub accesses: Vec<OBlock>,
-    /// What the steps of its migrations move, once it has carried out an order.
+    /// What the steps of its migrations move, once it has carried out an order: there is room for the longest step then.
     pub buffer: Vec<Content>,
     /// The commit that it runs, if any.
     pub commit: Option<RunningCommit>,
@@ -35,6 +36,7 @@ pub struct Port<D> {
     ghost block: { hand.block_sectors ≡ geometry.block },
     ghost few: { length accesses.items ≤ MostUnsettled },
     ghost room: { MostUnsettled ≤ vec_capacity accesses },
+    ghost holds: { 0 < length buffer.items → LongestStep ≤ length buffer.items },
 }
 
 impl<D: Drop> Drop for Port<D> {

@@ -1,5 +1,5 @@
 -- What becomes of an order that is carried out or given up, and of a worker's turns.
-use Rattle.std.proofs.Common.{◌≡◌, ◌≢◌, ◌∙◌, ◌<◌, ◌⊎◌, inl, inr, ℕ, Bool, true, List, [], ◌∷◌, Option, Some, None, Result, length, refl, sym, ap, subst}
+use Rattle.std.proofs.Common.{◌≡◌, ◌≢◌, ◌∙◌, ◌≤◌, ◌<◌, ◌⊎◌, inl, inr, ℕ, Bool, true, List, [], ◌∷◌, Option, Some, None, Result, length, refl, sym, ap, subst}
 use Rattle.std.proofs.lemmas.Result.{IfErr-weaker, on_ok_weaker}
 use Rattle.std.specs.Prelude.{IfErr, IfOk, OnOk}
 use Rattle.wb_types.specs.declared.geometry.Geometry.{Geometry}
@@ -22,6 +22,7 @@ use Rattle.wb_target.specs.Works.{ShareTold, WorkState}
 use Rattle.wb_target.specs.Carried.{client_state, looked_at_fail, HasBegun, Runs, WasDone, WasDoneWith, WereDone, share_of, migration_of, flush_of, jobs_of}
 use Rattle.wb_target.specs.declared.gate.Point.{Point}
 use Rattle.wb_target.specs.declared.gate.Point.TheVariants.{Order as BeforeOrder, Idle}
+use Rattle.wb_port.specs.declared.moving.TheConstants.{LONGEST}
 use Rattle.wb_target.specs.Workers.{WasRefused, DidNotBegin, GaveUpAmong, FlushRefused, HasBuffer, Took, Turn, Works, Idles, StoppedAt}
 use Rattle.wb_target.proofs.Carried.{Before}
 
@@ -34,11 +35,12 @@ looked {D} word p q hand buffer commit =
     one ∙ (two ∙ ap (λ (c : _). record { hand = saw_fail_word word p.hand; buffer = p.buffer.items; commit = c }) commit)
 
 -- a clear one, and then a buffer was taken
-pub begun_by : {D : Type 0} (p q r : Port D) → q.hand ≡ saw_fail_word 0 p.hand → q.buffer ≡ p.buffer → q.commit ≡ p.commit → r.hand ≡ q.hand → r.commit ≡ q.commit → (0 < length q.buffer.items → r.buffer.items ≡ q.buffer.items) → HasBegun (client_state p) (client_state r)
-begun_by p q r hand buffer commit hand' commit' kept = record {
+pub begun_by : {D : Type 0} (p q r : Port D) → q.hand ≡ saw_fail_word 0 p.hand → q.buffer ≡ p.buffer → q.commit ≡ p.commit → r.hand ≡ q.hand → r.commit ≡ q.commit → (0 < length q.buffer.items → r.buffer.items ≡ q.buffer.items) → LONGEST ≤ length r.buffer.items → HasBegun (client_state p) (client_state r)
+begun_by p q r hand buffer commit hand' commit' kept holds = record {
   clear = hand' ∙ hand;
   commit = commit' ∙ commit;
   kept = λ some. kept (subst (λ b. 0 < length b.items) (sym buffer) some) ∙ ap (λ b. b.items) buffer;
+  holds = holds;
 }
 
 -- ---- a job

@@ -1,5 +1,5 @@
 -- What a client has done when an order is carried out, or a flush is answered.
-use Rattle.std.specs.Prelude.{◌≡◌, ◌<◌, ℕ, false, List, [], ◌∷◌, Option, Some, None, length}
+use Rattle.std.specs.Prelude.{◌≡◌, ◌≤◌, ◌<◌, ℕ, false, List, [], ◌∷◌, Option, Some, None, length}
 use Rattle.wb_types.specs.Limits.{most_nodes}
 use Rattle.wb_types.specs.Extents.{pieces}
 use Rattle.wb_types.specs.declared.geometry.Geometry.{Geometry}
@@ -35,12 +35,13 @@ client_state port = record { hand = port.hand; buffer = port.buffer.items; commi
 abbrev pub looked_at_fail : {D : Type 0} → ℕ → WorkState D → WorkState D
 looked_at_fail word s = record s { hand = saw_fail_word word s.hand }
 
--- A client that begins to work has looked at the fail word, which was clear, and has a buffer: its own, or a new one where it
--- had none.
+-- A client that begins to work has looked at the fail word, which was clear, and has a buffer for the longest step: its own, or a new
+-- one where it had none.
 pub record HasBegun {D : Type 0} (old new : WorkState D) : Type 0 where
   pub clear : new.hand ≡ saw_fail_word 0 old.hand
   pub commit : new.commit ≡ old.commit
   pub kept : 0 < length old.buffer → new.buffer ≡ old.buffer
+  pub holds : LONGEST ≤ length new.buffer
 
 -- ---- a job
 

@@ -1,3 +1,4 @@
+pub mod Clients
 pub mod Tries
 pub mod Works
 pub mod Told

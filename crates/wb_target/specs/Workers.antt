@@ -1,5 +1,5 @@
 -- What a worker does, and how it ends.
-use Rattle.std.specs.Prelude.{◌≡◌, ◌≢◌, ◌<◌, ◌⊎◌, ℕ, Option, Some, None, List, [], ◌∷◌, Bool, true, false, length}
+use Rattle.std.specs.Prelude.{◌≡◌, ◌≢◌, ◌≤◌, ◌<◌, ◌⊎◌, ℕ, Option, Some, None, List, [], ◌∷◌, Bool, true, false, length}
 use Rattle.wb_types.specs.declared.geometry.Geometry.{Geometry}
 use Rattle.wb_types.specs.declared.mode.Dev.{Dev}
 use Rattle.wb_types.specs.declared.refusal.Refusal.{Refusal}
@@ -10,6 +10,7 @@ use Rattle.wb_tasks.specs.declared.step.Answer.{Answer}
 use Rattle.wb_tasks.specs.declared.step.Answer.TheVariants.{Refused as Refuses}
 use Rattle.wb_target.specs.declared.gate.Point.{Point}
 use Rattle.wb_target.specs.declared.gate.Point.TheVariants.{Order, Idle}
+use Rattle.wb_port.specs.declared.moving.TheConstants.{LONGEST}
 use Rattle.wb_target.specs.Tries.{Tried, EndedAfter}
 use Rattle.wb_target.specs.Works.{WorkState}
 use Rattle.wb_target.specs.Carried.{looked_at_fail, HasBegun, WasDone, WereDone, flush_of, jobs_of, BlocksAreThere}
@@ -41,18 +42,23 @@ GaveUpAmong {D} runs (job ∷ jobs) refusal old new =
 
 -- ---- a worker's turns
 
--- it has a buffer now, its own, or a new one where it had none and there is memory
+-- it has a buffer for the longest step now, its own, or a new one where it had none
 pub record HasBuffer {D : Type 0} (old new : WorkState D) : Type 0 where
   pub hand : new.hand ≡ old.hand
   pub commit : new.commit ≡ old.commit
   pub kept : 0 < length old.buffer → new.buffer ≡ old.buffer
+  pub holds : LONGEST ≤ length new.buffer
+
+-- an order cannot be begun: there is no buffer, nor memory for one, or its blocks are not there
+abbrev pub IsNotReady : {D : Type 0} → Geometry → CacheOrder → WorkState D → WorkState D → Type 0
+IsNotReady geometry order old new = ((length old.buffer ≡ 0) × (new ≡ old)) ⊎ (HasBuffer old new × ¬ BlocksAreThere geometry order)
 
 -- The order that waited longest was taken, and each job of it was done; or one was given up, and the fail word was looked at then, and clear; or it was given back
--- as it was, since there was no buffer, or since its blocks are not there.
+-- as it was.
 pub data Took {D : Type 0} (runs : List CacheOrder → TaskJob → WorkState D → Answer → WorkState D → Type 0) (next : Option CacheOrder → Type 0) (geometry : Geometry) (old new : WorkState D) : Type 0 where
   Carried : (order : CacheOrder) → next (Some order) → (begun : WorkState D) → HasBuffer old begun → WereDone (runs (order ∷ [])) (jobs_of geometry order) begun new → Took runs next geometry old new
   GaveUp : (order : CacheOrder) → next (Some order) → (refusal : Refusal) → (begun mid : WorkState D) → HasBuffer old begun → GaveUpAmong (runs (order ∷ [])) (jobs_of geometry order) refusal begun mid → new ≡ looked_at_fail 0 mid → Took runs next geometry old new
-  GaveBack : (order : CacheOrder) → next (Some order) → HasBuffer old new → (length old.buffer ≡ 0) ⊎ ¬ BlocksAreThere geometry order → Took runs next geometry old new
+  GaveBack : (order : CacheOrder) → next (Some order) → IsNotReady geometry order old new → Took runs next geometry old new
 
 -- A turn begins with a look at the fail word, which is clear, and a yes of the gate before an order. Then one was taken; or none waited, and
 -- the gate said yes again.
@@ -113,6 +119,6 @@ TickRefused runs geometry refusal old new = FoundFailed refusal old new ⊎ ((re
 abbrev pub OrderRefused : {D : Type 0} → (List CacheOrder → TaskJob → WorkState D → Answer → WorkState D → Type 0) → (Option CacheOrder → Type 0) → Geometry → Refusal → WorkState D → WorkState D → Type 0
 OrderRefused {D} runs next geometry refusal old new =
     FoundFailed refusal old new
-    ⊎ ((refusal ≡ Memory) × (length old.buffer ≡ 0) × HasBegun old new)
+    ⊎ ((refusal ≡ Memory) × (length old.buffer ≡ 0) × (new ≡ looked_at_fail 0 old))
     ⊎ ((order : CacheOrder) × next (Some order) × (refusal ≡ Range) × (¬ BlocksAreThere geometry order) × HasBegun old new)
     ⊎ ((order : CacheOrder) × next (Some order) × ((begun : WorkState D) × HasBegun old begun × GaveUpAmong (runs (order ∷ [])) (jobs_of geometry order) refusal begun new))

@@ -1,6 +1,6 @@
 //! Orders carried out, and flushes, by a client on its own thread.
 
-ghost use Rattle.std.specs.Prelude.{◌≡◌, ◌≢◌, ◌<◌, ◌⊎◌, [], ◌∷◌, ℕ, OnOk, OnErr, IfOk, IfErr, IfSome, IfNone, Some, None, length};
+ghost use Rattle.std.specs.Prelude.{◌≡◌, ◌≢◌, ◌≤◌, ◌<◌, ◌⊎◌, [], ◌∷◌, ℕ, OnOk, OnErr, IfOk, IfErr, IfSome, IfNone, Some, None, length};
 ghost use Rattle.std.specs.Bool.{OnTrue, OnFalse};
 ghost use Rattle.wb_types.specs.declared.geometry.Geometry.{Geometry as GeometryValue};
 ghost use Rattle.wb_types.specs.declared.number.CBlock.{CBlock as CBlockValue};
@@ -9,6 +9,7 @@ ghost use Rattle.wb_tasks.specs.Tables.{TaskJob};
 ghost use Rattle.wb_tasks.specs.Plan.{table};
 ghost use Rattle.wb_stage.specs.Jobs.{MayRun};
 ghost use Rattle.wb_port.specs.Moves.{copied_to};
+ghost use Rattle.wb_port.specs.declared.moving.TheConstants.{LONGEST as LongestStep};
 ghost use Rattle.wb_target.specs.Works.{AskedSharing, PerformedWith, IsOrdered, MayMigrate};
 ghost use Rattle.wb_target.specs.Carried.{client_state, looked_at_fail, HasBegun, Runs, WasDone, WasDoneWith, WereDone, share_of, migration_of, serving, flush_of, jobs_of, BlocksAreThere, AreSynced};
 ghost use Rattle.wb_target.specs.Told.{HadTick, WasNext, WasGivenUp};
@@ -51,36 +52,7 @@ fn answered(share: Share) -> Flushed
     }
 }
 
-/// Performs a task, under these orders: a run of its table. What it has of the commits of others is left in `share`.
-fn perform<R: Wait, D: Disk + Drop, P: Policy, G: Gate, T: Task>(
-    rt: &R,
-    target: &Target<P>,
-    gate: &G,
-    port: &mut Port<D>,
-    held: &[Order],
-    share: &mut Share,
-    task: &mut T,
-) -> Answer
-    requires begun { (job : TaskJob) × (T.plan task.old ≡ table job) × MayRun port.old.geometry.origin_blocks job × MayMigrate port.old.geometry.block held.now job }
-    requires unshared { share.old ≡ Share.Nothing }
-    ensures performed { PerformedWith D.tells D.size D.contents D.faults (AskedSharing P.with_entry P.without_entry held.now) port.old.geometry.origin_blocks (T.plan task.old) (client_state port.old) result (client_state port.new) share.new }
-    ensures geometry { port.new.geometry ≡ port.old.geometry }
-{
-    perform_task(
-        rt,
-        target,
-        gate,
-        &port.cells,
-        &mut port.hand,
-        port.buffer.as_mut_slice(),
-        held,
-        &mut port.commit,
-        share,
-        task,
-    )
-}
-
-/// The same, and what it has of the commits of others at its end.
+/// Performs a task, under these orders: a run of its table, its answer, and what it has of the commits of others at its end.
 fn work<R: Wait, D: Disk + Drop, P: Policy, G: Gate, T: Task>(
     rt: &R,
     target: &Target<P>,
@@ -94,15 +66,26 @@ fn work<R: Wait, D: Disk + Drop, P: Policy, G: Gate, T: Task>(
     ensures geometry { port.new.geometry ≡ port.old.geometry }
 {
     let mut share = Share::Nothing;
-    let answer = perform(rt, target, gate, port, held, &mut share, task);
+    let answer = perform_task(
+        rt,
+        target,
+        gate,
+        &port.cells,
+        &mut port.hand,
+        port.buffer.as_mut_slice(),
+        held,
+        &mut port.commit,
+        &mut share,
+        task,
+    );
     (answer, share)
 }
 
-/// A buffer for the steps of migrations, if it has none; `Memory` where there is none for it.
+/// A buffer for the steps of migrations, if it has none; `Memory` where there is none for it, and then nothing changed.
 pub(crate) fn take_buffer<D>(alloc: Global, port: &mut Port<D>) -> Result<(), Refusal>
     ensures kept { 0 < length port.old.buffer.items → port.new.buffer.items ≡ port.old.buffer.items }
-    ensures lacked { OnErr result (length port.old.buffer.items ≡ 0) }
-    ensures there { OnOk result (0 < length port.new.buffer.items) }
+    ensures lacked { OnErr result ((length port.old.buffer.items ≡ 0) × (port.new ≡ port.old)) }
+    ensures holds { OnOk result (LongestStep ≤ length port.new.buffer.items) }
     ensures refused { IfErr result (λ refusal. refusal ≡ Refusal.Memory) }
     ensures hand { port.new.hand ≡ port.old.hand }
     ensures commit { port.new.commit ≡ port.old.commit }

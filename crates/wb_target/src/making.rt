@@ -73,12 +73,17 @@ impl<'k, D: Disk + Drop, P: Policy> MakingStage<'k, D, P> {
         drive(task, self)
     }
 
-    /// The devices, and the target, or why there is none: why it could not be made, else why the opening was refused.
-    pub(crate) fn finish(self, answer: Answer) -> (Devices<D>, Result<Target<P>, Refusal>)
+    /// The devices, and the target over devices of these sizes, or why there is none: why it could not be made, else why the opening was refused.
+    pub(crate) fn finish(
+        self,
+        sizes: Geometry,
+        answer: Answer,
+    ) -> (Devices<D>, Result<Target<P>, Refusal>)
         requires made { answer ≡ Answer.Done → (office : OfficeTerm P) × (self.made ≡ Some (Ok office)) }
         ensures devices { result.0 ≡ self.entry.stage.devices }
         ensures done { OnOk result.1 (answer ≡ Answer.Done) }
         ensures mode { IfOk result.1 (λ target. target.mode ≡ self.entry.stage.mode) }
+        ensures sizes { IfOk result.1 (λ target. target.sizes ≡ sizes) }
         ensures refused { IfErr result.1 (IsToldOf self.entry.made answer) }
     {
         let MakingStage {
@@ -92,7 +97,7 @@ impl<'k, D: Disk + Drop, P: Policy> MakingStage<'k, D, P> {
         let opened = match made {
             Some(Err(refusal)) => Err(refusal),
             Some(Ok(office)) => match answer {
-                Answer::Done => Ok(Target::new(alloc, mode, office)),
+                Answer::Done => Ok(Target::new(alloc, mode, sizes, office)),
                 Answer::Refused(refusal) => Err(refusal),
             },
             None => match answer {

@@ -52,6 +52,7 @@ impl<P: Policy> Target<P> {
         metadata2: bool,
     ) -> (Devices<D>, Result<Target<P>, Refusal>)
         ensures mode { IfOk result.1 (λ target. target.mode ≡ mode) }
+        ensures sizes { IfOk result.1 (λ target. IsOfSizes D.size devices block metadata2 target.sizes) }
         ensures run { OnOk result.1 (WasRun D.tells D.size D.contents D.faults P.begun P.with_setting mode devices Answer.Done result.0) }
         ensures opened { OnOk result.1 (WasOpened D.tells D.size D.contents P.begun P.with_setting mode keys.now devices result.0) }
         ensures refused { IfErr result.1 (IsNotOpened D.tells D.size D.contents D.faults P.begun P.with_setting mode keys.now block metadata2 devices result.0) }
@@ -63,7 +64,7 @@ impl<P: Policy> Target<P> {
         let mut stage = MakingStage::new(alloc, devices, geometry, mode, keys);
         let mut task = OpenTask::new(geometry.meta_sectors);
         let answer = stage.run(&mut task);
-        stage.finish(answer)
+        stage.finish(geometry, answer)
     }
 }
 

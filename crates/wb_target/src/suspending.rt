@@ -109,15 +109,7 @@ impl<'a, D: Disk, P: Policy> SuspendStage<'a, D, P> {
                     most,
                 )
             }
-            DeskStep::EndCommit => asking::ask(
-                self.alloc,
-                self.desk,
-                &mut self.commit,
-                &mut Share::Nothing,
-                &[],
-                step,
-            ),
-            DeskStep::BreakCommit => asking::ask(
+            DeskStep::EndCommit | DeskStep::BreakCommit => asking::ask(
                 self.alloc,
                 self.desk,
                 &mut self.commit,

@@ -1,11 +1,13 @@
 //! A target: what its clients share.
 
-ghost use Rattle.std.specs.Prelude.{◌≡◌, ◌<◌, ◌+◌, ◌++◌, ◌⊎◌, [], Err, OnOk, OnErr, IfOk, IfErr, length, string_bytes};
-ghost use Rattle.std.specs.Bool.{OnTrue};
+ghost use Rattle.std.specs.Prelude.{◌≡◌, ◌<◌, ◌+◌, ◌++◌, ◌⊎◌, [], Err, OnOk, OnErr, IfOk, IfErr, IfSome, length, string_bytes};
+ghost use Rattle.std.specs.Bool.{OnTrue, OnFalse};
 ghost use Rattle.wb_table.specs.Status.{status_line};
 ghost use Rattle.wb_table.specs.declared.status.Fields.{Fields as Told};
 ghost use Rattle.wb_desk.specs.Desks.{DeskState, mapped_now};
+ghost use Rattle.wb_meta.specs.Sizes.{AreSameSizes};
 ghost use Rattle.wb_target.specs.Carried.{AreSynced};
+ghost use Rattle.wb_target.specs.Clients.{HaveSizes, IsNoClientFor};
 ghost use Rattle.wb_target.specs.Suspends.{WasSuspended, SuspendRefused};
 ghost use Rattle.wb_target.specs.Told.{WereSettled, HadTick, WasNext, WasSet, WasNotSet};
 ghost use Rattle.wb_target.specs.Shown.{AreShown, SawDirty, WereLooked, seals_latest_first};
@@ -17,13 +19,13 @@ use crate::office::Office;
 use std::alloc::Global;
 use std::sync::{Condvar, Mutex, Wait};
 use wb_desk::Counts;
-use wb_devices::Devices;
+use wb_devices::{Devices, are_same_sizes};
 use wb_disk::Disk;
 use wb_policy::{Order, Policy};
-use wb_port::Port;
+use wb_port::{Port, Seat};
 use wb_table::status_text;
 use wb_tasks::Answer;
-use wb_types::{Key, Mode, OBlock, Refusal};
+use wb_types::{Geometry, Key, Mode, OBlock, Refusal};
 
 /// How many clients a target has at most.
 pub const CLIENTS: usize = 64;
@@ -33,6 +35,8 @@ pub struct Target<P: Policy> {
     pub(crate) alloc: Global,
     /// In which mode its clients read and write.
     pub(crate) mode: Mode,
+    /// The sizes of its devices, as it was opened.
+    pub(crate) sizes: Geometry,
     pub(crate) office: Mutex<Office<P>>,
     pub(crate) bell: Condvar,
 }
@@ -42,6 +46,7 @@ impl<P: Policy> Drop for Target<P> {
         let Target {
             alloc: _,
             mode: _,
+            sizes: _,
             office,
             bell,
         } = self;
@@ -51,20 +56,22 @@ impl<P: Policy> Drop for Target<P> {
 }
 
 impl<P: Policy> Target<P> {
-    /// A target in this mode, over what is to lie under its lock.
-    pub(crate) fn new(alloc: Global, mode: Mode, office: Office<P>) -> Target<P>
-        ensures { result.mode ≡ mode }
+    /// A target in this mode, over devices of these sizes and what is to lie under its lock.
+    pub(crate) fn new(alloc: Global, mode: Mode, sizes: Geometry, office: Office<P>) -> Target<P>
+        ensures mode { result.mode ≡ mode }
+        ensures sizes { result.sizes ≡ sizes }
     {
         Target {
             alloc,
             mode,
+            sizes,
             office: Mutex::new(office),
             bell: Condvar::new(),
         }
     }
 
-    /// A client with these devices, which are the target's, in its mode. `Busy` where 64 are out, `Failed` where the target has failed,
-    /// `Memory` where there is none; then the devices are handed back.
+    /// A client with these devices, which are the target's, in its mode. `Geometry` where they have other sizes than the target was opened
+    /// with, `Busy` where 64 clients are out, `Failed` where the target has failed, `Memory` where there is none; then the devices are handed back.
     pub fn client<R: Wait, D: Disk + Drop>(
         &self,
         rt: &R,
@@ -73,11 +80,15 @@ impl<P: Policy> Target<P> {
         ensures devices { IfOk result (λ client. client.port.hand.devices ≡ devices) }
         ensures unsettled { IfOk result (λ client. client.port.accesses.items ≡ []) }
         ensures mode { IfOk result (λ client. client.port.hand.mode ≡ self.now.mode) }
+        ensures sizes { IfOk result (λ client. AreSameSizes client.port.geometry self.now.sizes) }
+        ensures sized { IfOk result (λ client. HaveSizes D.size self.now.sizes devices) }
         ensures back { IfErr result (λ back. back.0 ≡ devices) }
-        ensures refused { IfErr result (λ back. (back.1 ≡ Refusal.Busy) ⊎ (back.1 ≡ Refusal.Failed) ⊎ (back.1 ≡ Refusal.Memory)) }
+        ensures refused { IfErr result (λ back. IsNoClientFor D.size self.now.sizes devices back.1) }
     {
-        let seat = self.office.lock(rt).seats.pop();
-        let Some(seat) = seat else {
+        if !have_sizes(&devices, self.sizes) {
+            return Err((devices, Refusal::Geometry));
+        }
+        let Some(seat) = self.take_seat(rt) else {
             return Err((devices, Refusal::Busy));
         };
         match Port::new(self.alloc, seat, self.mode, devices) {
@@ -91,6 +102,19 @@ impl<P: Policy> Target<P> {
                 self.office.lock(rt).give_back(seat);
                 Err((devices, Refusal::Memory))
             }
+        }
+    }
+
+    /// A place for one client more, if there is any.
+    fn take_seat<R: Wait>(&self, rt: &R) -> Option<Seat>
+        ensures { IfSome result (λ seat. AreSameSizes seat.geometry self.now.sizes) }
+    {
+        let seat = self.office.lock(rt).seats.pop()?;
+        // All have these sizes; the lock cannot say of which cache the office under it is.
+        if are_same_sizes(seat.geometry, self.sizes) {
+            Some(seat)
+        } else {
+            None
         }
     }
 
@@ -200,4 +224,14 @@ impl<P: Policy> Target<P> {
         self.office.lock(rt).give_back(seat);
         devices
     }
+}
+
+/// Whether devices have these sizes.
+fn have_sizes<D: Disk>(devices: &Devices<D>, sizes: Geometry) -> bool
+    ensures there { OnTrue result (HaveSizes D.size sizes devices.now) }
+    ensures not { OnFalse result (¬ HaveSizes D.size sizes devices.now) }
+{
+    devices.metadata.sectors() == u64::from(sizes.meta_sectors)
+        && devices.cache.sectors() == sizes.cache_sectors()
+        && devices.origin.sectors() == sizes.origin_sectors()
 }

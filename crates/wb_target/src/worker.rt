@@ -1,12 +1,12 @@
 //! Workers: clients that carry out orders on their own thread, as long as a gate lets them.
 
-ghost use Rattle.std.specs.Prelude.{◌≡◌, ◌⊎◌, OnOk, IfOk, IfErr, None, true, false, length};
+ghost use Rattle.std.specs.Prelude.{◌≡◌, OnOk, IfOk, IfErr, None, true, false};
 ghost use Rattle.std.specs.Bool.{OnTrue, OnFalse};
 ghost use Rattle.wb_target.specs.declared.gate.Point.TheVariants.{Order as BeforeOrder};
 ghost use Rattle.wb_target.specs.Carried.{client_state, Runs, BlocksAreThere};
 ghost use Rattle.wb_target.specs.Works.{AskedSharing};
 ghost use Rattle.wb_target.specs.Told.{WasNext};
-ghost use Rattle.wb_target.specs.Workers.{IsFailure, HasBuffer, EndedBy, FailedAfter, Took, StoppedAt};
+ghost use Rattle.wb_target.specs.Workers.{IsFailure, IsNotReady, HasBuffer, EndedBy, FailedAfter, Took, StoppedAt};
 
 use crate::carrying::{carry_out, is_there, take_buffer};
 use crate::client::Client;
@@ -101,9 +101,9 @@ fn take_turn<R: Wait, D: Disk + Drop, P: Policy, G: Gate>(
 
 /// Whether an order that was taken can be begun: there is a buffer, its own or a new one, and its blocks are there.
 fn is_ready<D>(alloc: Global, port: &mut Port<D>, order: Order) -> bool
-    ensures buffer { HasBuffer (client_state port.old) (client_state port.new) }
+    ensures buffer { OnTrue result (HasBuffer (client_state port.old) (client_state port.new)) }
     ensures there { OnTrue result (BlocksAreThere port.new.geometry order) }
-    ensures not { OnFalse result ((length port.old.buffer.items ≡ 0) ⊎ ¬ BlocksAreThere port.old.geometry order) }
+    ensures not { OnFalse result (IsNotReady port.old.geometry order (client_state port.old) (client_state port.new)) }
     ensures geometry { port.new.geometry ≡ port.old.geometry }
 {
     match take_buffer(alloc, port) {

@@ -1,6 +1,6 @@
 use Rattle.std.proofs.Common.{refl}
 use Rattle.wb_port.proofs.Ranging.{never_range}
-use Rattle.wb_port.proofs.Serves.{read_same_hand, read_same_slice, read_at, read_size, read_mode, read_ready, read_many, read_idle, read_ok, read_err}
+use Rattle.wb_port.proofs.Serves.{read_same_hand, read_same_slice, read_kept, read_ready, read_many, read_idle, read_ok, read_err}
 use Rattle.wb_port.proofs.moving.ReadStage.serve.Goals as goal
 
 pub serve_part-requires-clause-stays : goal.serve_part-requires-clause-stays
@@ -19,10 +19,10 @@ pub returns-clause-refused : goal.returns-clause-refused
 returns-clause-refused g c = let run = c.serve_part.ensures in read_err g.D.Disk.tells g.D.Disk.size g.D.Disk.contents g.D.Disk.faults c.args.block_sectors c.args.block c.args.sectors _ run.0 c.args.self.now c.serve_part.new.stage refl run.2 c.serve_part.result c.answered.result run.1 c.answered.ensures.refused c.requires.unmoved
 
 pub returns-clause-at : goal.returns-clause-at
-returns-clause-at g c = let run = c.serve_part.ensures in read_at g.D.Disk.tells g.D.Disk.size g.D.Disk.contents g.D.Disk.faults c.args.block_sectors c.args.block c.args.sectors _ run.0 c.args.self.now c.serve_part.new.stage refl run.2
+returns-clause-at g c = let run = c.serve_part.ensures in (read_kept g.D.Disk.tells g.D.Disk.size g.D.Disk.contents g.D.Disk.faults c.args.block_sectors c.args.block c.args.sectors _ run.0 c.args.self.now c.serve_part.new.stage refl run.2).at
 
 pub returns-clause-size : goal.returns-clause-size
-returns-clause-size g c = let run = c.serve_part.ensures in read_size g.D.Disk.tells g.D.Disk.size g.D.Disk.contents g.D.Disk.faults c.args.block_sectors c.args.block c.args.sectors _ run.0 c.args.self.now c.serve_part.new.stage refl run.2
+returns-clause-size g c = let run = c.serve_part.ensures in (read_kept g.D.Disk.tells g.D.Disk.size g.D.Disk.contents g.D.Disk.faults c.args.block_sectors c.args.block c.args.sectors _ run.0 c.args.self.now c.serve_part.new.stage refl run.2).size
 
 pub returns-clause-idle : goal.returns-clause-idle
 returns-clause-idle g c = let run = c.serve_part.ensures in read_idle g.D.Disk.tells g.D.Disk.size g.D.Disk.contents g.D.Disk.faults c.args.block_sectors c.args.block c.args.sectors _ run.0 c.args.self.now c.serve_part.new.stage refl run.2 c.serve_part.result c.requires.block c.requires.idle run.1
@@ -34,4 +34,4 @@ pub returns-clause-never_range : goal.returns-clause-never_range
 returns-clause-never_range g c = let run = c.serve_part.ensures in never_range _ _ run.0 c.serve_part.result c.answered.result refl run.1 c.answered.ensures.refused
 
 pub returns-clause-mode : goal.returns-clause-mode
-returns-clause-mode g c = let run = c.serve_part.ensures in read_mode g.D.Disk.tells g.D.Disk.size g.D.Disk.contents g.D.Disk.faults c.args.block_sectors c.args.block c.args.sectors _ run.0 c.args.self.now c.serve_part.new.stage refl run.2
+returns-clause-mode g c = let run = c.serve_part.ensures in (read_kept g.D.Disk.tells g.D.Disk.size g.D.Disk.contents g.D.Disk.faults c.args.block_sectors c.args.block c.args.sectors _ run.0 c.args.self.now c.serve_part.new.stage refl run.2).mode

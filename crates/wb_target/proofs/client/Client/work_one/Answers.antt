@@ -13,7 +13,7 @@ returns-clause-carried g c =
     let looked = c.has_failed.ensures in
     let taken = c.take_buffer.ensures in (
       client_state begun,
-      begun_by c.args.self.now.port c.has_failed.new.self begun c.if-has_failed.ensures.clear looked.buffer looked.commit taken.hand taken.commit taken.kept,
+      begun_by c.args.self.now.port c.has_failed.new.self begun c.if-has_failed.ensures.clear looked.buffer looked.commit taken.hand taken.commit taken.kept c.in_ok-take_buffer.ensures.holds,
       jobs_in g.D.Disk.tells g.D.Disk.size g.D.Disk.contents g.D.Disk.faults (AskedSharing g.P.Policy.with_entry g.P.Policy.without_entry) _ begun.geometry c.args.self.now.port.geometry _ _ (taken.geometry ∙ looked.geometry) c.in_ok-carry_out.ensures.carried,
     )
 
@@ -28,7 +28,7 @@ returns-in_err-carry_out-clause-refused g c =
       subst (λ (o : Option Order). WasNext g.row.P.Denot o) c.in-Some.is c.take_order.ensures,
       (
         client_state begun,
-        begun_by c.args.self.now.port c.has_failed.new.self begun c.if-has_failed.ensures.clear looked.buffer looked.commit taken.hand taken.commit taken.kept,
+        begun_by c.args.self.now.port c.has_failed.new.self begun c.if-has_failed.ensures.clear looked.buffer looked.commit taken.hand taken.commit taken.kept c.in_ok-take_buffer.ensures.holds,
         gave_up_in g.D.Disk.tells g.D.Disk.size g.D.Disk.contents g.D.Disk.faults (AskedSharing g.P.Policy.with_entry g.P.Policy.without_entry) c.args.self.now.port.geometry begun.geometry (taken.geometry ∙ looked.geometry) c.in-Some.order cause _ _ c.in_err-carry_out.ensures.given_up,
       ),
     ))))

@@ -1,12 +1,13 @@
 use Rattle.std.proofs.Common.{◌≡◌, ◌∙◌, ◌-◌, ap, subst, sym}
-use Rattle.std.proofs.lemmas.Result.{on_ok_weaker, IfErr-weaker}
+use Rattle.std.proofs.lemmas.Result.{on_ok_weaker, IfErr-weaker, IfOk-weaker}
+use Rattle.wb_types.specs.declared.geometry.Geometry.{Geometry}
 use Rattle.wb_tasks.specs.Tables.{Opening as OpeningJob}
 use Rattle.wb_tasks.specs.Plan.{Plan, table}
 use Rattle.wb_tasks.specs.Run.{IsRunOf}
 use Rattle.wb_tasks.specs.declared.step.Answer.{Answer}
 use Rattle.wb_tasks.specs.declared.step.Answer.TheVariants.{Done}
 use Rattle.wb_target.specs.Making.{MakingGoesOn, WasOpened, WasRun}
-use Rattle.wb_target.specs.NotOpened.{IsToldOf}
+use Rattle.wb_target.specs.NotOpened.{IsToldOf, IsOfSizes}
 use Rattle.wb_target.proofs.Opened.{was_opened}
 use Rattle.wb_target.proofs.Refusing.{not_opened}
 use Rattle.wb_target.proofs.Leading.{ok_as}
@@ -50,6 +51,11 @@ returns-clause-mode g c =
     let run = c.run-answer.ensures.run in
     let same = kept_by (MakingGoesOn g.D.Disk.tells g.D.Disk.size g.D.Disk.contents g.D.Disk.faults g.P.Policy.begun g.P.Policy.with_setting) (λ x. x.stage.mode) (λ x w got y h. h.1) c.new-stage.result run.0 c.run-answer.new.self run.2 in
     ok_as c.finish.result.1 (λ target. target.mode) c.run-answer.new.self.stage.mode c.args.mode (same ∙ c.new-stage.ensures.mode) c.finish.ensures.mode
+
+pub returns-clause-sizes : goal.returns-clause-sizes
+returns-clause-sizes g c =
+    let are : Geometry → Type 0 = IsOfSizes g.D.Disk.size c.args.devices c.args.block c.args.metadata2 in
+    IfOk-weaker c.finish.result.1 _ (λ target. are target.sizes) (λ target same. subst are (sym same) c.in-Ok.ensures.sizes) c.finish.ensures.sizes
 
 pub returns-clause-refused : goal.returns-clause-refused
 returns-clause-refused g c =

@@ -3,7 +3,7 @@ use Rattle.std.proofs.lemmas.List.{with_items_is}
 use Rattle.wb_disk.specs.Device.{Content as Bytes}
 use Rattle.wb_target.specs.Carried.{client_state}
 use Rattle.wb_target.specs.Works.{AskedSharing, PerformedWith}
-use Rattle.wb_target.proofs.carrying.perform.Goals as goal
+use Rattle.wb_target.proofs.carrying.work.Goals as goal
 
 pub returns-clause-performed : goal.returns-clause-performed
 returns-clause-performed g c =
