@@ -93,4 +93,4 @@ office_sent P g s = declared_send (Office.the_type P g) (desk_sent P g s, (Vec-s
 -- what clients on threads share
 pub target_shared : (P : RattleType) (g : Ghosts P.Denot) → IsSend P → IsSync (Target.the_row P g)
 target_shared P g s =
-    declared_sync (Target.the_type P g) (heap.the_sync, (mode.the_sync, (search (sendable, as_row_sync, crosses, office_sent P g s), (search (sendable, as_row_sync, crosses) depth 12, tt))))
+    declared_sync (Target.the_type P g) (heap.the_sync, (mode.the_sync, (geometry.the_sync, (search (sendable, as_row_sync, crosses, office_sent P g s), (search (sendable, as_row_sync, crosses) depth 12, tt)))))

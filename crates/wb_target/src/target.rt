@@ -58,8 +58,7 @@ impl<P: Policy> Drop for Target<P> {
 impl<P: Policy> Target<P> {
     /// A target in this mode, over devices of these sizes and what is to lie under its lock.
     pub(crate) fn new(alloc: Global, mode: Mode, sizes: Geometry, office: Office<P>) -> Target<P>
-        ensures mode { result.mode ≡ mode }
-        ensures sizes { result.sizes ≡ sizes }
+        ensures { (result.mode ≡ mode) × (result.sizes ≡ sizes) }
     {
         Target {
             alloc,

@@ -5,6 +5,8 @@ use crate::questions::{Question, answered_of, done_by};
 use std::alloc::Global;
 use std::sync::Wait;
 use std::test::Fail;
+use wb_devices::Devices;
+use wb_disk::MemDisk;
 use wb_policy::{Order, TinyLfu};
 use wb_target::{CLIENTS, Target};
 use wb_types::{CBlock, OBlock, Refusal, Sector};
@@ -47,5 +49,41 @@ fn seats_come_back(rt: &impl Wait, alloc: Global) -> Result<bool, Refusal> {
 #[test]
 fn a_client_leaves_its_place_to_another(rt: HostRuntime) -> Result<(), Fail> {
     assert!(rt; seats_come_back(&rt, rt.alloc())?);
+    Ok(())
+}
+
+/// What a target over 4, 256 and 640 sectors answers a client whose devices have these sizes.
+fn told(
+    rt: &impl Wait,
+    alloc: Global,
+    metadata: u64,
+    cache: u64,
+    origin: u64,
+) -> Result<Option<Refusal>, Refusal> {
+    let (_, target) = open(alloc, formatted(alloc)?)?;
+    let devices = Devices {
+        metadata: MemDisk::new(alloc, metadata)?,
+        cache: MemDisk::new(alloc, cache)?,
+        origin: MemDisk::new(alloc, origin)?,
+    };
+    let refused = match target.client(rt, devices) {
+        Ok(_) => None,
+        Err((_, refusal)) => Some(refusal),
+    };
+    Ok(refused)
+}
+
+#[test]
+fn a_client_has_devices_of_the_sizes_of_its_target(rt: HostRuntime) -> Result<(), Fail> {
+    let rows = [
+        (4, 256, 640, None),
+        (5, 256, 640, Some(Refusal::Geometry)),
+        (4, 255, 640, Some(Refusal::Geometry)),
+        (4, 256, 704, Some(Refusal::Geometry)),
+    ];
+    for (metadata, cache, origin, wanted) in rows {
+        let alloc = rt.alloc();
+        assert!(rt; told(&rt, alloc, metadata, cache, origin)? == wanted);
+    }
     Ok(())
 }

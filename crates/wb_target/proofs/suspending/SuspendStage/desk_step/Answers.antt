@@ -12,4 +12,4 @@ returns-in-BeginCommit-clause-works g c =
 pub returns-in-EndCommit-clause-works : goal.returns-in-EndCommit-clause-works
 returns-in-EndCommit-clause-works g c =
     let old = c.args.self.now in
-    let asked = ended_works g.P.Policy.hint_of g.P.Policy.with_entry g.P.Policy.without_entry old.seen.items c.args.step c.ask.result old.desk.now c.ask.new.desk old.commit c.ask.new.commit (c.in-EndCommit-BreakCommit.is) c.ask.ensures.did in (refl, refl, asked.0, asked.1)
+    let asked = ended_works g.P.Policy.hint_of g.P.Policy.with_entry g.P.Policy.without_entry old.seen.items c.args.step c.ask.result old.desk.now c.ask.new.desk old.commit c.ask.new.commit (c.in-EndCommit.is) c.ask.ensures.did in (refl, refl, asked.0, asked.1)
