@@ -134,11 +134,11 @@ fn add_request(
 ) -> Result<(), Fail> {
     let [cookie, first, count, flags] = numbers;
     bytes.extend_from_slice(magic)?;
-    bytes.extend_from_slice(&(flags as u16).to_be_bytes())?;
+    bytes.extend_from_slice(&u16::try_from(flags)?.to_be_bytes())?;
     bytes.extend_from_slice(&command.to_be_bytes())?;
     bytes.extend_from_slice(&cookie.to_be_bytes())?;
     bytes.extend_from_slice(&first.to_be_bytes())?;
-    bytes.extend_from_slice(&(count as u32).to_be_bytes())?;
+    bytes.extend_from_slice(&u32::try_from(count)?.to_be_bytes())?;
     Ok(())
 }
 
@@ -152,13 +152,13 @@ fn add_part(bytes: &mut Vec<u8>, part: &str) -> Result<(), Fail> {
         "reply" => {
             let [cookie, error, _, _] = numbers_of(rest)?;
             bytes.extend_from_slice(b"\x67\x44\x66\x98")?;
-            bytes.extend_from_slice(&(error as u32).to_be_bytes())?;
+            bytes.extend_from_slice(&u32::try_from(error)?.to_be_bytes())?;
             bytes.extend_from_slice(&cookie.to_be_bytes())?;
         }
         "other" => add_request(bytes, b"\x25\x60\x95\x14", 0, numbers_of(rest)?)?,
         _ => {
             let command = match COMMANDS.iter().position(|name| *name == word) {
-                Some(number) => number as u16,
+                Some(number) => u16::try_from(number)?,
                 None => word.parse()?,
             };
             add_request(bytes, b"\x25\x60\x95\x13", command, numbers_of(rest)?)?;
