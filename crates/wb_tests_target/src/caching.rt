@@ -125,8 +125,7 @@ pub fn replaces_another(rt: &impl Wait, target: &Target<TinyLfu>, client: &mut L
     fill_cache(rt, client)
         && shows(rt, client, 0, 0x10)
         && replaces_block(rt, target, client, 1)
-        && shows(rt, client, 64, 0x10)
-        && shows(rt, client, 0, 0x10)
+        && [64, 0].iter().all(|at| shows(rt, client, *at, 0x10))
 }
 
 #[test]

@@ -21,12 +21,6 @@ pub fn ticks(rt: &impl Wait, target: &Target<TinyLfu>, client: &mut Lent<'_>) ->
         && shows(rt, client, 70, 0x22)
 }
 
-#[test]
-fn a_tick_has_a_dirty_block_written_back(rt: HostRuntime) -> Result<(), Fail> {
-    assert!(rt; answered(&rt, rt.alloc(), Question::Ticks)?);
-    Ok(())
-}
-
 /// Whether a tick orders that the least recent of four dirty blocks be written back, and no other.
 pub fn ticks_once(rt: &impl Wait, target: &Target<TinyLfu>, client: &mut Lent<'_>) -> bool {
     fills_and_flushes(rt, client)
@@ -35,6 +29,12 @@ pub fn ticks_once(rt: &impl Wait, target: &Target<TinyLfu>, client: &mut Lent<'_
         && worked(rt, client) == Some(Order::Clean(OBlock(0)))
         && worked(rt, client).is_none()
         && target.dirty(rt) == 3
+}
+
+#[test]
+fn a_tick_has_a_dirty_block_written_back(rt: HostRuntime) -> Result<(), Fail> {
+    assert!(rt; answered(&rt, rt.alloc(), Question::Ticks)?);
+    Ok(())
 }
 
 #[test]
