@@ -153,7 +153,7 @@ pub fn shows_allowed(rt: &impl Wait, client: &mut Lent<'_>, rounds: Rounds) -> b
 pub enum Trial {
     /// A life over devices of which this one fails.
     Lives(Dev),
-    /// An opening that makes metadata of version 1 those of version 2, which fail; whether the next one asks for version 2, too.
+    /// An opening over metadata that fail, which makes them of version 2; whether the next one asks for that, too.
     Converts(bool),
 }
 
@@ -177,6 +177,7 @@ fn is_life_borne(
     Ok(Some(allowed))
 }
 
+/// The same of any trial.
 fn is_borne(
     rt: &impl Wait,
     alloc: Global,
