@@ -1,4 +1,4 @@
-//! A disk of which one call fails.
+//! A disk of which one call fails, or each from one on.
 
 ghost use Rattle.std.specs.Prelude.{◌≡◌, OnErr, OnOk};
 ghost use Rattle.wb_disk.specs.Device.{OneMore};
@@ -7,13 +7,14 @@ ghost use Rattle.wb_faults.specs.Counts.{faults_with};
 use wb_disk::{Disk, DiskFault};
 use wb_types::Content;
 
-/// A disk whose reads, writes and syncs are counted from 0, of which the one of this number fails: it is a fault that counts, and the
-/// disk inside is not asked. It tells what that disk tells.
+/// A disk whose reads, writes and syncs are counted from 0, of which the one of this number fails, and where it stops each behind it: that is a
+/// fault that counts, and the disk inside is not asked. It tells what that disk tells.
 #[derive(Drop)]
 pub struct FaultDisk<D> {
     inside: D,
     calls: u64,
     fails: Option<u64>,
+    stops: bool,
     faults: u64,
 }
 
@@ -26,8 +27,25 @@ impl<D: Disk> FaultDisk<D> {
             inside,
             calls: 0,
             fails,
+            stops: false,
             faults: 0,
         }
+    }
+
+    /// One that stops there.
+    pub fn stopping(inside: D, fails: Option<u64>) -> FaultDisk<D>
+        ensures { result.inside ≡ inside }
+    {
+        let mut disk = FaultDisk::new(inside, fails);
+        disk.stops = true;
+        disk
+    }
+
+    /// How many calls have come.
+    pub fn calls(&self) -> u64
+        ensures { result ≡ self.now.calls }
+    {
+        self.calls
     }
 
     /// The disk inside.
@@ -37,7 +55,7 @@ impl<D: Disk> FaultDisk<D> {
         self.inside
     }
 
-    /// Whether the call that fails has come.
+    /// Whether a call has failed.
     pub fn has_failed(&self) -> bool {
         self.faults != 0
     }
@@ -50,7 +68,7 @@ impl<D: Disk> FaultDisk<D> {
     {
         let number = self.calls;
         self.calls = number.wrapping_add(1);
-        if self.fails == Some(number) {
+        if self.fails == Some(number) || self.stops && self.faults != 0 {
             self.faults = self.faults.wrapping_add(1);
             return Err(DiskFault);
         }

@@ -39,6 +39,33 @@ fn answer(cells: &Cells, p: &mut Pass, q: &mut Pass, r: &mut Pass, question: Que
     }
 }
 
+/// Whether a grip shares in five steps, and one that would own is busy in two.
+fn grips_by_five(cells: &Cells, p: &mut Pass, q: &mut Pass) -> bool
+    requires blocks { cells.now.blocks ≡ 10 }
+    requires at { (p.old.table ≡ cells.now.table) × (q.old.table ≡ cells.now.table) }
+    requires idle { (p.old.card.hold ≡ Nothing) × (q.old.card.hold ≡ Nothing) }
+{
+    let mut grip = Grip::share(OBlock(1));
+    let shares = matches!(cells.grip_step(p, &mut grip), Gripped::More(0))
+        && matches!(cells.grip_step(p, &mut grip), Gripped::More(0))
+        && matches!(cells.grip_step(p, &mut grip), Gripped::More(0))
+        && matches!(cells.grip_step(p, &mut grip), Gripped::More(0))
+        && matches!(cells.grip_step(p, &mut grip), Gripped::Shared(_));
+    let mut grip = Grip::own(OBlock(1));
+    shares
+        && matches!(cells.grip_step(q, &mut grip), Gripped::More(0))
+        && matches!(
+            cells.grip_step(q, &mut grip),
+            Gripped::Refused(Refusal::Busy)
+        )
+}
+
+#[test]
+fn a_grip_shares_in_five_steps_and_is_busy_in_two(rt: HostRuntime) -> Result<(), Fail> {
+    assert!(rt; answered(rt.alloc(), Question::GripsByFive)?);
+    Ok(())
+}
+
 /// Whether two sharers keep a third pass from owning their block until they leave it.
 fn sharers_keep_out(cells: &Cells, p: &mut Pass, q: &mut Pass, r: &mut Pass) -> bool
     requires blocks { cells.now.blocks ≡ 10 }
@@ -98,33 +125,6 @@ fn finds_what_was_left(cells: &Cells, p: &mut Pass, r: &mut Pass) -> bool
 #[test]
 fn a_sharer_finds_what_an_owner_left(rt: HostRuntime) -> Result<(), Fail> {
     assert!(rt; answered(rt.alloc(), Question::FindsWhatWasLeft)?);
-    Ok(())
-}
-
-/// Whether a grip shares in five steps, and one that would own is busy in two.
-fn grips_by_five(cells: &Cells, p: &mut Pass, q: &mut Pass) -> bool
-    requires blocks { cells.now.blocks ≡ 10 }
-    requires at { (p.old.table ≡ cells.now.table) × (q.old.table ≡ cells.now.table) }
-    requires idle { (p.old.card.hold ≡ Nothing) × (q.old.card.hold ≡ Nothing) }
-{
-    let mut grip = Grip::share(OBlock(1));
-    let shares = matches!(cells.grip_step(p, &mut grip), Gripped::More(0))
-        && matches!(cells.grip_step(p, &mut grip), Gripped::More(0))
-        && matches!(cells.grip_step(p, &mut grip), Gripped::More(0))
-        && matches!(cells.grip_step(p, &mut grip), Gripped::More(0))
-        && matches!(cells.grip_step(p, &mut grip), Gripped::Shared(_));
-    let mut grip = Grip::own(OBlock(1));
-    shares
-        && matches!(cells.grip_step(q, &mut grip), Gripped::More(0))
-        && matches!(
-            cells.grip_step(q, &mut grip),
-            Gripped::Refused(Refusal::Busy)
-        )
-}
-
-#[test]
-fn a_grip_shares_in_five_steps_and_is_busy_in_two(rt: HostRuntime) -> Result<(), Fail> {
-    assert!(rt; answered(rt.alloc(), Question::GripsByFive)?);
     Ok(())
 }
 

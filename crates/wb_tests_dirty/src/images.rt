@@ -2,7 +2,7 @@
 
 ghost use Rattle.std.specs.Prelude.{◌≡◌, length};
 
-use crate::sectors::{Row, image_root_of};
+use crate::reading::sectors::{Row, image_root_of};
 use std::alloc::Global;
 use wb_dirty::ImageLoader;
 use wb_format::Node;

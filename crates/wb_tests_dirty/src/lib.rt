@@ -9,5 +9,3 @@ mod planning;
 mod random;
 #[cfg(test)]
 mod reading;
-#[cfg(test)]
-mod sectors;

@@ -4,7 +4,8 @@ ghost use Rattle.std.specs.Prelude.{◌≡◌, ◌≤◌, ◌<◌, ◌+◌, ◌^
 ghost use Rattle.std.specs.List.{range_with_len};
 ghost use Rattle.wb_types.specs.declared.number.Place.{Place as At};
 
-use crate::sectors::sized_root;
+use crate::reading::blocks::{Blocks, set_of};
+use crate::reading::sectors::sized_root;
 use std::alloc::Global;
 use wb_bits::BitSet;
 use wb_dirty::{DirtyLoader, DirtyPlan, dirty_nodes_of, plan_dirty};
@@ -13,45 +14,6 @@ use wb_types::{Place, Refusal, SECTOR_BYTES, Version};
 
 /// The mapping's nodes stand at these places.
 const BEFORE: [Place; 2] = [Place(2), Place(3)];
-
-/// Which blocks of a cache are dirty.
-#[derive(Clone, Copy)]
-enum Blocks {
-    None,
-    One(usize),
-    Last,
-    /// The first and each 64th behind it.
-    Every64th,
-    All,
-}
-
-impl Blocks {
-    /// Whether a block of so many is one of them.
-    fn have(self, block: usize, size: usize) -> bool {
-        match self {
-            Blocks::None => false,
-            Blocks::One(one) => block == one,
-            Blocks::Last => block == size.saturating_sub(1),
-            Blocks::Every64th => block % 64 == 0,
-            Blocks::All => true,
-        }
-    }
-}
-
-/// These blocks of so many.
-fn set_of(alloc: Global, size: u32, blocks: Blocks) -> Result<BitSet, Refusal>
-    requires { size < 2 ^ 20 }
-    ensures { IfOk result (λ set. length set ≡ size) }
-{
-    let size = size as usize;
-    let mut set = BitSet::new(alloc, size)?;
-    for block in 0..size {
-        if blocks.have(block, size) {
-            set.insert(block);
-        }
-    }
-    Ok(set)
-}
 
 /// The free places: 60 from the fourth sector on.
 fn free_places(alloc: Global) -> Result<Vec<Place>, Refusal>

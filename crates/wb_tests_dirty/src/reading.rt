@@ -1,8 +1,10 @@
 //! Which blocks sectors say are dirty, and which place the first fault names.
 
-ghost use Rattle.std.specs.Prelude.{◌≡◌, ◌<◌, ◌^◌, IfOk, length};
+pub mod blocks;
+pub mod sectors;
 
-use crate::sectors::{Row, root_of};
+use self::blocks::{Blocks, set_of};
+use self::sectors::{Row, root_of};
 use std::alloc::Global;
 use wb_bits::BitSet;
 use wb_dirty::DirtyLoader;
@@ -45,18 +47,18 @@ const SECOND: Row = Row {
 };
 
 /// What is read of sectors that have these nodes, and nothing else: how many blocks are dirty, the least of them and the least behind it.
-/// Of the cache blocks those from the third on have no entry if so is said.
+/// Of the cache blocks these have an entry.
 fn read(
     alloc: Global,
     cache_blocks: u16,
     top: u8,
-    is_full: bool,
+    mapped: Blocks,
     rows: &[Row],
 ) -> Result<[usize; 3], Refusal> {
     let Some(root) = root_of(cache_blocks, top) else {
         return Err(Refusal::NotFormatted);
     };
-    let mapped = mapped_of(alloc, root.geometry.cache_blocks, is_full)?;
+    let mapped = set_of(alloc, root.geometry.cache_blocks, mapped)?;
     let mut loader = DirtyLoader::new(alloc, &root, mapped, &BEFORE)?;
     for _ in 0..400 {
         let Some(Place(wanted)) = loader.wanted() else {
@@ -65,21 +67,6 @@ fn read(
         loader = loader.tell(node_at(rows, wanted))?;
     }
     Err(Refusal::Busy)
-}
-
-/// The cache blocks with an entry: all, or those before the third.
-fn mapped_of(alloc: Global, size: u32, is_full: bool) -> Result<BitSet, Refusal>
-    requires { size < 2 ^ 20 }
-    ensures { IfOk result (λ mapped. length mapped ≡ size) }
-{
-    let size = size as usize;
-    let mut mapped = BitSet::new(alloc, size)?;
-    for block in 0..size {
-        if is_full || block < 3 {
-            mapped.insert(block);
-        }
-    }
-    Ok(mapped)
 }
 
 /// The node in the sector at this place.
@@ -111,7 +98,7 @@ fn bits_of_a_leaf(rt: HostRuntime) {
         (4, [(0, 0), (0, 0)], [0, 0, 0]),
     ] {
         let leaf = Row { words, ..LEAF };
-        assert!(rt; read(alloc, 68, top, true, &[leaf]) == Ok(dirty));
+        assert!(rt; read(alloc, 68, top, Blocks::All, &[leaf]) == Ok(dirty));
     }
 }
 
@@ -126,7 +113,7 @@ fn leaves_below_a_top(rt: HostRuntime) {
         ([TOP, FIRST, SECOND], [2, 0, 2048]),
         ([TOP, last, SECOND], [2, 2047, 2048]),
     ] {
-        assert!(rt; read(alloc, 2049, 4, true, &rows) == Ok(dirty));
+        assert!(rt; read(alloc, 2049, 4, Blocks::All, &rows) == Ok(dirty));
     }
 }
 
@@ -162,23 +149,25 @@ fn the_first_fault_is_named(rt: HostRuntime) {
             4,
         ),
     ] {
-        assert!(rt; read(alloc, 68, 4, true, &[leaf]) == Err(Refusal::Damaged(Place(place))));
+        assert!(rt;
+            read(alloc, 68, 4, Blocks::All, &[leaf]) == Err(Refusal::Damaged(Place(place)))
+        );
     }
 }
 
 #[test]
 fn a_bit_of_a_block_without_an_entry_is_damage(rt: HostRuntime) {
     let alloc = rt.alloc();
-    let third = Row {
-        words: [(0, 0b100), (0, 0)],
-        ..LEAF
-    };
-    let fourth = Row {
-        words: [(0, 0b1000), (0, 0)],
-        ..LEAF
-    };
-    assert!(rt; read(alloc, 68, 4, false, &[third]) == Ok([1, 2, 0]));
-    assert!(rt; read(alloc, 68, 4, false, &[fourth]) == Err(Refusal::Damaged(Place(4))));
+    for (bit, told) in [
+        (0b100, Ok([1, 2, 0])),
+        (0b1000, Err(Refusal::Damaged(Place(4)))),
+    ] {
+        let leaf = Row {
+            words: [(0, bit), (0, 0)],
+            ..LEAF
+        };
+        assert!(rt; read(alloc, 68, 4, Blocks::Before(3), &[leaf]) == told);
+    }
 }
 
 #[test]
@@ -198,6 +187,8 @@ fn no_place_is_reached_twice(rt: HostRuntime) {
         (4, [(0, 6), (1, 5)], 6),
     ] {
         let rows = [Row { words, ..TOP }, FIRST, SECOND];
-        assert!(rt; read(alloc, 2049, top, true, &rows) == Err(Refusal::Damaged(Place(place))));
+        assert!(rt;
+            read(alloc, 2049, top, Blocks::All, &rows) == Err(Refusal::Damaged(Place(place)))
+        );
     }
 }

@@ -72,7 +72,7 @@ fn sector_of(bytes: &[u8]) -> Content {
 }
 
 /// A root of four cache blocks, ten origin blocks and five metadata sectors: its version, flags, top and dirty top in a sector.
-fn root_of(version: u8, flags: u8, top: u8, dirty: u8) -> Content {
+fn root_of([version, flags, top, dirty]: [u8; 4]) -> Content {
     let mut sector = sector_of(b"WBCROOT1");
     for (at, byte) in [
         (16, version),
@@ -89,41 +89,41 @@ fn root_of(version: u8, flags: u8, top: u8, dirty: u8) -> Content {
     sector
 }
 
+/// Version, flags, top and dirty top, and whether they are a root's.
+const ROOTS: [([u8; 4], bool); 11] = [
+    ([1, 1, 0, 0], true),
+    ([1, 0, 2, 0], true),
+    ([2, 1, 0, 0], true),
+    ([2, 1, 3, 4], true),
+    ([2, 0, 2, 0], true),
+    // a dirty top in the first version, without the clean flag, in a slot, past the last sector
+    ([1, 1, 3, 4], false),
+    ([2, 0, 3, 4], false),
+    ([2, 1, 3, 1], false),
+    ([2, 1, 3, 5], false),
+    // other versions
+    ([0, 1, 0, 0], false),
+    ([3, 1, 0, 0], false),
+];
+
 #[test]
 fn roots_of_both_versions(rt: HostRuntime) {
-    for (version, flags, top, dirty) in [
-        (1, 1, 0, 0),
-        (1, 0, 2, 0),
-        (2, 1, 0, 0),
-        (2, 1, 3, 4),
-        (2, 0, 2, 0),
-    ] {
-        let sector = root_of(version, flags, top, dirty);
-        let Some(root) = Root::read(&sector) else {
-            assert!(rt; false);
-            return;
-        };
-        assert!(rt; root.version.number() == u32::from(version) && root.clean == (flags == 1));
-        let named = (dirty != 0).then_some(Place(u32::from(dirty)));
-        assert!(rt; root.top_dirty == named);
-        let mut again = [1; SECTOR_BYTES];
-        root.write(&mut again);
-        assert!(rt; again == sector);
-    }
-    for (version, flags, top, dirty) in [
-        // a dirty top in the first version, without the clean flag, in a slot, past the last sector
-        (1, 1, 3, 4),
-        (2, 0, 3, 4),
-        (2, 1, 3, 1),
-        (2, 1, 3, 5),
-        // other versions
-        (0, 1, 0, 0),
-        (3, 1, 0, 0),
-    ] {
-        assert!(rt; Root::read(&root_of(version, flags, top, dirty)).is_none());
+    for (fields, is_root) in ROOTS {
+        let sector = root_of(fields);
+        let read = Root::read(&sector);
+        assert!(rt; read.is_some() == is_root);
+        if let Some(root) = read {
+            let [version, flags, _, dirty] = fields;
+            assert!(rt; root.version.number() == u32::from(version) && root.clean == (flags == 1));
+            let named = (dirty != 0).then_some(Place(u32::from(dirty)));
+            assert!(rt; root.top_dirty == named);
+            let mut again = [1; SECTOR_BYTES];
+            root.write(&mut again);
+            assert!(rt; again == sector);
+        }
     }
     // four sectors are too few for the second version
-    let mut sector = root_of(2, 1, 0, 0);
+    let mut sector = root_of([2, 1, 0, 0]);
     sector[36] = 4;
     assert!(rt; Root::read(&sector).is_none());
     sector[16] = 1;

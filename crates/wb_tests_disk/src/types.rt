@@ -4,29 +4,29 @@ use std::test::Fail;
 use wb_types::*;
 
 /// The sectors of a block, the cache's blocks, the origin's, and the sectors of the metadata.
-type Sizes = (u64, u64, u64, u64);
+type Sizes = [u64; 4];
 
 /// The nodes of a full cache: 32,768 leaves of 32 blocks, 1,024 nodes above them, then 32, then the top.
 const NODES: u64 = 32_768 + 1_024 + 32 + 1;
 
 const REFUSED: [Sizes; 13] = [
-    (96, 1, 1, 4),
-    (32, 1, 1, 4),
-    (2_097_216, 1, 1, 4),
+    [96, 1, 1, 4],
+    [32, 1, 1, 4],
+    [2_097_216, 1, 1, 4],
     // two images have to fit
-    (64, 33, 33, 7),
-    (64, 1_048_575, 1_048_576, 1 + 2 * NODES),
-    (64, 0, 1, 4),
-    (64, 1, 0, 4),
-    (64, 1_048_576, 1, 100_000),
-    (64, 1, 1_048_577, 4),
-    (64, 1, 1, 3),
-    (64, 1, 1, 4_294_967_296),
-    (0, 1, 1, 4),
-    (u64::MAX, u64::MAX, u64::MAX, u64::MAX),
+    [64, 33, 33, 7],
+    [64, 1_048_575, 1_048_576, 1 + 2 * NODES],
+    [64, 0, 1, 4],
+    [64, 1, 0, 4],
+    [64, 1_048_576, 1, 100_000],
+    [64, 1, 1_048_577, 4],
+    [64, 1, 1, 3],
+    [64, 1, 1, 4_294_967_296],
+    [0, 1, 1, 4],
+    [u64::MAX, u64::MAX, u64::MAX, u64::MAX],
 ];
 
-fn is_refused((block, cache, origin, metadata): Sizes) -> bool {
+fn is_refused([block, cache, origin, metadata]: Sizes) -> bool {
     matches!(
         Geometry::new(block, cache, origin, metadata),
         Err(Refusal::Geometry)
@@ -53,20 +53,20 @@ fn sizes_at_their_limits_are_taken(rt: HostRuntime) -> Result<(), Fail> {
 }
 
 /// The cache's blocks; the levels and nodes of their dirty bits; the least sectors of metadata of each version.
-const ROOMS: [(u64, u32, u32, u64, u64); 7] = [
-    (1, 1, 1, 4, 5),
-    (33, 1, 1, 8, 9),
-    (2_048, 1, 1, 136, 137),
-    (2_049, 2, 3, 140, 143),
-    (65_536, 2, 33, 4_232, 4_265),
-    (65_537, 3, 36, 4_238, 4_274),
-    (1_048_575, 3, 529, 2 + 2 * NODES, 2 + 2 * NODES + 529),
+const ROOMS: [(u64, [u32; 2], [u64; 2]); 7] = [
+    (1, [1, 1], [4, 5]),
+    (33, [1, 1], [8, 9]),
+    (2_048, [1, 1], [136, 137]),
+    (2_049, [2, 3], [140, 143]),
+    (65_536, [2, 33], [4_232, 4_265]),
+    (65_537, [3, 36], [4_238, 4_274]),
+    (1_048_575, [3, 529], [2 + 2 * NODES, 2 + 2 * NODES + 529]),
 ];
 
 #[test]
 fn each_version_has_its_room(rt: HostRuntime) -> Result<(), Fail> {
-    for (cache, depth, nodes, first, second) in ROOMS {
-        for (version, least) in [(1, first), (2, second)] {
+    for (cache, [depth, nodes], sectors) in ROOMS {
+        for (version, least) in (1..).zip(sectors) {
             let geometry = Geometry::with_version(64, cache, cache, least, version)?;
             assert!(rt; geometry.version.number() == version);
             assert!(rt; geometry.dirty_depth() == depth && geometry.dirty_node_count() == nodes);

@@ -1,6 +1,5 @@
 //! Devices in memory, one of which stops or fails at a call.
 
-use crate::stopping::StopDisk;
 use std::alloc::Global;
 use wb_devices::Devices;
 use wb_disk::{Disk, MemDisk};
@@ -10,102 +9,49 @@ use wb_types::{Content, Dev, Geometry, Refusal, SECTOR_BYTES};
 
 pub type Memory = Devices<MemDisk>;
 
-/// A disk over one in memory that fails, from one call on or at that one alone.
-pub trait Broken: Disk + Drop {
-    /// The disk, which fails at its call of this number, counted from 0, or never.
-    fn over(inside: MemDisk, call: Option<u64>) -> Self;
+/// Such devices, which may fail.
+pub type Broken = Devices<FaultDisk<MemDisk>>;
 
-    /// Whether that call fails alone.
-    fn fails_once() -> bool;
-
-    /// Whether it has failed.
-    fn has_failed(&self) -> bool;
-
-    /// The disk in memory.
-    fn into_memory(self) -> MemDisk;
-}
-
-impl Broken for FaultDisk<MemDisk> {
-    fn over(inside: MemDisk, call: Option<u64>) -> FaultDisk<MemDisk> {
-        FaultDisk::new(inside, call)
-    }
-
-    fn fails_once() -> bool {
-        true
-    }
-
-    fn has_failed(&self) -> bool {
-        self.has_failed()
-    }
-
-    fn into_memory(self) -> MemDisk {
-        self.into_inner()
-    }
-}
-
-impl Broken for StopDisk<MemDisk> {
-    fn over(inside: MemDisk, call: Option<u64>) -> StopDisk<MemDisk> {
-        StopDisk::new(inside, call.unwrap_or(u64::MAX))
-    }
-
-    fn fails_once() -> bool {
-        false
-    }
-
-    fn has_failed(&self) -> bool {
-        self.has_stopped()
-    }
-
-    fn into_memory(self) -> MemDisk {
-        self.into_inner()
-    }
-}
-
-/// A call of a device, by its number.
+/// A call of a device, by its number counted from 0, that fails alone or stops the device.
 #[derive(Clone, Copy)]
 pub struct Call {
     pub device: Dev,
     pub number: u64,
+    pub stops: bool,
 }
 
 impl Call {
-    fn on(self, device: Dev) -> Option<u64> {
-        if self.device == device {
-            Some(self.number)
+    fn over(self, device: Dev, inside: MemDisk) -> FaultDisk<MemDisk> {
+        let number = (self.device == device).then_some(self.number);
+        if self.stops {
+            FaultDisk::stopping(inside, number)
         } else {
-            None
+            FaultDisk::new(inside, number)
         }
     }
 }
 
 /// These devices, of which the one of this call fails there.
-pub fn break_at<D: Broken>(memory: Memory, call: Call) -> Devices<D> {
-    let Devices {
-        metadata,
-        cache,
-        origin,
-    } = memory;
+pub fn break_at(memory: Memory, call: Call) -> Broken {
     Devices {
-        metadata: D::over(metadata, call.on(Dev::Metadata)),
-        cache: D::over(cache, call.on(Dev::Cache)),
-        origin: D::over(origin, call.on(Dev::Origin)),
+        metadata: call.over(Dev::Metadata, memory.metadata),
+        cache: call.over(Dev::Cache, memory.cache),
+        origin: call.over(Dev::Origin, memory.origin),
     }
 }
 
-/// What they hold in memory, and whether one has failed.
-pub fn mended<D: Broken>(devices: Devices<D>) -> (Memory, bool) {
-    let Devices {
-        metadata,
-        cache,
-        origin,
-    } = devices;
-    let has_failed = metadata.has_failed() || cache.has_failed() || origin.has_failed();
-    let memory = Devices {
-        metadata: metadata.into_memory(),
-        cache: cache.into_memory(),
-        origin: origin.into_memory(),
-    };
-    (memory, has_failed)
+/// Whether one of them has failed.
+pub fn has_failed(devices: &Broken) -> bool {
+    devices.metadata.has_failed() || devices.cache.has_failed() || devices.origin.has_failed()
+}
+
+/// What they hold in memory.
+pub fn mended(devices: Broken) -> Memory {
+    Devices {
+        metadata: devices.metadata.into_inner(),
+        cache: devices.cache.into_inner(),
+        origin: devices.origin.into_inner(),
+    }
 }
 
 /// What a sector holds that begins with these.

@@ -9,5 +9,3 @@ mod lives;
 mod record;
 #[cfg(test)]
 mod room;
-#[cfg(test)]
-mod stopping;

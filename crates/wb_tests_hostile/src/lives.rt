@@ -1,14 +1,12 @@
 //! Lives of a target while one of its devices stops or fails, and what the next target shows.
 
-use crate::broken::{Broken, Call, Memory, begun_with, break_at, formatted, mended};
+use crate::broken::{Call, Memory, begun_with, break_at, formatted, has_failed, mended};
 use crate::record::{Kind, Record, WRITTEN};
-use crate::stopping::StopDisk;
 use std::alloc::Global;
 use std::sync::Wait;
 use std::test::Fail;
 use wb_devices::Devices;
-use wb_disk::{Base, CrashChoice, Disk, MemDisk};
-use wb_faults::FaultDisk;
+use wb_disk::{Base, CrashChoice, Disk};
 use wb_policy::{Order, TinyLfu};
 use wb_target::{Client, Target};
 use wb_types::{CBlock, Dev, Mode, OBlock, Refusal, SECTOR_BYTES, Sector};
@@ -173,34 +171,35 @@ fn crash(memory: &mut Memory, choice: &CrashChoice) -> bool {
 }
 
 /// A life in this mode while this call fails, then a loss of power, and the next target: what was answered, and whether a call failed.
-fn record_of<D: Broken>(
+fn record_of(
     rt: &impl Wait,
     alloc: Global,
     mode: Mode,
     call: Call,
     base: Base,
 ) -> Result<(Record, bool), Refusal> {
-    let mut record = Record::new(call.device, D::fails_once());
-    let devices: Devices<D> = break_at(formatted(alloc)?, call);
+    let mut record = Record::new(call.device, !call.stops);
+    let devices = break_at(formatted(alloc)?, call);
     let devices = lived(rt, alloc, devices, &mut record, Part::Plays(mode));
-    let (mut memory, has_failed) = mended(devices);
+    let has_failed = has_failed(&devices);
+    let mut memory = mended(devices);
     let is_crashed = crash(&mut memory, &CrashChoice::new(base, Vec::new(alloc)));
     record.expect(is_crashed);
     lived(rt, alloc, memory, &mut record, Part::Looks);
     Ok((record, has_failed))
 }
 
-/// How many calls of this device failed, one in each life, if in each all was as it may be, and in one in which none fails all was done.
-fn count_borne<D: Broken>(
+/// How many calls failed, this one and those behind it, one in each life, if in each all was as it may be, and in one in which none fails all was done.
+fn count_borne(
     rt: &impl Wait,
     alloc: Global,
     mode: Mode,
-    device: Dev,
+    first: Call,
     base: Base,
 ) -> Result<Option<u64>, Refusal> {
     for number in 0..MOST_CALLS {
-        let call = Call { device, number };
-        let (record, has_failed) = record_of::<D>(rt, alloc, mode, call, base)?;
+        let call = Call { number, ..first };
+        let (record, has_failed) = record_of(rt, alloc, mode, call, base)?;
         if !record.is_right() || has_failed != (record.met() != 0) {
             return Ok(None);
         }
@@ -236,38 +235,47 @@ const CALLS: [(Mode, u64, u64, u64); 3] = [
     (Mode::Passthrough, 5 + 7 * 3, 1 + 7, 1 + 7 + 11 + 1),
 ];
 
-/// Whether each of a device's calls is borne, as many as these.
-fn are_borne<D: Broken>(
+/// Whether each of a device's calls from this one on is borne, as many as these.
+fn are_borne(
     rt: &impl Wait,
     alloc: Global,
     mode: Mode,
-    device: Dev,
+    first: Call,
     calls: u64,
 ) -> Result<bool, Refusal> {
-    let durable = count_borne::<D>(rt, alloc, mode, device, Base::Durable)?;
-    let newest = count_borne::<D>(rt, alloc, mode, device, Base::Newest)?;
+    let durable = count_borne(rt, alloc, mode, first, Base::Durable)?;
+    let newest = count_borne(rt, alloc, mode, first, Base::Newest)?;
     Ok(durable.unwrap_or(0) == calls && newest.unwrap_or(0) == calls)
 }
 
-fn all_are_borne<D: Broken>(rt: &impl Wait, alloc: Global) -> Result<bool, Refusal> {
+/// Whether each call of each device is borne in each mode, where it stops the device or fails alone.
+fn all_are_borne(rt: &impl Wait, alloc: Global, stops: bool) -> Result<bool, Refusal> {
     let mut borne = true;
     for (mode, metadata, cache, origin) in CALLS {
-        borne = borne
-            && are_borne::<D>(rt, alloc, mode, Dev::Metadata, metadata)?
-            && are_borne::<D>(rt, alloc, mode, Dev::Cache, cache)?
-            && are_borne::<D>(rt, alloc, mode, Dev::Origin, origin)?;
+        for (device, calls) in [
+            (Dev::Metadata, metadata),
+            (Dev::Cache, cache),
+            (Dev::Origin, origin),
+        ] {
+            let first = Call {
+                device,
+                number: 0,
+                stops,
+            };
+            borne = borne && are_borne(rt, alloc, mode, first, calls)?;
+        }
     }
     Ok(borne)
 }
 
 #[test]
 fn what_was_flushed_is_shown_wherever_a_device_stopped(rt: HostRuntime) -> Result<(), Fail> {
-    assert!(rt; all_are_borne::<StopDisk<MemDisk>>(&rt, rt.alloc())?);
+    assert!(rt; all_are_borne(&rt, rt.alloc(), true)?);
     Ok(())
 }
 
 #[test]
 fn what_was_flushed_is_shown_wherever_a_call_failed(rt: HostRuntime) -> Result<(), Fail> {
-    assert!(rt; all_are_borne::<FaultDisk<MemDisk>>(&rt, rt.alloc())?);
+    assert!(rt; all_are_borne(&rt, rt.alloc(), false)?);
     Ok(())
 }

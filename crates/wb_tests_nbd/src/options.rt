@@ -1,6 +1,6 @@
 //! The handshake.
 
-use std::alloc::Global;
+use std::alloc::{AllocError, Global};
 use std::test::Fail;
 use wb_nbd::{Agreed, Broken, Terms, shake_hands};
 
@@ -129,35 +129,29 @@ fn a_cut_handshake_breaks(rt: HostRuntime) -> Result<(), Fail> {
     Ok(())
 }
 
-/// An option of 8,192 bytes of data.
-const LONG: &[u8] =
-    b"\x00\x00\x00\x03\x49\x48\x41\x56\x45\x4f\x50\x54\x00\x00\x00\x07\x00\x00\x20\x00";
+/// A client's flags and an option of 8,192 bytes, all this one, and what is sent behind them.
+fn long_option(alloc: Global, option: u8, byte: u8, rest: &[u8]) -> Result<Vec<u8>, AllocError> {
+    let mut sent = Vec::new(alloc);
+    sent.extend_from_slice(b"\x00\x00\x00\x03\x49\x48\x41\x56\x45\x4f\x50\x54\x00\x00\x00")?;
+    sent.extend_from_slice(&[option, 0, 0, 32, 0])?;
+    sent.extend_from_slice(&[byte; 8192])?;
+    sent.extend_from_slice(rest)?;
+    Ok(sent)
+}
 
 #[test]
 fn long_data_are_passed_over(rt: HostRuntime) -> Result<(), Fail> {
-    let mut sent = Vec::new(rt.alloc());
-    sent.extend_from_slice(LONG)?;
-    for _ in 0..8192 {
-        sent.push(0)?;
-    }
-    sent.extend_from_slice(b"\x49\x48\x41\x56\x45\x4f\x50\x54\x00\x00\x00\x02\x00\x00\x00\x00")?;
+    let abort = b"\x49\x48\x41\x56\x45\x4f\x50\x54\x00\x00\x00\x02\x00\x00\x00\x00";
+    let sent = long_option(rt.alloc(), 7, 0, abort)?;
     let told =
         b"\x4e\x42\x44\x4d\x41\x47\x49\x43\x49\x48\x41\x56\x45\x4f\x50\x54\x00\x03\x00\x03\xe8\x89\x04\x55\x65\xa9\x00\x00\x00\x07\x80\x00\x00\x09\x00\x00\x00\x00\x00\x03\xe8\x89\x04\x55\x65\xa9\x00\x00\x00\x02\x00\x00\x00\x01\x00\x00\x00\x00";
     assert!(rt; leads(rt.alloc(), sent.as_slice(), told, Ok(Agreed::Abort)));
     Ok(())
 }
 
-/// EXPORT_NAME with a name of 8,192 bytes.
-const LONG_NAME: &[u8] =
-    b"\x00\x00\x00\x03\x49\x48\x41\x56\x45\x4f\x50\x54\x00\x00\x00\x01\x00\x00\x20\x00";
-
 #[test]
 fn a_name_that_is_too_long_breaks(rt: HostRuntime) -> Result<(), Fail> {
-    let mut sent = Vec::new(rt.alloc());
-    sent.extend_from_slice(LONG_NAME)?;
-    for _ in 0..8192 {
-        sent.push(120)?;
-    }
+    let sent = long_option(rt.alloc(), 1, 120, b"")?;
     let told = b"\x4e\x42\x44\x4d\x41\x47\x49\x43\x49\x48\x41\x56\x45\x4f\x50\x54\x00\x03";
     assert!(rt; leads(rt.alloc(), sent.as_slice(), told, Err(Broken::Name)));
     Ok(())

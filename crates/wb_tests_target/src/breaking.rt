@@ -1,10 +1,10 @@
 //! A commit that fails while other flushes wait: who led it is told why, and all who wait are woken and told that the target has failed.
 
-use crate::bounds::{come_after, end_with, gather};
+use crate::bounds::{come_after, gather};
+use crate::errands::Beside;
 use crate::files::{Names, images, target_over};
 use crate::hooked::{Hook, Hooked, with_hook};
 use crate::threads::all_tell;
-use std::process::Abort;
 use std::sync::Wait;
 use std::sync::atomic::{AtomicU64, Ordering};
 use std::test::Fail;
@@ -13,7 +13,7 @@ use wb_devices::Devices;
 use wb_disk::{Disk, FileDisk};
 use wb_faults::FaultDisk;
 use wb_policy::Policy;
-use wb_target::{Client, Errand, Sent};
+use wb_target::{Client, Sent};
 use wb_types::{Dev, Refusal};
 
 /// How many wait for the commit.
@@ -21,68 +21,30 @@ const WAITERS: u64 = 15;
 
 /// How far they have come: the commit runs, how many are about to flush, and how many have their answer.
 #[derive(Drop)]
-struct Signals {
+pub struct Arrivals {
     runs: AtomicU64,
     come: AtomicU64,
-    ended: AtomicU64,
+    pub ended: AtomicU64,
 }
 
 /// Holds the first sync of a commit until all others are about to wait.
 #[derive(Drop)]
 struct Holds<'a, C> {
     clock: &'a C,
-    signals: &'a Signals,
+    arrivals: &'a Arrivals,
 }
 
 impl<'a, C: Clock> Hook for Holds<'a, C> {
     fn before_sync(&self, device: Dev) {
         if matches!(device, Dev::Cache) {
-            self.signals.runs.store(1, Ordering::SeqCst);
-            gather(self.clock, &self.signals.come, WAITERS);
-        }
-    }
-}
-
-/// What is done beside one another.
-#[derive(Drop)]
-enum Beside<'a, C> {
-    /// Leads a commit.
-    Leads(&'a Signals),
-    /// Flushes while it runs.
-    Waits(&'a C, &'a Signals),
-    /// Ends the test if some client never ends.
-    Watches(&'a C, &'a Signals),
-}
-
-impl<'a, C: Clock + Abort> Errand for Beside<'a, C> {
-    type Told = Result<(), Refusal>;
-
-    ghost tells = { λ beside told. Unit {0} };
-
-    fn run<R: Wait, D: Disk + Drop, P: Policy>(
-        self,
-        rt: &R,
-        client: &mut Client<'_, D, P>,
-    ) -> Result<(), Refusal> {
-        match self {
-            Beside::Leads(signals) => flush(rt, client, &signals.ended),
-            Beside::Waits(clock, signals) => {
-                if come_after(clock, &signals.runs, &signals.come) {
-                    flush(rt, client, &signals.ended)
-                } else {
-                    Err(Refusal::Busy)
-                }
-            }
-            Beside::Watches(clock, signals) => {
-                end_with(clock, &signals.ended, WAITERS + 1);
-                Ok(())
-            }
+            self.arrivals.runs.store(1, Ordering::SeqCst);
+            gather(self.clock, &self.arrivals.come, WAITERS);
         }
     }
 }
 
 /// Flushes, and tells that it has ended.
-fn flush<D: Disk + Drop, P: Policy>(
+pub fn flush_and_tell<D: Disk + Drop, P: Policy>(
     rt: &impl Wait,
     client: &mut Client<'_, D, P>,
     ended: &AtomicU64,
@@ -92,6 +54,20 @@ fn flush<D: Disk + Drop, P: Policy>(
     match flushed {
         Ok(_) => Ok(()),
         Err(refusal) => Err(refusal),
+    }
+}
+
+/// The same, once the commit runs.
+pub fn flush_behind<D: Disk + Drop, P: Policy>(
+    rt: &impl Wait,
+    client: &mut Client<'_, D, P>,
+    clock: &impl Clock,
+    arrivals: &Arrivals,
+) -> Result<(), Refusal> {
+    if come_after(clock, &arrivals.runs, &arrivals.come) {
+        flush_and_tell(rt, client, &arrivals.ended)
+    } else {
+        Err(Refusal::Busy)
     }
 }
 
@@ -131,21 +107,21 @@ fn all_of_them<'a>(
     fails: (Dev, u64),
     holds: &'a Holds<'a, HostRuntime>,
 ) -> Result<Vec<Sent<Failing<'a, HostRuntime>, Beside<'a, HostRuntime>>>, Fail> {
-    let signals = holds.signals;
+    let arrivals = holds.arrivals;
     let mut sent = Vec::new(rt.alloc());
     sent.push(Sent {
         devices: failing(rt, names, Some(fails), holds)?,
-        errand: Beside::Leads(signals),
+        errand: Beside::Leads(arrivals),
     })?;
     for _ in 0..WAITERS {
         sent.push(Sent {
             devices: failing(rt, names, None, holds)?,
-            errand: Beside::Waits(rt, signals),
+            errand: Beside::Waits(rt, arrivals),
         })?;
     }
     sent.push(Sent {
         devices: failing(rt, names, None, holds)?,
-        errand: Beside::Watches(rt, signals),
+        errand: Beside::Watches(rt, &arrivals.ended, WAITERS + 1),
     })?;
     Ok(sent)
 }
@@ -176,14 +152,14 @@ const CALLS: [(Dev, u64); 5] = [
 fn all_who_wait_for_a_commit_that_fails_are_told_so(rt: HostRuntime) -> Result<(), Fail> {
     for fails in CALLS {
         let target = target_over(&rt, &FAILING)?;
-        let signals = Signals {
+        let arrivals = Arrivals {
             runs: AtomicU64::new(0),
             come: AtomicU64::new(0),
             ended: AtomicU64::new(0),
         };
         let holds = Holds {
             clock: &rt,
-            signals: &signals,
+            arrivals: &arrivals,
         };
         let errands = all_of_them(&rt, &FAILING, fails, &holds)?;
         let wanted = wanted(&rt, fails.0)?;

@@ -1,6 +1,6 @@
 //! Metadata of version 1 that are opened where version 2 is asked for.
 
-use crate::faults::{Failing, crashed, unwrapped};
+use crate::faults::{Failing, Trial, count_borne, crashed, unwrapped};
 use crate::fixture::{
     Asked, Lent, Memory, formatted, formatted_on, open, open_second, shows, worked, write_and_read,
 };
@@ -14,9 +14,6 @@ use wb_faults::FaultDisk;
 use wb_policy::{Order, TinyLfu};
 use wb_target::Target;
 use wb_types::{CBlock, Key, Mode, OBlock, Refusal};
-
-/// No opening makes as many calls of the metadata device.
-const MOST_CALLS: u64 = 50;
 
 /// The calls that a conversion of one node makes: a sync, and three that read; the node, a sync, the root and its sync.
 const CALLS: u64 = 8;
@@ -121,7 +118,7 @@ fn tried(
 
 /// Whether all is shown where this call of a conversion fails, and the metadata are opened again then, version 2 asked for or not. None where
 /// the call never comes.
-fn is_borne(
+pub fn is_conversion_borne(
     rt: &impl Wait,
     alloc: Global,
     call: u64,
@@ -145,28 +142,13 @@ fn is_borne(
     Ok(Some(shown && target.counts(rt).mapped == 4))
 }
 
-/// How many calls were made to fail, one in each run, if each run was borne.
-fn count_borne(
-    rt: &impl Wait,
-    alloc: Global,
-    base: Base,
-    second: bool,
-) -> Result<Option<u64>, Refusal> {
-    for call in 0..MOST_CALLS {
-        match is_borne(rt, alloc, call, base, second)? {
-            None => return Ok(Some(call)),
-            Some(true) => {}
-            Some(false) => return Ok(None),
-        }
-    }
-    Ok(None)
-}
-
 #[test]
 fn a_conversion_that_fails_leaves_all_that_is_cached(rt: HostRuntime) -> Result<(), Fail> {
     for base in [Base::Durable, Base::Newest] {
         for second in [false, true] {
-            assert!(rt; count_borne(&rt, rt.alloc(), base, second)? == Some(CALLS));
+            assert!(rt;
+                count_borne(&rt, rt.alloc(), Trial::Converts(second), base)? == Some(CALLS)
+            );
         }
     }
     Ok(())

@@ -1,22 +1,20 @@
 //! What a crash leaves while clients write and flush beside one another: the files are copied as each sync begins, and what was acknowledged
 //! until then is found in targets that are opened over the copies.
 
-use crate::bounds::end_with;
+use crate::errands::{Beside, sent_with_hook};
 use crate::files::{Names, images, target_over};
 use crate::fixture::write_and_read;
-use crate::hooked::{Hook, Hooked, with_hook};
+use crate::hooked::Hook;
 use crate::photos::{Film, Progress};
 use crate::sharing::{FLUSHERS, own_sector};
 use crate::threads::all_tell;
 use std::alloc::Global;
-use std::process::Abort;
 use std::sync::atomic::{AtomicU64, Ordering};
 use std::sync::{Mutex, Wait};
 use std::test::Fail;
-use std::time::Clock;
-use wb_disk::{Disk, FileDisk};
+use wb_disk::Disk;
 use wb_policy::Policy;
-use wb_target::{Client, Errand, Sent};
+use wb_target::Client;
 use wb_types::{Dev, Refusal};
 
 /// How often each client writes, has an order carried out, and flushes.
@@ -39,42 +37,9 @@ impl<'a, C: Wait> Hook for Camera<'a, C> {
     }
 }
 
-/// What is done beside one another.
-#[derive(Drop)]
-enum Beside<'a, C> {
-    /// Goes its rounds on a sector, and tells how far it has come, and that it has ended.
-    Flushes(u64, &'a Progress, &'a AtomicU64),
-    /// Ends the test if some client never ends.
-    Watches(&'a C, &'a AtomicU64),
-}
-
-impl<'a, C: Clock + Abort> Errand for Beside<'a, C> {
-    type Told = Result<(), Refusal>;
-
-    ghost tells = { λ beside told. Unit {0} };
-
-    fn run<R: Wait, D: Disk + Drop, P: Policy>(
-        self,
-        rt: &R,
-        client: &mut Client<'_, D, P>,
-    ) -> Result<(), Refusal> {
-        match self {
-            Beside::Flushes(at, progress, ended) => {
-                let told = go_rounds(rt, client, at, progress);
-                ended.fetch_add(1, Ordering::SeqCst);
-                told
-            }
-            Beside::Watches(clock, ended) => {
-                end_with(clock, ended, FLUSHERS);
-                Ok(())
-            }
-        }
-    }
-}
-
 /// Writes the round's number into a sector, so that its block is wanted, carries out an order, and flushes. `Range` where something else is
 /// read than was written.
-fn go_rounds<D: Disk + Drop, P: Policy>(
+pub fn go_rounds<D: Disk + Drop, P: Policy>(
     rt: &impl Wait,
     client: &mut Client<'_, D, P>,
     at: u64,
@@ -94,25 +59,19 @@ fn go_rounds<D: Disk + Drop, P: Policy>(
     Ok(())
 }
 
-type Filmed<'a, C> = Hooked<'a, FileDisk, Camera<'a, C>>;
-
 /// The sixteen, and who watches them.
 fn all_of_them<'a>(
     rt: &'a HostRuntime,
-    names: &Names,
-    camera: &'a Camera<'a, HostRuntime>,
+    progress: &'a [Progress],
     ended: &'a AtomicU64,
-) -> Result<Vec<Sent<Filmed<'a, HostRuntime>, Beside<'a, HostRuntime>>>, Fail> {
-    let mut sent = Vec::new(rt.alloc());
-    for (client, progress) in camera.progress.iter().enumerate() {
-        let devices = with_hook(images(rt, names)?, camera);
-        let errand = Beside::Flushes(own_sector(client as u64), progress, ended);
-        sent.push(Sent { devices, errand })?;
+) -> Result<Vec<Beside<'a, HostRuntime>>, Fail> {
+    let mut errands = Vec::new(rt.alloc());
+    for (client, progress) in progress.iter().enumerate() {
+        let at = own_sector(client as u64);
+        errands.push(Beside::GoesRounds(at, progress, ended))?;
     }
-    let devices = with_hook(images(rt, names)?, camera);
-    let errand = Beside::Watches(rt, ended);
-    sent.push(Sent { devices, errand })?;
-    Ok(sent)
+    errands.push(Beside::Watches(rt, ended, FLUSHERS))?;
+    Ok(errands)
 }
 
 /// None of them has begun.
@@ -138,7 +97,8 @@ fn a_crash_as_a_sync_begins_leaves_what_was_acknowledged(rt: HostRuntime) -> Res
     };
     let ended = AtomicU64::new(0);
     camera.before_sync(Dev::Metadata);
-    let errands = all_of_them(&rt, &CRASHED, &camera, &ended)?;
+    let errands = all_of_them(&rt, progress.as_slice(), &ended)?;
+    let errands = sent_with_hook(&rt, &CRASHED, &camera, errands)?;
     let told = all_tell(&rt, &target, errands, &[Ok(()); 17]);
     camera.before_sync(Dev::Metadata);
     drop(target);

@@ -1,5 +1,6 @@
 //! A call of a device that fails, whichever it is: the next target shows of each sector what was flushed, or a later write.
 
+use crate::converting::is_conversion_borne;
 use crate::fixture::{Lent, Memory, begun_with, formatted};
 use crate::questions::{Question, answered_over};
 use std::alloc::Global;
@@ -74,20 +75,18 @@ fn play(
     Ok(())
 }
 
+/// A target that is opened over these, and they.
+fn opened(alloc: Global, devices: Failing) -> (Failing, Result<Target<TinyLfu>, Refusal>) {
+    Target::open(alloc, devices, 64, Mode::Writeback, &[], false)
+}
+
 /// A target's life over devices: how far it came, and the devices then, with whether a call failed.
 fn lived(rt: &impl Wait, alloc: Global, devices: Failing) -> (Rounds, Memory, bool) {
     let mut rounds = Rounds {
         begun: 0,
         flushed: 0,
     };
-    let (devices, target) = Target::<TinyLfu>::open(
-        alloc,
-        devices,
-        64,
-        Mode::Writeback,
-        &[],
-        false,
-    );
+    let (devices, target) = opened(alloc, devices);
     let devices = match target {
         Ok(target) => played(rt, &target, devices, &mut rounds),
         Err(_) => devices,
@@ -149,8 +148,17 @@ pub fn shows_allowed(rt: &impl Wait, client: &mut Lent<'_>, rounds: Rounds) -> b
     true
 }
 
+/// What is done while one call of a device fails.
+#[derive(Clone, Copy)]
+pub enum Trial {
+    /// A life over devices of which this one fails.
+    Lives(Dev),
+    /// An opening over metadata that fail, which makes them of version 2; whether the next one asks for that, too.
+    Converts(bool),
+}
+
 /// Whether all is shown as it may be where this call fails, or none if it never comes.
-fn is_borne(
+fn is_life_borne(
     rt: &impl Wait,
     alloc: Global,
     device: Dev,
@@ -169,15 +177,29 @@ fn is_borne(
     Ok(Some(allowed))
 }
 
-/// How many calls of a device were made to fail, one in each run, if each run was borne.
-fn count_borne(
+/// The same of any trial.
+fn is_borne(
     rt: &impl Wait,
     alloc: Global,
-    device: Dev,
+    trial: Trial,
+    call: u64,
+    base: Base,
+) -> Result<Option<bool>, Refusal> {
+    match trial {
+        Trial::Lives(device) => is_life_borne(rt, alloc, device, call, base),
+        Trial::Converts(second) => is_conversion_borne(rt, alloc, call, base, second),
+    }
+}
+
+/// How many calls were made to fail, one in each run, if each run was borne.
+pub fn count_borne(
+    rt: &impl Wait,
+    alloc: Global,
+    trial: Trial,
     base: Base,
 ) -> Result<Option<u64>, Refusal> {
     for call in 0..MOST_CALLS {
-        match is_borne(rt, alloc, device, call, base)? {
+        match is_borne(rt, alloc, trial, call, base)? {
             None => return Ok(Some(call)),
             Some(true) => {}
             Some(false) => return Ok(None),
@@ -193,7 +215,7 @@ const DEVICES: [(Dev, u64); 3] = [(Dev::Metadata, 12), (Dev::Cache, 20), (Dev::O
 fn what_was_flushed_is_shown_whichever_call_failed(rt: HostRuntime) -> Result<(), Fail> {
     for (device, least) in DEVICES {
         for base in [Base::Durable, Base::Newest] {
-            let borne = count_borne(&rt, rt.alloc(), device, base)?;
+            let borne = count_borne(&rt, rt.alloc(), Trial::Lives(device), base)?;
             assert!(rt; borne >= Some(least));
         }
     }
@@ -233,14 +255,7 @@ fn ordered_again_over(rt: &impl Wait, target: &Target<TinyLfu>, devices: Failing
 /// The same of a target whose origin fails at its call of this number.
 fn ordered_again(rt: &impl Wait, alloc: Global, call: u64) -> Result<Option<bool>, Refusal> {
     let devices = failing(alloc, Dev::Origin, call)?;
-    let (devices, target) = Target::<TinyLfu>::open(
-        alloc,
-        devices,
-        64,
-        Mode::Writeback,
-        &[],
-        false,
-    );
+    let (devices, target) = opened(alloc, devices);
     match target {
         Ok(target) => Ok(ordered_again_over(rt, &target, devices)),
         Err(_) => Ok(None),

@@ -86,9 +86,14 @@ pub struct Asked<'a, R> {
 impl<'a, R: Wait> Asked<'a, R> {
     /// Whether this is the target's status line.
     pub fn tells(&self, wanted: &str) -> bool {
-        let mut text = String::new(self.alloc);
-        self.target.status(self.rt, &mut text).is_ok() && text.as_str() == wanted
+        tells(self.rt, self.alloc, self.target, wanted)
     }
+}
+
+/// Whether this is a target's status line.
+pub fn tells(rt: &impl Wait, alloc: Global, target: &Target<TinyLfu>, wanted: &str) -> bool {
+    let mut text = String::new(alloc);
+    target.status(rt, &mut text).is_ok() && text.as_str() == wanted
 }
 
 /// A sector that begins with this byte.

@@ -14,6 +14,8 @@ mod converting;
 #[cfg(test)]
 mod crashing;
 #[cfg(test)]
+mod errands;
+#[cfg(test)]
 mod faults;
 #[cfg(test)]
 mod files;

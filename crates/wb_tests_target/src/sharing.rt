@@ -1,9 +1,10 @@
 //! Clients that write and flush in turns, beside one another: a commit serves several of them.
 
 use crate::bounds::end_with;
+use crate::errands::sent_with_hook;
 use crate::files::{Images, Names, client_over, images, target_over};
 use crate::fixture::{Lent, begun_with, shows};
-use crate::hooked::{Hook, Hooked, with_hook};
+use crate::hooked::Hook;
 use crate::questions::{Question, answered};
 use std::alloc::AllocError;
 use std::process::Abort;
@@ -13,7 +14,7 @@ use std::test::Fail;
 use std::thread;
 use std::thread::Threads;
 use std::time::{Clock, Duration};
-use wb_disk::{Disk, FileDisk};
+use wb_disk::Disk;
 use wb_policy::{Policy, TinyLfu};
 use wb_target::{Client, Errand, Flushed, Returned, Sent, Target};
 use wb_types::{Dev, Refusal, Sector};
@@ -102,25 +103,17 @@ fn flush_in_turns<D: Disk + Drop, P: Policy>(
     Ok(flushes)
 }
 
-type Slowed<'a, C> = Hooked<'a, FileDisk, Slow<'a, C>>;
-
 /// The sixteen, and who watches them.
 fn all_of_them<'a>(
     rt: &'a HostRuntime,
-    names: &Names,
-    slow: &'a Slow<'a, HostRuntime>,
     ended: &'a AtomicU64,
-) -> Result<Vec<Sent<Slowed<'a, HostRuntime>, Beside<'a, HostRuntime>>>, Fail> {
-    let mut sent = Vec::new(rt.alloc());
+) -> Result<Vec<Beside<'a, HostRuntime>>, Fail> {
+    let mut errands = Vec::new(rt.alloc());
     for client in 0..FLUSHERS {
-        let devices = with_hook(images(rt, names)?, slow);
-        let errand = Beside::Flushes(own_sector(client), ended);
-        sent.push(Sent { devices, errand })?;
+        errands.push(Beside::Flushes(own_sector(client), ended))?;
     }
-    let devices = with_hook(images(rt, names)?, slow);
-    let errand = Beside::Watches(rt, ended);
-    sent.push(Sent { devices, errand })?;
-    Ok(sent)
+    errands.push(Beside::Watches(rt, ended))?;
+    Ok(errands)
 }
 
 /// How all flushes were answered, if each was.
@@ -159,11 +152,7 @@ where
 }
 
 /// Whether each sector is shown as it was written last.
-fn show_the_last(
-    rt: &impl Wait,
-    target: &Target<TinyLfu>,
-    images: Images,
-) -> Result<bool, Refusal> {
+fn shows_last(rt: &impl Wait, target: &Target<TinyLfu>, images: Images) -> Result<bool, Refusal> {
     let mut client = client_over(rt, target, images)?;
     Ok((0..FLUSHERS).all(|flusher| shows(rt, &mut client, own_sector(flusher), TURNS - 1)))
 }
@@ -175,8 +164,9 @@ fn sixteen_clients_that_write_and_flush_share_commits(rt: HostRuntime) -> Result
     let target = target_over(&rt, &SHARED)?;
     let ended = AtomicU64::new(0);
     let slow = Slow { clock: &rt };
-    let shared = are_shared(&rt, &target, all_of_them(&rt, &SHARED, &slow, &ended)?);
-    let shown = show_the_last(&rt, &target, images(&rt, &SHARED)?);
+    let errands = sent_with_hook(&rt, &SHARED, &slow, all_of_them(&rt, &ended)?)?;
+    let shared = are_shared(&rt, &target, errands);
+    let shown = shows_last(&rt, &target, images(&rt, &SHARED)?);
     drop(target);
     assert!(rt; shared? && shown?);
     Ok(())

@@ -1,7 +1,7 @@
 //! Errands by clients on threads of their own, over files.
 
 use crate::files::{Images, Names, client_over, images, target_over};
-use crate::fixture::{Asked, begun_with, shows};
+use crate::fixture::{begun_with, shows, tells};
 use std::alloc::AllocError;
 use std::sync::Wait;
 use std::test::Fail;
@@ -75,12 +75,7 @@ const READ_LINE: &str =
 fn four_clients_read_one_sector(rt: HostRuntime) -> Result<(), Fail> {
     let target = target_over(&rt, &READ)?;
     let read = all_tell(&rt, &target, readers(&rt, &READ)?, &[true; 4]);
-    let asked = Asked {
-        rt: &rt,
-        alloc: rt.alloc(),
-        target: &target,
-    };
-    let told = asked.tells(READ_LINE);
+    let told = tells(&rt, rt.alloc(), &target, READ_LINE);
     drop(target);
     assert!(rt; told && read?);
     Ok(())

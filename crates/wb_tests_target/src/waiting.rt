@@ -1,10 +1,12 @@
 //! A flush beside a commit that runs: it waits for it, and is told where it fails.
 
 use crate::bounds::end_with;
+use crate::breaking::flush_and_tell;
 use crate::caching::order_replacement;
+use crate::errands::Beside;
 use crate::files::{Images, Names, client_over, images, target_over};
 use crate::threads::all_tell;
-use crate::workers::{Holding, Signals, await_signal};
+use crate::workers::{Signals, await_signal};
 use std::process::Abort;
 use std::sync::Wait;
 use std::sync::atomic::{AtomicU64, Ordering};
@@ -15,55 +17,37 @@ use wb_devices::Devices;
 use wb_disk::{Disk, FileDisk};
 use wb_faults::FaultDisk;
 use wb_policy::{Policy, TinyLfu};
-use wb_target::{Client, Errand, Sent, Target};
+use wb_target::{Client, Sent, Target};
 use wb_types::{Dev, Refusal};
 
-/// What is done beside one another, with how far it has come: whether the flush is answered is told by the last.
-#[derive(Drop)]
-enum Beside<'a, C> {
-    /// Carries out a replacement, whose flush begins a commit, and is held in it.
-    Replaces(&'a C, &'a Signals),
-    /// Flushes once that commit runs.
-    Flushes(&'a C, &'a Signals, &'a AtomicU64),
-    /// Lets the commit go on after a while, if the flush is not answered by then, and ends the test if it never is.
-    Watches(&'a C, &'a Signals, &'a AtomicU64),
+/// Flushes once the commit that is held runs, and tells that it is answered.
+pub fn flush_in_it<D: Disk + Drop, P: Policy>(
+    rt: &impl Wait,
+    client: &mut Client<'_, D, P>,
+    clock: &impl Clock,
+    signals: &Signals,
+    answered: &AtomicU64,
+) -> Result<(), Refusal> {
+    let stands = await_signal(clock, &signals.stands);
+    flush_and_tell(rt, client, answered)?;
+    if stands { Ok(()) } else { Err(Refusal::Busy) }
 }
 
-impl<'a, C: Clock + Abort> Errand for Beside<'a, C> {
-    type Told = Result<(), Refusal>;
-
-    ghost tells = { λ beside told. Unit {0} };
-
-    fn run<R: Wait, D: Disk + Drop, P: Policy>(
-        self,
-        rt: &R,
-        client: &mut Client<'_, D, P>,
-    ) -> Result<(), Refusal> {
-        match self {
-            Beside::Replaces(clock, signals) => client.worker(rt, &Holding { clock, signals }),
-            Beside::Flushes(clock, signals, answered) => {
-                let stands = await_signal(clock, &signals.stands);
-                let flushed = client.flush(rt);
-                answered.store(1, Ordering::SeqCst);
-                match flushed {
-                    Ok(_) if stands => Ok(()),
-                    Ok(_) => Err(Refusal::Busy),
-                    Err(refusal) => Err(refusal),
-                }
-            }
-            Beside::Watches(clock, signals, answered) => {
-                let stands = await_signal(clock, &signals.stands);
-                thread::sleep(clock, Duration::from_millis(200));
-                let waits = answered.load(Ordering::SeqCst) == 0;
-                signals.goes.store(1, Ordering::SeqCst);
-                end_with(clock, answered, 1);
-                if stands && waits {
-                    Ok(())
-                } else {
-                    Err(Refusal::Busy)
-                }
-            }
-        }
+/// Lets the commit go on after a while. `Busy` where the flush is answered by then.
+pub fn let_go<C: Clock + Abort>(
+    clock: &C,
+    signals: &Signals,
+    answered: &AtomicU64,
+) -> Result<(), Refusal> {
+    let stands = await_signal(clock, &signals.stands);
+    thread::sleep(clock, Duration::from_millis(200));
+    let waits = answered.load(Ordering::SeqCst) == 0;
+    signals.goes.store(1, Ordering::SeqCst);
+    end_with(clock, answered, 1);
+    if stands && waits {
+        Ok(())
+    } else {
+        Err(Refusal::Busy)
     }
 }
 
@@ -103,7 +87,7 @@ fn all_three<'a>(
     let errands = [
         (call, Beside::Replaces(rt, signals)),
         (None, Beside::Flushes(rt, signals, answered)),
-        (None, Beside::Watches(rt, signals, answered)),
+        (None, Beside::LetsGo(rt, signals, answered)),
     ];
     for (call, errand) in errands {
         let devices = failing(rt, names, call)?;

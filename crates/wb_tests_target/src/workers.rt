@@ -1,7 +1,7 @@
 //! Workers that a gate holds or ends.
 
 use crate::files::{Images, Names, client_over, images, target_over};
-use crate::fixture::{Asked, Lent, shows, worked, write_and_read};
+use crate::fixture::{Lent, shows, tells, worked, write_and_read};
 use crate::questions::{Question, answered};
 use crate::threads::all_tell;
 use std::sync::Wait;
@@ -228,12 +228,7 @@ fn a_worker_that_a_gate_holds_keeps_its_block_alone(rt: HostRuntime) -> Result<(
     let ordered = order_third(&rt, &target, images(&rt, &HELD)?);
     let ended = all_tell(&rt, &target, both(&rt, &signals)?, &[true, true]);
     let shown = shows_third(&rt, &target, images(&rt, &HELD)?);
-    let asked = Asked {
-        rt: &rt,
-        alloc: rt.alloc(),
-        target: &target,
-    };
-    let told = asked.tells(HELD_LINE);
+    let told = tells(&rt, rt.alloc(), &target, HELD_LINE);
     drop(target);
     assert!(rt; told && ordered? && ended? && shown?);
     Ok(())

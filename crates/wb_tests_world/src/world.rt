@@ -233,6 +233,13 @@ fn waits(world: &mut World, actor: usize) -> bool {
         && does(world, Event::Step(actor), What::Skipped)
 }
 
+/// Whether a target is opened, a flush takes its first steps, so many, and those of these actors wait for it.
+fn queue(world: &mut World, count: usize, actors: &[usize]) -> bool {
+    begins(world, 0, Task::Open, 8)
+        && begins(world, 1, Task::Flush, count)
+        && actors.iter().all(|actor| waits(world, *actor))
+}
+
 /// More steps than any task of a small world has.
 const MOST_STEPS: usize = 200;
 
@@ -284,7 +291,7 @@ fn goes(world: &mut World, alloc: Global, line: &Line) -> Result<bool, Refusal> 
         Line::Sees(actor, words) => Ok(sees(world, *actor, words)),
         Line::Takes(actor, wants) => Ok(takes(world, *actor, wants)),
         Line::Owns(actor, seal, number) => Ok(owns(world, *actor, *seal, *number)),
-        Line::Waits(actor) => Ok(waits(world, *actor)),
+        Line::Queue(count, actors) => Ok(queue(world, *count, actors)),
         Line::Finishes(acts) => all_finish(world, alloc, acts),
         Line::OpensAfter(crash) => opens_after(world, alloc, *crash),
         Line::Gives(byte) => Ok(has_read(world, *byte)),

@@ -1,8 +1,9 @@
 //! The arguments of the program.
 
-use crate::help::{ABOUT, REPLAYS, TEXTS, VERSION};
+use crate::help::{ABOUT, REPLAYS, TEXTS};
 use clap::{Arg, ArgAction, Command, Error};
 use std::alloc::Global;
+use wb_opened::{NoTask, VERSION, with_table};
 
 /// What the program is asked to do.
 #[derive(Clone, Copy)]
@@ -16,13 +17,9 @@ pub enum Asked<'a> {
 }
 
 /// Reads the words of the command line, the program's name first: what is asked, and whether reasons are to be told.
-/// The error's kind is `DisplayHelp` or `DisplayVersion` where that is asked for.
-pub fn read_arguments<'a>(
-    alloc: Global,
-    words: &'a [String],
-) -> Result<Option<(Asked<'a>, bool)>, Error> {
+pub fn read_arguments<'a>(alloc: Global, words: &'a [String]) -> Result<(Asked<'a>, bool), NoTask> {
     let matches = command(alloc)?.try_get_matches_from(words)?;
-    Ok(match matches.subcommand() {
+    let asked = match matches.subcommand() {
         Some(("format", given)) => given.get_str("TABLE").map(|table| (
             Asked::Format(table, given.get_flag("yes")),
             given.get_flag("verbose"),
@@ -32,7 +29,8 @@ pub fn read_arguments<'a>(
             .map(|table| (Asked::Run(table), given.get_flag("verbose"))),
         Some(("replay", given)) => Some((Asked::Replay, given.get_flag("verbose"))),
         _ => None,
-    })
+    };
+    asked.ok_or(NoTask::Unknown)
 }
 
 fn command<'a>(alloc: Global) -> Result<Command<'a>, Error> {
@@ -60,26 +58,14 @@ fn command<'a>(alloc: Global) -> Result<Command<'a>, Error> {
                 alloc,
                 "format",
                 "Make the metadata those of an empty cache",
-            )?.arg(yes)?)?
-            .subcommand(with_table(alloc, "run", "Run a script over the files")?)?
+                TEXTS,
+            )?
+            .arg(yes)?)?
+            .subcommand(with_table(alloc, "run", "Run a script over the files", TEXTS)?)?
             .subcommand(
                 Command::new(alloc, "replay")
                     .about("Play a replay")
                     .after_help(REPLAYS),
             )?,
-    )
-}
-
-/// A subcommand that takes a table.
-fn with_table<'a>(alloc: Global, name: &'a str, about: &'a str) -> Result<Command<'a>, Error> {
-    let table = Arg::new(alloc, "TABLE")
-        .help("The three files and the size of a block, as below")
-        .required(true)
-        .action(ArgAction::Set);
-    Ok(
-        Command::new(alloc, name)
-            .about(about)
-            .after_help(TEXTS)
-            .arg(table)?,
     )
 }

@@ -1,8 +1,5 @@
 //! What the program says of itself.
 
-/// The program's version, and the proof logic that it is proved with, as `rt version` names it behind the kit.
-pub const VERSION: &str = "0.1.0, proved with rattle logic dac8208d650f15bf";
-
 pub const ABOUT: &str = "A write-back block cache over three files.";
 
 /// What a table and a script are, for both subcommands.

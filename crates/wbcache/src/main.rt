@@ -5,15 +5,13 @@ mod arguments;
 mod help;
 
 use crate::arguments::{Asked, read_arguments};
-use clap::Error;
-use clap::error::ErrorKind;
+use std::io;
 use std::io::{BufReader, BufWriter, IsTerminal, Read};
 use std::process::ExitCode;
 use std::sync::Wait;
 use std::thread::Threads;
-use std::{env, io};
 use wb_files::{Alarm, Awaited, hold_streams};
-use wb_opened::Unserved;
+use wb_opened::{NoTask, STREAM_FAILED, Unserved, command_words};
 use wb_script::{Consent, Ended, GivenUp, Progress, format_files, refused, run};
 use wb_types::Refusal;
 
@@ -22,9 +20,6 @@ const USAGE: &str = "usage: wbcache format TABLE | run TABLE | replay";
 
 /// So many bytes of answers are held at most while further lines of a script are at hand: 64 KiB.
 const MOST_HELD: usize = 65_536;
-
-/// The exit status of a reader or a writer that failed.
-const STREAM_FAILED: u8 = 4;
 
 fn main(rt: HostRuntime) -> ExitCode {
     // Before any file is opened.
@@ -37,18 +32,13 @@ fn main(rt: HostRuntime) -> ExitCode {
 /// Does what the arguments ask, and gives the exit status. Who waits or starts threads does so by the second handle.
 fn serve<T: Threads + Wait + Sync>(rt: &HostRuntime, waits: &T) -> u8 {
     let alloc = rt.alloc();
-    let words = match env::args(rt) {
+    let words = match command_words(rt) {
         Ok(words) => words,
-        Err(error) if error.kind() == io::ErrorKind::OutOfMemory => return no_memory(rt),
-        Err(_) => return usage(rt),
-    };
-    let Ok(words) = words.collect::<Vec<String>>(alloc) else {
-        return no_memory(rt);
+        Err(why) => return no_task(rt, &why),
     };
     let (asked, verbose) = match read_arguments(alloc, words.as_slice()) {
-        Ok(Some(read)) => read,
-        Ok(None) => return usage(rt),
-        Err(error) => return no_task(rt, &error),
+        Ok(read) => read,
+        Err(why) => return no_task(rt, &why),
     };
     let alarm = Alarm::new(rt, "wbcache");
     let ended = match asked {
@@ -134,22 +124,12 @@ fn tell(rt: &HostRuntime, ended: &Ended<'_>, verbose: bool) -> u8 {
     ended.code
 }
 
-/// Gives help or the version where they are asked for, and else says what the program takes.
-fn no_task(rt: &HostRuntime, error: &Error) -> u8 {
-    match error.kind() {
-        ErrorKind::DisplayHelp | ErrorKind::DisplayVersion => match error.print(rt) {
-            Ok(()) => 0,
-            Err(_) => STREAM_FAILED,
-        },
-        ErrorKind::OutOfMemory => no_memory(rt),
-        _ => usage(rt),
+/// Says why there is no task, and gives the exit status.
+fn no_task(rt: &HostRuntime, why: &NoTask) -> u8 {
+    match why.tell(rt, USAGE) {
+        Some(code) => code,
+        None => no_memory(rt),
     }
-}
-
-/// Says what the program takes.
-fn usage<R: Eprint>(rt: &R) -> u8 {
-    let _ = eprintln!(rt; "{USAGE}");
-    2
 }
 
 /// Says that not even a script can be begun.

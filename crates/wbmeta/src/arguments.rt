@@ -1,10 +1,8 @@
 //! The arguments of the program.
 
-use clap::{Arg, ArgAction, Command, Error};
+use clap::{Command, Error};
 use std::alloc::Global;
-
-/// The program's version, and the proof logic that it is proved with, as `rt version` names it behind the kit.
-const VERSION: &str = "0.1.0, proved with rattle logic dac8208d650f15bf";
+use wb_opened::{NoTask, VERSION, with_table};
 
 const ABOUT: &str =
     "Tells what lies on the metadata of a write-back cache over three files, or has what is dirty written home.";
@@ -38,18 +36,18 @@ pub enum Asked<'a> {
     Writeback(&'a str),
 }
 
-/// Reads the words of the command line, the program's name first; none where they ask for nothing. The error's kind is `DisplayHelp` or
-/// `DisplayVersion` where that is asked for.
-pub fn read_arguments<'a>(alloc: Global, words: &'a [String]) -> Result<Option<Asked<'a>>, Error> {
+/// Reads the words of the command line, the program's name first.
+pub fn read_arguments<'a>(alloc: Global, words: &'a [String]) -> Result<Asked<'a>, NoTask> {
     let matches = command(alloc)?.try_get_matches_from(words)?;
-    Ok(match matches.subcommand() {
+    let asked = match matches.subcommand() {
         Some(("check", given)) => given.get_str("TABLE").map(|table| Asked::Check(table)),
         Some(("dump", given)) => given.get_str("TABLE").map(|table| Asked::Dump(table)),
         Some(("writeback", given)) => {
             given.get_str("TABLE").map(|table| Asked::Writeback(table))
         }
         _ => None,
-    })
+    };
+    asked.ok_or(NoTask::Unknown)
 }
 
 fn command<'a>(alloc: Global) -> Result<Command<'a>, Error> {
@@ -64,26 +62,14 @@ fn command<'a>(alloc: Global) -> Result<Command<'a>, Error> {
                 alloc,
                 "check",
                 "Tell whether the cache can be opened, and how it stands",
+                TEXTS,
             )?)?
-            .subcommand(with_table(alloc, "dump", "List the blocks that are cached")?)?
+            .subcommand(with_table(alloc, "dump", "List the blocks that are cached", TEXTS)?)?
             .subcommand(with_table(
                 alloc,
                 "writeback",
                 "Write all dirty blocks to the origin, and leave the cache clean",
+                TEXTS,
             )?)?,
-    )
-}
-
-/// A subcommand that takes a table.
-fn with_table<'a>(alloc: Global, name: &'a str, about: &'a str) -> Result<Command<'a>, Error> {
-    let table = Arg::new(alloc, "TABLE")
-        .help("The three files and the size of a block, as below")
-        .required(true)
-        .action(ArgAction::Set);
-    Ok(
-        Command::new(alloc, name)
-            .about(about)
-            .after_help(TEXTS)
-            .arg(table)?,
     )
 }

@@ -10,17 +10,14 @@ use crate::arguments::{Asked, read_arguments};
 use crate::draining::{Drain, cleaning};
 use crate::found::{Counted, Found, count, read_metadata};
 use crate::telling::{MOST_HELD, Untold, dump, summarize, tell};
-use clap::Error;
-use clap::error::ErrorKind;
 use std::alloc::Global;
 use std::io::{BufWriter, IsTerminal, Write};
 use std::process::ExitCode;
 use std::sync::Wait;
 use std::thread::Threads;
-use std::{env, io};
 use wb_disk::Disk;
 use wb_files::{Alarm, Hurry, hold_streams, open_table};
-use wb_opened::{Unserved, serve_all};
+use wb_opened::{NoTask, STREAM_FAILED, Unserved, command_words, serve_all};
 use wb_table::read_table;
 use wb_types::{Geometry, Mode, Refusal};
 
@@ -33,9 +30,6 @@ const REFUSED: u8 = 1;
 /// The exit status of a device that failed, or a file that is held.
 const DEVICE_FAILED: u8 = 3;
 
-/// The exit status of a stream that failed.
-const STREAM_FAILED: u8 = 4;
-
 fn main(rt: HostRuntime) -> ExitCode {
     // Before any file is opened.
     match hold_streams(&rt) {
@@ -46,21 +40,15 @@ fn main(rt: HostRuntime) -> ExitCode {
 
 /// Does what the arguments ask, and gives the exit status. Who waits or starts threads does so by the second handle.
 fn serve<T: Threads + Wait + Eprint + Sync>(rt: &HostRuntime, waits: &T) -> u8 {
-    let alloc = rt.alloc();
-    let words = match env::args(rt) {
+    let words = match command_words(rt) {
         Ok(words) => words,
-        Err(error) if error.kind() == io::ErrorKind::OutOfMemory => return no_memory(rt),
-        Err(_) => return usage(rt),
+        Err(why) => return no_task(rt, &why),
     };
-    let Ok(words) = words.collect::<Vec<String>>(alloc) else {
-        return no_memory(rt);
-    };
-    match read_arguments(alloc, words.as_slice()) {
-        Ok(Some(Asked::Check(table))) => read(rt, table, false),
-        Ok(Some(Asked::Dump(table))) => read(rt, table, true),
-        Ok(Some(Asked::Writeback(table))) => write_back(rt, waits, table),
-        Ok(None) => usage(rt),
-        Err(error) => no_task(rt, &error),
+    match read_arguments(rt.alloc(), words.as_slice()) {
+        Ok(Asked::Check(table)) => read(rt, table, false),
+        Ok(Asked::Dump(table)) => read(rt, table, true),
+        Ok(Asked::Writeback(table)) => write_back(rt, waits, table),
+        Err(why) => no_task(rt, &why),
     }
 }
 
@@ -208,22 +196,12 @@ fn status_of(refusal: Refusal) -> u8 {
     }
 }
 
-/// Gives help or the version where they are asked for, and else says what the program takes.
-fn no_task(rt: &HostRuntime, error: &Error) -> u8 {
-    match error.kind() {
-        ErrorKind::DisplayHelp | ErrorKind::DisplayVersion => match error.print(rt) {
-            Ok(()) => 0,
-            Err(_) => STREAM_FAILED,
-        },
-        ErrorKind::OutOfMemory => no_memory(rt),
-        _ => usage(rt),
+/// Says why there is no task, and gives the exit status.
+fn no_task(rt: &HostRuntime, why: &NoTask) -> u8 {
+    match why.tell(rt, USAGE) {
+        Some(code) => code,
+        None => no_memory(rt),
     }
-}
-
-/// Says what the program takes.
-fn usage<R: Eprint>(rt: &R) -> u8 {
-    let _ = eprintln!(rt; "{USAGE}");
-    2
 }
 
 /// Says that there is no memory.

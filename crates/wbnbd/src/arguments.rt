@@ -2,9 +2,7 @@
 
 use clap::{Arg, ArgAction, Command, Error};
 use std::alloc::Global;
-
-/// The program's version, and the proof logic that it is proved with, as `rt version` names it behind the kit.
-const VERSION: &str = "0.1.0, proved with rattle logic dac8208d650f15bf";
+use wb_opened::{NoTask, VERSION, table_argument};
 
 const ABOUT: &str =
     "Serves a write-back cache over three files as a network block device, to one client on standard input and output.";
@@ -49,33 +47,28 @@ pub struct Asked<'a> {
     pub control: Option<&'a str>,
 }
 
-/// Reads the words of the command line, the program's name first; none where they ask for nothing. The error's kind is `DisplayHelp` or
-/// `DisplayVersion` where that is asked for.
-pub fn read_arguments<'a>(alloc: Global, words: &'a [String]) -> Result<Option<Asked<'a>>, Error> {
+/// Reads the words of the command line, the program's name first.
+pub fn read_arguments<'a>(alloc: Global, words: &'a [String]) -> Result<Asked<'a>, NoTask> {
     let matches = command(alloc)?.try_get_matches_from(words)?;
     let Some(table) = matches.get_str("TABLE") else {
-        return Ok(None);
+        return Err(NoTask::Unknown);
     };
     let wait = match matches.get_str("wait") {
         Some(seconds) => match seconds.parse() {
             Ok(seconds) => seconds,
-            Err(_) => return Ok(None),
+            Err(_) => return Err(NoTask::Unknown),
         },
         None => WAIT,
     };
-    Ok(Some(Asked {
+    Ok(Asked {
         table,
         wait,
         quiet: matches.get_flag("quiet"),
         control: matches.get_str("control"),
-    }))
+    })
 }
 
 fn command<'a>(alloc: Global) -> Result<Command<'a>, Error> {
-    let table = Arg::new(alloc, "TABLE")
-        .help("The three files and the size of a block, as below")
-        .required(true)
-        .action(ArgAction::Set);
     let wait = Arg::new(alloc, "wait")
         .long("wait")
         .help("Seconds to wait for files that another program holds [default: 5]")
@@ -97,6 +90,6 @@ fn command<'a>(alloc: Global) -> Result<Command<'a>, Error> {
             .arg(wait)?
             .arg(control)?
             .arg(quiet)?
-            .arg(table)?,
+            .arg(table_argument(alloc))?,
     )
 }

@@ -18,9 +18,6 @@ use wb_opened::Served;
 use wb_table::{SplitSpaces, is_comment, read_message};
 use wb_types::Refusal;
 
-/// How long it is waited before the file is asked again, in milliseconds.
-const REST: u64 = 50;
-
 /// Bytes of a line, at most: 64 KiB.
 const MOST_OF_A_LINE: usize = 65_536;
 
@@ -120,6 +117,9 @@ pub fn answer_lines<R: Wait, S: Served, T: Clock + Eprint>(
         }
     }
 }
+
+/// How long it is waited before the file is asked again, in milliseconds.
+const REST: u64 = 50;
 
 fn rest<T: Clock>(clock: &T) {
     thread::sleep(clock, Duration::from_millis(REST));

@@ -5,11 +5,8 @@ ghost use Rattle.std.specs.Prelude.{◌≡◌, ◌<◌};
 use std::fmt::{Display, Formatter};
 use std::{fmt, io};
 use wb_nbd::Broken;
-use wb_opened::Unserved;
+use wb_opened::{STREAM_FAILED, Unserved};
 use wb_types::Refusal;
-
-/// The exit status of a connection that broke, or a stream that failed.
-pub const STREAM_FAILED: u8 = 4;
 
 /// The exit status, and why it is not 0.
 #[derive(Drop)]

@@ -12,15 +12,13 @@ mod teller;
 
 use crate::arguments::read_arguments;
 use crate::ended::Ended;
-use clap::Error;
-use clap::error::ErrorKind;
 use std::io::{BufReader, BufWriter};
 use std::process::ExitCode;
 use std::sync::Wait;
 use std::thread::Threads;
 use std::time::Clock;
-use std::{env, io};
 use wb_files::{Awaited, hold_streams};
+use wb_opened::{NoTask, STREAM_FAILED, command_words};
 use wb_types::Refusal;
 
 /// What is asked of who calls the program otherwise.
@@ -33,27 +31,20 @@ fn main(rt: HostRuntime) -> ExitCode {
     // Before any file is opened.
     match hold_streams(&rt) {
         Ok(_held) => ExitCode::from(serve(&rt, &rt)),
-        Err(_) => ExitCode::from(ended::STREAM_FAILED),
+        Err(_) => ExitCode::from(STREAM_FAILED),
     }
 }
 
 /// Does what the arguments ask, and gives the exit status. Who waits or starts threads does so by the second handle.
 fn serve<T: Threads + Wait + Clock + Eprint + Sync>(rt: &HostRuntime, waits: &T) -> u8 {
     let alloc = rt.alloc();
-    let words = match env::args(rt) {
+    let words = match command_words(rt) {
         Ok(words) => words,
-        Err(error) if error.kind() == io::ErrorKind::OutOfMemory => {
-            return tell(rt, &Ended::refused(Refusal::Memory));
-        }
-        Err(_) => return usage(rt),
-    };
-    let Ok(words) = words.collect::<Vec<String>>(alloc) else {
-        return tell(rt, &Ended::refused(Refusal::Memory));
+        Err(why) => return no_task(rt, &why),
     };
     let asked = match read_arguments(alloc, words.as_slice()) {
-        Ok(Some(asked)) => asked,
-        Ok(None) => return usage(rt),
-        Err(error) => return no_task(rt, &error),
+        Ok(asked) => asked,
+        Err(why) => return no_task(rt, &why),
     };
     let input = Awaited {
         clock: waits,
@@ -81,20 +72,10 @@ fn tell<R: Eprint>(rt: &R, ended: &Ended<'_>) -> u8 {
     ended.code
 }
 
-/// Gives help or the version where they are asked for, and else says what the program takes.
-fn no_task(rt: &HostRuntime, error: &Error) -> u8 {
-    match error.kind() {
-        ErrorKind::DisplayHelp | ErrorKind::DisplayVersion => match error.print(rt) {
-            Ok(()) => 0,
-            Err(_) => ended::STREAM_FAILED,
-        },
-        ErrorKind::OutOfMemory => tell(rt, &Ended::refused(Refusal::Memory)),
-        _ => usage(rt),
+/// Says why there is no task, and gives the exit status.
+fn no_task(rt: &HostRuntime, why: &NoTask) -> u8 {
+    match why.tell(rt, USAGE) {
+        Some(code) => code,
+        None => tell(rt, &Ended::refused(Refusal::Memory)),
     }
-}
-
-/// Says what the program takes.
-fn usage<R: Eprint>(rt: &R) -> u8 {
-    let _ = eprintln!(rt; "{USAGE}");
-    2
 }

@@ -1,6 +1,6 @@
 //! Images as rows of nodes, and the bytes that stand for them.
 
-use super::super::sectors::{put, root_with};
+use crate::reading::sectors::{put, root_with};
 use wb_format::{Node, Root};
 use wb_types::{SECTOR_BYTES, Version};
 

@@ -159,32 +159,11 @@ impl SlowReader {
         self.read_top(image, &top)
     }
 
-    fn read_top(&mut self, image: &PlainImage, top: &Spot) -> Result<(), Wrong> {
-        match top.level {
-            1 => self.read_leaf(image, top),
-            2 => self.read_second(image, top),
-            _ => self.read_third(image, top),
-        }
-    }
-
-    /// A node of level 3, and all below it.
-    fn read_third(&mut self, image: &PlainImage, spot: &Spot) -> Result<(), Wrong> {
-        let node = self.enter(image, spot)?;
-        for (j, word) in node.words.iter().enumerate() {
-            if *word != 0 {
-                let child = self.child(image, spot, j, *word)?;
-                self.read_second(image, &child)?;
-            }
-        }
-        Ok(())
-    }
-
     /// A node of level 2, and its leaves.
     fn read_second(&mut self, image: &PlainImage, spot: &Spot) -> Result<(), Wrong> {
         let node = self.enter(image, spot)?;
         for (j, word) in node.words.iter().enumerate() {
-            if *word != 0 {
-                let child = self.child(image, spot, j, *word)?;
+            if let Some(child) = self.child(image, spot, j, *word)? {
                 self.read_leaf(image, &child)?;
             }
         }
@@ -201,6 +180,23 @@ impl SlowReader {
             }
         }
         Ok(())
+    }
+
+    /// The top of a tree, and all below it.
+    fn read_top(&mut self, image: &PlainImage, top: &Spot) -> Result<(), Wrong> {
+        match top.level {
+            1 => self.read_leaf(image, top),
+            2 => self.read_second(image, top),
+            _ => {
+                let node = self.enter(image, top)?;
+                for (j, word) in node.words.iter().enumerate() {
+                    if let Some(child) = self.child(image, top, j, *word)? {
+                        self.read_second(image, &child)?;
+                    }
+                }
+                Ok(())
+            }
+        }
     }
 
     /// The node that stands here, where it is the one that the tree has here.
@@ -228,8 +224,17 @@ impl SlowReader {
         self.reached.iter().any(|at| u64::from(*at) == place)
     }
 
-    /// The child that word j of a node names.
-    fn child(&self, image: &PlainImage, spot: &Spot, j: usize, word: u64) -> Result<Spot, Wrong> {
+    /// The child that word j of a node names, if it names one.
+    fn child(
+        &self,
+        image: &PlainImage,
+        spot: &Spot,
+        j: usize,
+        word: u64,
+    ) -> Result<Option<Spot>, Wrong> {
+        if word == 0 {
+            return Ok(None);
+        }
         if word < 2 || word >= u64::from(image.meta_sectors) {
             spot.wrong(Fault::Outside)?;
         }
@@ -239,12 +244,12 @@ impl SlowReader {
         if spot.block_below(j) >= u64::from(image.cache_blocks) {
             spot.wrong(Fault::Beyond)?;
         }
-        Ok(Spot {
+        Ok(Some(Spot {
             letters: spot.letters,
             level: spot.level.saturating_sub(1),
             index: spot.index.saturating_mul(32).saturating_add(j as u64),
             place: (word & 0xffff_ffff) as u32,
-        })
+        }))
     }
 
     /// The word of a cache block in a leaf of the mapping.

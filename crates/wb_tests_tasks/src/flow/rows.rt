@@ -131,6 +131,15 @@ const COMMIT_OF_ONE: [Want; 7] = [
     END,
 ];
 
+const THREE_NODES: [Want; 3] = [
+    Want::Device(DeviceStep::WriteNode(0)),
+    Want::Device(DeviceStep::WriteNode(1)),
+    Want::Device(DeviceStep::WriteNode(2)),
+];
+
+/// The root behind nodes that were written.
+const ROOT_BEHIND: [Want; 3] = [SYNC_METADATA, WRITE_ROOT, SYNC_METADATA];
+
 pub const ROWS: [&Row; 10] = [
     &Row {
         name: "a flush of one node writes its root at the seventh step and syncs it at the eighth",
@@ -151,15 +160,9 @@ pub const ROWS: [&Row; 10] = [
         name: "the nodes of a flush are written rising",
         nodes: 3,
         from: 4,
-        wants: &[
-            Want::Device(DeviceStep::WriteNode(0)),
-            Want::Device(DeviceStep::WriteNode(1)),
-            Want::Device(DeviceStep::WriteNode(2)),
-            SYNC_METADATA,
-            WRITE_ROOT,
-            SYNC_METADATA,
-            END,
-        ],
+        wants: &THREE_NODES,
+        commit: &ROOT_BEHIND,
+        last: &[END],
         device_steps: 8,
         ..FLUSH
     },
@@ -218,10 +221,8 @@ pub const ROWS: [&Row; 10] = [
             Want::Device(DeviceStep::ReadMetadata(2)),
             Want::Device(DeviceStep::WriteNode(0)),
             Want::Device(DeviceStep::WriteNode(1)),
-            SYNC_METADATA,
-            WRITE_ROOT,
-            SYNC_METADATA,
         ],
+        last: &ROOT_BEHIND,
         device_steps: 11,
         ..OPEN
     },

@@ -62,9 +62,7 @@ pub const SHARED: [Row; 7] = [
     (
         "one gets a ticket, waits until that commit has ended, and leads one then",
         &[
-            Line::Begins(0, Task::Open, 8),
-            Line::Begins(1, Task::Flush, 2),
-            Line::Waits(2),
+            Line::Queue(2, &[2]),
             Line::Takes(1, &LEADING),
             Line::Does(Act::Step(2), LEADS),
             Line::Takes(2, &LEADING),
@@ -74,10 +72,7 @@ pub const SHARED: [Row; 7] = [
     (
         "two share the next commit: the one that asks first leads it, and the other is served once it has ended",
         &[
-            Line::Begins(0, Task::Open, 8),
-            Line::Begins(1, Task::Flush, 2),
-            Line::Waits(2),
-            Line::Waits(3),
+            Line::Queue(2, &[2, 3]),
             Line::Takes(1, &LEADING),
             Line::Does(Act::Step(3), LEADS),
             Line::Does(Act::Step(2), What::Skipped),
@@ -90,10 +85,7 @@ pub const SHARED: [Row; 7] = [
     (
         "all wait until the commit that runs is broken where it fails, and are refused then",
         &[
-            Line::Begins(0, Task::Open, 8),
-            Line::Begins(1, Task::Flush, 3),
-            Line::Waits(2),
-            Line::Waits(3),
+            Line::Queue(3, &[2, 3]),
             Line::Does(
                 Act::Fault(1, Base::Durable),
                 What::Stepped(ORIGIN, Got::Fault),
@@ -112,10 +104,7 @@ pub const SHARED: [Row; 7] = [
     (
         "one whose own commit broke is refused, though the one before it has ended",
         &[
-            Line::Begins(0, Task::Open, 8),
-            Line::Begins(1, Task::Flush, 2),
-            Line::Waits(2),
-            Line::Waits(3),
+            Line::Queue(2, &[2, 3]),
             Line::Takes(1, &LEADING),
             Line::Does(Act::Step(2), LEADS),
             Line::Does(
@@ -131,10 +120,7 @@ pub const SHARED: [Row; 7] = [
     (
         "one whose own commit has ended is served, though a later one broke",
         &[
-            Line::Begins(0, Task::Open, 8),
-            Line::Begins(1, Task::Flush, 2),
-            Line::Waits(2),
-            Line::Waits(3),
+            Line::Queue(2, &[2, 3]),
             Line::Takes(1, &LEADING),
             Line::Does(Act::Step(2), LEADS),
             Line::Takes(2, &LEADING),
@@ -151,8 +137,7 @@ pub const SHARED: [Row; 7] = [
     (
         "one gets a ticket until a commit that failed is broken, and none from then on",
         &[
-            Line::Begins(0, Task::Open, 8),
-            Line::Begins(1, Task::Flush, 2),
+            Line::Queue(2, &[]),
             Line::Begins(2, Task::Flush, 1),
             Line::Begins(3, Task::Flush, 1),
             Line::Does(
@@ -174,9 +159,7 @@ pub const SHARED: [Row; 7] = [
     (
         "a crash takes the ticket from one that waits, and behind an opening it leads a commit",
         &[
-            Line::Begins(0, Task::Open, 8),
-            Line::Begins(1, Task::Flush, 2),
-            Line::Waits(2),
+            Line::Queue(2, &[2]),
             Line::OpensAfter(Act::Crash),
             Line::Does(Act::Step(2), What::Skipped),
             Line::Begins(2, Task::Flush, 9),

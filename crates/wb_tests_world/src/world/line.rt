@@ -66,8 +66,9 @@ pub enum Line {
     Takes(usize, &'static [Want]),
     /// Its next steps own the first block, which is free, and see this seal and this number of it.
     Owns(usize, u64, u64),
-    /// A flush of it starts, gets a ticket, and has to wait.
-    Waits(usize),
+    /// Actor 0 opens a target, a flush of actor 1 takes its first steps, so many, and flushes of these start one after the other, get a
+    /// ticket, and have to wait.
+    Queue(usize, &'static [usize]),
     /// These start one after the other, and the steps of each lead to an answer that says done.
     Finishes(&'static [Act]),
     /// This stops all, and an opening in write-back mode by actor 0 then leads to an answer that says done.
