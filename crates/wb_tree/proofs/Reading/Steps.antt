@@ -9,7 +9,7 @@ use Rattle.wb_types.specs.declared.entry.Entry.{Entry}
 use Rattle.wb_types.specs.declared.number.Place.{Place}
 use Rattle.wb_format.specs.declared.root.Root.{Root}
 use Rattle.wb_tree.specs.declared.placed.PlacedNode.{PlacedNode}
-use Rattle.wb_tree.specs.Reading.{Found, ReadOutcome, Nodes, node_read, ◌then◌, each_step, child_read, names_child, entry_read, may_map, is_reached}
+use Rattle.wb_tree.specs.Reading.{Found, ReadOutcome, Nodes, node_read, ◌then◌, each_step, child_read, names_with, names_child, entry_read, may_map, is_reached}
 use Rattle.wb_types.proofs.Truth.{and_true}
 
 -- the next of the steps that are left
@@ -40,24 +40,27 @@ pub child_read-unnamed : (root : Root) (here : Place) (level index : ℕ) (read 
     → child_read root here level index read word found ≡ Err here
 child_read-unnamed root here level index read word found some unnamed = rw (not_zero word some, unnamed) refl
 
--- what the test of a child means
-pub record IsChild (root : Root) (reached : List PlacedNode) (level index word : ℕ) : Type 0 where
+-- what the test of a word means
+pub record IsNaming (root : Root) (was_reached : Bool) (word block : ℕ) : Type 0 where
   pub behind : 2 ≤ word
   pub inside : word < root.geometry.meta_sectors
-  pub unread : is_reached word reached ≡ false
-  pub below : index * 32 ^ level < root.geometry.cache_blocks
+  pub unread : was_reached ≡ false
+  pub below : block < root.geometry.cache_blocks
 
-pub names_child-is : (root : Root) (reached : List PlacedNode) (level index word : ℕ) → names_child root reached level index word ≡ true → IsChild root reached level index word
-names_child-is root reached level index word h =
-    let a = and_true (leb 2 word && ltb word root.geometry.meta_sectors && not (is_reached word reached)) (ltb (index * 32 ^ level) root.geometry.cache_blocks) h in
-    let b = and_true (leb 2 word && ltb word root.geometry.meta_sectors) (not (is_reached word reached)) a.0 in
+pub names_with-is : (root : Root) (was_reached : Bool) (word block : ℕ) → names_with root was_reached word block ≡ true → IsNaming root was_reached word block
+names_with-is root was_reached word block h =
+    let a = and_true (leb 2 word && ltb word root.geometry.meta_sectors && not was_reached) (ltb block root.geometry.cache_blocks) h in
+    let b = and_true (leb 2 word && ltb word root.geometry.meta_sectors) (not was_reached) a.0 in
     let d = and_true (leb 2 word) (ltb word root.geometry.meta_sectors) b.0 in
     record {
       behind = grind (arith, common_steps);
       inside = ltb-true _ _ d.1;
-      unread = not-true (is_reached word reached) b.1;
+      unread = not-true was_reached b.1;
       below = ltb-true _ _ a.1;
     }
+
+pub names_child-is : (root : Root) (reached : List PlacedNode) (level index word : ℕ) → names_child root reached level index word ≡ true → IsNaming root (is_reached word reached) word (index * 32 ^ level)
+names_child-is root reached level index word h = names_with-is root (is_reached word reached) word (index * 32 ^ level) h
 
 -- a node has no more nodes before it than cache blocks
 pub index_below : (index level blocks : ℕ) → index * 32 ^ level < blocks → index < blocks
