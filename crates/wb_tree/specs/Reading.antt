@@ -93,6 +93,11 @@ child_read root here level index read word found =
 abbrev pub is_wanted : Bool → Root → ℕ → ℕ → Node → Bool
 is_wanted of_tree root level index node = of_tree && (node.level == level) && (node.index == index) && nat_le node.generation root.generation
 
+-- a node is one of dirty bits, or one of the mapping
+abbrev pub is_kind : Bool → Node → Bool
+is_kind true node = node.dirty
+is_kind false node = not node.dirty
+
 -- a node is one that the mapping has here: none of dirty bits
 abbrev pub is_node_of : Root → ℕ → ℕ → Node → Bool
 is_node_of root level index node = is_wanted (not node.dirty) root level index node

@@ -134,7 +134,7 @@ fn entry_at<A: Allocator + Clone>(tree: &Tree<A>, block: u32) -> Option<Entry>
 }
 
 /// The number of a place in a word, 0 for none.
-fn number_of(place: Option<Place>) -> u64
+pub fn number_of(place: Option<Place>) -> u64
     ensures number { result ≡ place_word place }
     ensures at_most { result ≤ 4294967295 }
 {

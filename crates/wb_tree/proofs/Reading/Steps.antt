@@ -1,5 +1,5 @@
 -- Steps of a reading, one after the other.
-use Rattle.std.proofs.Common.{◌≡◌, ◌≢◌, ◌≤◌, ◌<◌, ◌+◌, ◌-◌, ◌*◌, ◌^◌, ◌∙◌, ◌&&◌, ap, refl, ℕ, zero, suc, get_or, replicate, Bool, true, false, not, nat_eq, ltb, leb, List, Option, Some, None, Ok, Err, arith, add-one}
+use Rattle.std.proofs.Common.{◌≡◌, ◌≢◌, ◌≤◌, ◌<◌, ◌+◌, ◌-◌, ◌*◌, ◌^◌, ◌∙◌, ◌&&◌, ap, refl, ℕ, zero, suc, get_or, replicate, Bool, true, false, not, nat_eq, ltb, leb, List, Option, Some, None, Result, Ok, Err, arith, add-one}
 use Rattle.std.proofs.lemmas.Bool.{ne_eqb, not-true}
 use Rattle.std.proofs.lemmas.Grind.{common_steps}
 use borrow.Author.Tests.{ltb-true}
@@ -92,9 +92,14 @@ entry_read-none root here block (Some entry) found none = absurd (none entry ref
 
 -- ---- what was read without a fault
 
-pub then_ok : (reading : ReadOutcome) (go_on : Found → ReadOutcome) (next : Found) → (reading then go_on) ≡ Ok next → (found : Found) × (reading ≡ Ok found) × (go_on found ≡ Ok next)
-then_ok (Ok found) go_on next e = (found, refl, e)
-then_ok (Err place) go_on next e = absurd (cc)
+pub then_ok : {X : Type 0} (reading : Result X Place) (go_on : X → Result X Place) (next : X) → (reading then go_on) ≡ Ok next → (found : X) × (reading ≡ Ok found) × (go_on found ≡ Ok next)
+then_ok {X} (Ok found) go_on next e = (found, refl, e)
+then_ok {X} (Err place) go_on next e = absurd (cc)
+
+-- nothing goes on
+pub then_nothing : {X : Type 0} (reading : Result X Place) → (reading then (λ found. Ok found)) ≡ reading
+then_nothing {X} (Ok found) = refl
+then_nothing {X} (Err place) = refl
 
 -- where a test has to come out true
 pub test_ok : (test : Bool) (here : Place) (reading : ReadOutcome) (next : Found) → (if test then reading else Err here) ≡ Ok next → (test ≡ true) × (reading ≡ Ok next)
