@@ -2,12 +2,10 @@
 
 use wb_types::Place;
 
-/// A word of a node that is no leaf, and the node that it names.
+/// A word of a node that is no leaf, and the node that it names: of level 1 or 2, and as which of its level, counted from 0.
 #[derive(Clone, Copy, Debug)]
 pub(crate) struct Child {
-    /// 1 or 2.
     pub(crate) level: u32,
-    /// Which node of its level it is, counted from 0.
     pub(crate) index: u64,
     /// What the word says: the number of its place.
     pub(crate) word: u64,

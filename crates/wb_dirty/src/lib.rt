@@ -16,7 +16,6 @@ mod image_steps;
 mod law;
 mod loader;
 mod planning;
-mod reached;
 
 pub use counting::dirty_nodes_of;
 pub use image_loader::ImageLoader;

@@ -123,18 +123,18 @@ plan_words-loop-j-preserved t c =
     let j = c.loop-j.j in
     let inside : c.loop-j.j < length c.loop-j.words = omega (arith, c.loop-j.invariant.size, c.loop-j-test.true) in
     let told = c.in_ok-child.ensures in
-    let number = c.word_of_place.ensures in
+    let number = c.number_of.ensures in
     let dirty = c.args.plan.now.dirty.now in
     record {
-      size = length-set c.loop-j.words j c.word_of_place.result ∙ inv.size;
+      size = length-set c.loop-j.words j c.number_of.result ∙ inv.size;
       listed = told.names ∙ child-more (names c.args.nodes.now.items) (dirty_below dirty (c.args.level - 1)) j (32 * c.args.index) (names c.loop-j.nodes.items) inv.listed;
       continues = continues-both c.args.nodes.now.items c.loop-j.nodes.items c.plan_node.new.nodes.items inv.continues told.continues;
       planned = told.planned;
-      words = set_more (λ k word. IsNamedBy dirty c.plan_node.new.nodes.items (c.args.level - 1) (32 * c.args.index + k) word) c.loop-j.words j c.word_of_place.result inside
+      words = set_more (λ k word. IsNamedBy dirty c.plan_node.new.nodes.items (c.args.level - 1) (32 * c.args.index + k) word) c.loop-j.words j c.number_of.result inside
           (λ k below. named-more dirty c.loop-j.nodes.items c.plan_node.new.nodes.items (c.args.level - 1) (32 * c.args.index + k) (slice_index c.loop-j.words k) told.continues (inv.words k below))
           (record { place = c.in_ok-child.child; placed = told.place; spelled = number.number });
-      spelled = set_more (λ k word. IsInnerWord word) c.loop-j.words j c.word_of_place.result inside inv.spelled
-          (inner-of dirty c.args.plan.now.generation c.args.plan.now.free.now c.plan_node.new.nodes.items (c.args.level - 1) (32 * c.args.index + j) c.word_of_place.result c.in_ok-child.child told.planned c.requires.behind told.place number.number number.at_most);
+      spelled = set_more (λ k word. IsInnerWord word) c.loop-j.words j c.number_of.result inside inv.spelled
+          (inner-of dirty c.args.plan.now.generation c.args.plan.now.free.now c.plan_node.new.nodes.items (c.args.level - 1) (32 * c.args.index + j) c.number_of.result c.in_ok-child.child told.planned c.requires.behind told.place number.number number.at_most);
     }
 
 pub plan_words-returns-clause-spelled : goal.plan_words-returns-clause-spelled
