@@ -23,7 +23,7 @@ pub use image::Image;
 pub use law::{edit_law, mapping_law};
 pub use loader::Loader;
 pub use placed::{PlacedNode, places_of};
-pub use planning::number_of;
+pub use planning::{number_of, put_node};
 pub use reached::{Reached, Standing};
 pub use tree::Tree;
 pub use wanted::wanted_node;

@@ -1,6 +1,6 @@
 -- A reading that goes on with the node that is wanted.
 use Rattle.std.proofs.Common.{nat_eq, ◌==◌, ◌-◌, take, replicate, ◌≡◌, ◌≤◌, ◌∙◌, sym, ap, subst, refl, ℕ, Bool, true, false, cond, List, [], ◌∷◌, ◌++◌, Option, Some, None, Result, Ok, Err, reverse, arith, leb}
-use Rattle.std.specs.Prelude.{if◌then◌else◌, IfSome, IfErr, IsErrAnd}
+use Rattle.std.specs.Prelude.{if◌then◌else◌, IfSome, IfErr, IsSome, IsErrAnd}
 use Rattle.std.proofs.lemmas.Bool.{ne_eqb}
 use Rattle.std.proofs.lemmas.List.{take_all}
 use Rattle.std.proofs.lemmas.Bool.Decides.{nat_tests}
@@ -92,6 +92,20 @@ fails_there {X} refusal place reading e h = rw e h
 pub handed : {T E : Type 0} (r : Result T E) (refusal : E) (P : E → Type 0) → IsErrAnd r (λ e. e ≡ refusal) → P refusal → IfErr r P
 handed (Ok x) refusal P is h = tt
 handed (Err e) refusal P is h = subst P (sym is) h
+
+-- a `?` hands on that what is spelled at the wanted place is not what is wanted
+pub handed_wrong : {T X : Type 0} (r : Result T Refusal) (refusal : Refusal) (now : Option PlacedNode) (here : PlacedNode) (told : Option Node) (right : PlacedNode → Node → Bool) (reading : Nodes → Result X Place)
+    → IsErrAnd r (λ e. e ≡ refusal) → now ≡ Some here → refusal ≡ Damaged here.place → ((node : Node) → told ≡ Some node → right here node ≡ false)
+    → ((wanted : PlacedNode) (nodes : Nodes) → now ≡ Some wanted → ((node : Node) → nodes wanted.place.0 ≡ Some node → right wanted node ≡ false) → reading nodes ≡ Err wanted.place)
+    → IfErr r (λ e. IsSome now × ((wanted : PlacedNode) (nodes : Nodes) → now ≡ Some wanted → nodes wanted.place.0 ≡ told → FailsBy e (reading nodes)))
+handed_wrong r refusal now here told right reading is wants damaged other wrong =
+    handed r refusal _ is (
+      subst IsSome (sym wants) refl,
+      λ wanted nodes e as_told.
+          let same = same_wanted here wanted (sym wants ∙ e) in
+          fails_there refusal wanted.place (reading nodes) (damaged ∙ ap (λ (w : PlacedNode). Damaged w.place) same)
+          (wrong wanted nodes e (λ node some. subst (λ (w : PlacedNode). right w node ≡ false) same (other node (sym as_told ∙ some)))),
+    )
 
 -- ---- the top
 

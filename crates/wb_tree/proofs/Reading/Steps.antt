@@ -69,12 +69,16 @@ index_below index level blocks h =
     let more : index * 1 ≤ index * 32 ^ level = mul-le-mul_left index some in
     omega arith
 
+-- a node is read by its level, its index and the number of its place
+pub same_read : {Y : Type 0} (read : ℕ → ℕ → Place → Y) (level level' index index' : ℕ) (place place' : Place) → level ≡ level' → index ≡ index' → place.0 ≡ place'.0 → read level index place ≡ read level' index' place'
+same_read {Y} read level level' index index' place place' a b c =
+    let made : ℕ → Place = λ n. record { 0 = n } in
+    ap (λ l. read l index place) a ∙ (ap (λ i. read level' i place) b ∙ ap (λ p. read level' index' p) (ap made c))
+
 pub same_node_read : (root : Root) (nodes : Nodes) (level level' index index' : ℕ) (place place' : Place) (found : Found) → level ≡ level' → index ≡ index' → place.0 ≡ place'.0
     → node_read root nodes level index place found ≡ node_read root nodes level' index' place' found
 same_node_read root nodes level level' index index' place place' found a b c =
-    let made : ℕ → Place = λ n. record { 0 = n } in
-    let d : place ≡ place' = ap made c in
-    ap (λ l. node_read root nodes l index place found) a ∙ (ap (λ i. node_read root nodes level' i place found) b ∙ ap (λ p. node_read root nodes level' index' p found) d)
+    ap (λ read. read found) (same_read (node_read root nodes) level level' index index' place place' a b c)
 
 -- ---- entries
 
