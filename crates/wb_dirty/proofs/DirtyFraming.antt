@@ -10,7 +10,7 @@ use Rattle.wb_format.specs.declared.node.Node.{Node}
 use Rattle.wb_format.specs.declared.root.Root.{Root}
 use Rattle.wb_tree.specs.Reading.{Nodes, ◌then◌}
 use Rattle.wb_tree.proofs.Reading.Steps.{then_ok}
-use Rattle.wb_dirty.specs.declared.child.Child.{Child}
+use Rattle.wb_dirty.specs.declared.children.Child.{Child}
 use Rattle.wb_dirty.specs.Reading.{Asked, Marks, MarksOutcome, each, is_among, bit_read, bits_read, children_from, names_node, dirty_child_read, is_dirty_node, reached_also, dirty_words_read, node_read, dirty_top_read, slot_of_root, none_dirty, dirty_read}
 use Rattle.wb_types.specs.Limits.{dirty_depth_of}
 use Rattle.wb_dirty.proofs.Steps.{each-none, each-first, names_node-is}

@@ -10,7 +10,7 @@ use Rattle.wb_tree.specs.declared.placed.PlacedNode.{PlacedNode}
 use Rattle.wb_tree.specs.Reading.{Nodes, ◌then◌}
 use Rattle.wb_tree.proofs.Reading.Steps.{then_nothing}
 use Rattle.wb_tree.proofs.Reading.LoaderSteps.{by_told}
-use Rattle.wb_dirty.specs.declared.child.Child.{Child}
+use Rattle.wb_dirty.specs.declared.children.Child.{Child}
 use Rattle.wb_dirty.specs.Reading.{Asked, Marks, MarksOutcome, each, is_among, bits_read, children_from, names_node, is_dirty_node, reached_also, node_read, dirty_top_read}
 use Rattle.wb_dirty.specs.Loading.{DirtyLoading, outcome_of, wanted_read, rest_read, left_read}
 use Rattle.wb_dirty.proofs.Steps.{each-none, each-append, then-same, rest_read-next, dirty_child_read-named, dirty_child_read-unnamed, same_node_read, node_read-none, node_read-other, node_read-leaf, node_read-inner}

@@ -18,7 +18,7 @@ use Rattle.wb_tree.specs.Images.{place_word}
 use Rattle.wb_tree.specs.Planning.{names}
 use Rattle.wb_tree.specs.Reading.{Nodes, ◌then◌}
 use Rattle.wb_tree.proofs.Nodes.Names.{AreApart, has, either_had, itself_had, had_left, had_right}
-use Rattle.wb_dirty.specs.declared.child.Child.{Child}
+use Rattle.wb_dirty.specs.declared.children.Child.{Child}
 use Rattle.wb_dirty.specs.declared.planning.DirtyPlan.{DirtyPlan}
 use Rattle.wb_dirty.specs.Reading.{Asked, Marks, MarksOutcome, each, is_among, bit_read, bits_read, children_from, names_node, is_dirty_node, node_read, dirty_top_read, none_dirty}
 use Rattle.wb_dirty.specs.Loading.{left_read}

@@ -12,9 +12,9 @@ use Rattle.wb_types.proofs.Truth.{and_true}
 use Rattle.wb_format.specs.declared.root.Root.{Root}
 use Rattle.wb_format.specs.declared.node.Node.{Node}
 use Rattle.wb_tree.specs.Reading.{Nodes, ◌then◌}
-use Rattle.wb_tree.proofs.Reading.Steps.{IsNaming, names_with-is, index_below}
+use Rattle.wb_tree.proofs.Reading.Steps.{IsNaming, names_with-is, index_below, same_read}
 use Rattle.wb_tree.specs.declared.placed.PlacedNode.{PlacedNode}
-use Rattle.wb_dirty.specs.declared.child.Child.{Child}
+use Rattle.wb_dirty.specs.declared.children.Child.{Child}
 use Rattle.wb_dirty.specs.Reading.{Asked, Marks, MarksOutcome, each, is_among, bits_read, children_from, names_node, dirty_child_read, is_dirty_node, reached_also, node_read}
 use Rattle.wb_dirty.specs.Loading.{left_read, rest_read}
 
@@ -87,9 +87,7 @@ index_first index level blocks h = index_below index level blocks (omega (arith,
 pub same_node_read : (asked : Asked) (nodes : Nodes) (level level' index index' : ℕ) (place place' : Place) (marks : Marks) → level ≡ level' → index ≡ index' → place.0 ≡ place'.0
     → node_read asked nodes level index place marks ≡ node_read asked nodes level' index' place' marks
 same_node_read asked nodes level level' index index' place place' marks a b c =
-    let made : ℕ → Place = λ n. record { 0 = n } in
-    let d : place ≡ place' = ap made c in
-    ap (λ l. node_read asked nodes l index place marks) a ∙ (ap (λ i. node_read asked nodes level' i place marks) b ∙ ap (λ p. node_read asked nodes level' index' p marks) d)
+    ap (λ read. read marks) (same_read (node_read asked nodes) level level' index index' place place' a b c)
 
 -- ---- a node, by its level
 

@@ -7,7 +7,7 @@ use Rattle.wb_format.specs.declared.root.Root.{Root}
 use Rattle.wb_tree.specs.Reading.{Nodes, ◌then◌}
 use Rattle.wb_tree.specs.Loading.{FailsBy}
 use Rattle.wb_tree.specs.declared.placed.PlacedNode.{PlacedNode}
-use Rattle.wb_dirty.specs.declared.child.Child.{Child}
+use Rattle.wb_dirty.specs.declared.children.Child.{Child}
 use Rattle.wb_dirty.specs.Reading.{Asked, Marks, MarksOutcome, each, dirty_child_read, node_read, is_among}
 
 -- a reading so far: what was read, the words whose children are still to be read, the next of them last, and the node that is

@@ -10,7 +10,7 @@ use Rattle.wb_bits.specs.BitWords.{is_member}
 use Rattle.wb_format.specs.declared.node.Node.{Node}
 use Rattle.wb_format.specs.declared.root.Root.{Root}
 use Rattle.wb_tree.specs.Reading.{Nodes, ◌then◌, is_one_at, names_with, is_wanted}
-use Rattle.wb_dirty.specs.declared.child.Child.{Child}
+use Rattle.wb_dirty.specs.declared.children.Child.{Child}
 
 -- what a reading goes by: a root, and of each cache block whether the mapping has an entry of it
 pub record Asked : Type 0 where

@@ -7,10 +7,20 @@ ghost use Rattle.wb_tree.specs.Loading.{FailsBy};
 ghost use Rattle.wb_dirty.specs.Reading.{Asked, Marks, children_from, names_node};
 ghost use Rattle.wb_dirty.specs.Loading.{IsLevelOfChild, MayReach, rest_read, wanted_read};
 
-use crate::child::Child;
 use wb_format::Root;
 use wb_tree::{PlacedNode, Reached};
 use wb_types::{Place, Refusal};
+
+/// A word of a node that is no leaf, and the node that it names: of level 1 or 2, and as which of its level, counted from 0.
+#[derive(Clone, Copy, Debug)]
+pub(crate) struct Child {
+    level: u32,
+    index: u64,
+    /// What the word says: the number of its place.
+    word: u64,
+    /// Where the node stands that has the word.
+    from: Place,
+}
 
 /// Puts the words of a node that name children on top of those whose children are still to be read, the first word last.
 pub(crate) fn put_children(

@@ -7,7 +7,6 @@
 #![tactic(auto)]
 
 mod bits;
-mod child;
 mod children;
 mod counting;
 mod image_loader;

@@ -10,8 +10,7 @@ ghost use Rattle.wb_dirty.specs.Reading.{Asked, Marks, is_dirty_node as is_right
 ghost use Rattle.wb_dirty.specs.Loading.{IsLevelOfChild, outcome_of, wanted_read, rest_read, MayReach, IsTold, FailsOnceTold};
 
 use crate::bits::take_bits;
-use crate::child::Child;
-use crate::children::{next_wanted, put_children};
+use crate::children::{Child, next_wanted, put_children};
 use std::alloc::Global;
 use std::marker::Model;
 use wb_bits::BitSet;

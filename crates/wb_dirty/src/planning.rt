@@ -14,7 +14,7 @@ ghost use Rattle.wb_dirty.specs.Planning.{has_dirty, dirty_below, dirty_names, I
 use std::alloc::Global;
 use wb_bits::BitSet;
 use wb_format::Node;
-use wb_tree::number_of;
+use wb_tree::{number_of, put_node};
 use wb_types::{Place, Refusal};
 
 /// The nodes of dirty bits that a clean image writes, in the order of an image, each with its place, and the place of their top;
@@ -99,19 +99,14 @@ fn plan_node(
         return Ok(None);
     }
     let words = plan_words(plan, level, index, nodes)?;
-    nodes.reserve(1)?;
-    let place = plan.free[nodes.len()];
-    nodes.push_reserved((
-        place,
-        Node {
-            generation: plan.generation,
-            dirty: true,
-            level,
-            index,
-            words,
-        },
-    ));
-    Ok(Some(place))
+    let node = Node {
+        generation: plan.generation,
+        dirty: true,
+        level,
+        index,
+        words,
+    };
+    Ok(Some(put_node(nodes, plan.free, node)?))
 }
 
 /// The words of a node: of a leaf the bits of its blocks, else the places of its children, which are added with all below them.
