@@ -1,10 +1,9 @@
 -- How many nodes a set of dirty blocks needs.
-use Rattle.std.proofs.Common.{◌≡◌, ◌≤◌, ◌<◌, ◌+◌, ◌-◌, ◌*◌, ◌^◌, ◌∙◌, sym, ap, refl, ℕ, zero, suc, Bool, true, List, [], ◌∷◌, ◌++◌, min, length, mul-le-mul_right, arith, inl, inr}
+use Rattle.std.proofs.Common.{◌≡◌, ◌≤◌, ◌<◌, ◌+◌, ◌-◌, ◌*◌, ◌^◌, ◌∙◌, sym, ap, refl, ℕ, zero, suc, Bool, true, List, [], ◌∷◌, ◌++◌, length, mul-le-mul_right, arith, inl, inr}
 use Rattle.std.proofs.lemmas.Bool.{cases_Bool}
-use Rattle.std.proofs.lemmas.Grind.{div_ceil_times}
 use Rattle.std.proofs.lemmas.List.{length-append}
-use Rattle.std.proofs.Math.Nat.{one-le-pow, lt_of_mul-lt-mul_right, add-mul, pow-succ', pow-le-pow_right}
-use Rattle.wb_types.specs.Limits.{dirty_depth_of, dirty_node_count, node_count, nodes_at, nodes_up_to, words_of_bits}
+use Rattle.std.proofs.Math.Nat.{one-le-pow, add-mul, pow-succ', pow-le-pow_right}
+use Rattle.wb_types.specs.Limits.{dirty_depth_of, dirty_node_count, node_count, nodes_at, words_of_bits}
 use Rattle.wb_tree.specs.Mapping.{NodeName, each_from}
 use Rattle.wb_tree.proofs.Nodes.Listing.{each_from-more}
 use Rattle.wb_tree.proofs.Nodes.Counting.{AreFew, before-most, index-counted, few_here, few_nowhere}

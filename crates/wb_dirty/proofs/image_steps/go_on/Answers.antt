@@ -5,7 +5,6 @@ use Rattle.wb_tree.specs.Loaded.{IsMappingOf, IsLoaded}
 use Rattle.wb_tree.specs.Reading.{Found, ReadOutcome}
 use Rattle.wb_tree.specs.declared.placed.PlacedNode.{PlacedNode}
 use Rattle.wb_dirty.specs.Reading.{Asked, dirty_read}
-use Rattle.wb_dirty.specs.ImageReading.{places_reached}
 use Rattle.wb_dirty.specs.ImageLoading.{found_in}
 use Rattle.wb_dirty.proofs.Images.{found-ahead, bits-begun, image-behind, front-begun, reached_alone, ends_fail}
 use Rattle.wb_dirty.proofs.image_steps.go_on.Goals as goal
