@@ -8,9 +8,10 @@ use Rattle.wb_types.proofs.Truth.{or_true, yes}
 use Rattle.wb_types.specs.declared.number.Place.{Place}
 use Rattle.wb_format.specs.declared.node.Node.{Node}
 use Rattle.wb_format.specs.declared.root.Root.{Root}
-use Rattle.wb_tree.specs.Reading.{Nodes}
-use Rattle.wb_dirty.specs.declared.child.Child.{Child}
-use Rattle.wb_dirty.specs.Reading.{Asked, Marks, MarksOutcome, ◌next◌, each, is_among, bit_read, bits_read, children_from, names_node, dirty_child_read, is_dirty_node, reached_also, dirty_words_read, node_read, dirty_top_read, slot_of_root, none_dirty, dirty_read}
+use Rattle.wb_tree.specs.Reading.{Nodes, ◌then◌}
+use Rattle.wb_tree.proofs.Reading.Steps.{then_ok}
+use Rattle.wb_dirty.specs.declared.children.Child.{Child}
+use Rattle.wb_dirty.specs.Reading.{Asked, Marks, MarksOutcome, each, is_among, bit_read, bits_read, children_from, names_node, dirty_child_read, is_dirty_node, reached_also, dirty_words_read, node_read, dirty_top_read, slot_of_root, none_dirty, dirty_read}
 use Rattle.wb_types.specs.Limits.{dirty_depth_of}
 use Rattle.wb_dirty.proofs.Steps.{each-none, each-first, names_node-is}
 use Rattle.wb_bits.specs.BitWords.{is_member}
@@ -55,17 +56,13 @@ more start a b other marks after leads place r = subst (λ (reached : List Place
 stays : (start : List Place) (a b : Nodes) (other : MarksOutcome) (marks after : Marks) → after.reached ≡ marks.reached → other ≡ Ok after → Leads start a b other marks after
 stays start a b other marks after same e = record { rest = []; grown = same ∙ sym (append-nil marks.reached); same = λ agree. e }
 
-next_parts : (reading : MarksOutcome) (go_on : Marks → MarksOutcome) (after : Marks) → (reading next go_on) ≡ Ok after → (marks : Marks) × (reading ≡ Ok marks) × (go_on marks ≡ Ok after)
-next_parts (Ok marks) go_on after e = (marks, refl, e)
-next_parts (Err place) go_on after e = absurd cc
-
 each_leading : {X : Type 0} (start : List Place) (a b : Nodes) (step other : X → Marks → MarksOutcome) → ((x : X) → Leading start a b (step x) (other x)) → (xs : List X) → Leading start a b (each step xs) (each other xs)
 each_leading start a b step other h [] marks after has e =
     let both : ◌≡◌ {A = MarksOutcome} (Ok marks) (Ok after) = sym (each-none step marks) ∙ e in
     let same : marks ≡ after = cc in
     stays start a b (each other [] marks) marks after (sym (ap (λ (m : Marks). m.reached) same)) (each-none other marks ∙ both)
 each_leading start a b step other h (x ∷ xs) marks after has e =
-    let w = next_parts (step x marks) (each step xs) after (sym (each-first step x xs marks) ∙ e) in
+    let w = then_ok (step x marks) (each step xs) after (sym (each-first step x xs marks) ∙ e) in
     let one = h x marks w.0 has w.1 in
     let rest = each_leading start a b step other h xs w.0 after (λ place s. more start a b (other x marks) marks w.0 one place (has place s)) w.2 in
     record {
@@ -73,7 +70,7 @@ each_leading start a b step other h (x ∷ xs) marks after has e =
       grown = rest.grown ∙ (ap (λ (reached : List Place). reached ++ rest.rest) one.grown ∙ append_assoc marks.reached one.rest rest.rest);
       same = λ agree.
           each-first other x xs marks
-          ∙ (ap (λ (reading : MarksOutcome). reading next each other xs) (one.same (λ place r s. agree place (more start a b (each other xs w.0) w.0 after rest place r) s)) ∙ rest.same agree);
+          ∙ (ap (λ (reading : MarksOutcome). reading then each other xs) (one.same (λ place r s. agree place (more start a b (each other xs w.0) w.0 after rest place r) s)) ∙ rest.same agree);
     }
 
 -- a bit reaches nothing

@@ -1,15 +1,14 @@
 -- What is read of an image depends on the places that it reaches alone.
-use Rattle.std.proofs.Common.{◌≡◌, ◌+◌, ◌∙◌, sym, ap, subst, refl, ℕ, List, [], ◌++◌, Option, Some, None, Ok, Err, length, map, drop, append-nil}
+use Rattle.std.proofs.Common.{◌≡◌, ◌∙◌, sym, ap, subst, refl, ℕ, List, [], ◌++◌, Option, Some, None, Ok, Err, length, map, drop, append-nil}
 use Rattle.std.proofs.Math.Seq.{drop-append_seam}
 use Rattle.std.proofs.lemmas.List.{length-map}
 use Rattle.wb_types.specs.declared.number.Place.{Place}
-use Rattle.wb_format.specs.declared.node.Node.{Node}
 use Rattle.wb_format.specs.declared.root.Root.{Root}
 use Rattle.wb_tree.specs.declared.placed.PlacedNode.{PlacedNode}
 use Rattle.wb_tree.specs.Reading.{Found, Nodes, ReadOutcome, ◌then◌, is_reached, tree_read}
 use Rattle.wb_tree.specs.Loading.{AgreeAt}
 use Rattle.wb_tree.proofs.Reading.Steps.{then_ok}
-use Rattle.wb_dirty.specs.Reading.{Asked, Marks, MarksOutcome, each, is_among, dirty_read}
+use Rattle.wb_dirty.specs.Reading.{Asked, Marks, MarksOutcome, is_among, dirty_read}
 use Rattle.wb_dirty.specs.Loading.{AgreeOn}
 use Rattle.wb_dirty.specs.ImageReading.{places_reached, asked_behind, found_with_bits, outcome_with, bits_behind, image_read}
 use Rattle.wb_dirty.proofs.Images.{reached-behind}

@@ -1,7 +1,6 @@
 -- A reading of an image that goes over from its mapping to its dirty bits, and goes on with these.
 use Rattle.std.proofs.Common.{◌≡◌, ◌+◌, ◌∙◌, sym, ap, subst, refl, ℕ, Bool, true, false, cond, nat_eq, List, [], ◌∷◌, ◌++◌, Option, Some, None, Ok, Err, IsSome, is_some, length, map, drop, append_assoc, append-nil, arith}
-use Rattle.std.specs.Prelude.{Result, IfSome, IfErr}
-use Rattle.std.specs.Result.{IsErrAnd}
+use Rattle.std.specs.Prelude.{Result, IfSome}
 use Rattle.std.proofs.Math.Seq.{drop-append_seam}
 use Rattle.std.proofs.lemmas.Bool.{ne_eqb}
 use Rattle.std.proofs.lemmas.Bool.Decides.{nat_tests}
@@ -20,7 +19,7 @@ use Rattle.wb_tree.specs.Loading.{Loading, outcome, wanted_place, IsFresh, Fails
 use Rattle.wb_tree.proofs.Reading.ReachedLemmas.{is_reached-push}
 use Rattle.wb_tree.proofs.Reading.LoaderSteps.{found_same}
 use Rattle.wb_dirty.specs.Reading.{Asked, MarksOutcome, is_among, dirty_read}
-use Rattle.wb_dirty.specs.Loading.{DirtyLoading, EndsBy, MayReach}
+use Rattle.wb_dirty.specs.Loading.{DirtyLoading, MayReach}
 use Rattle.wb_dirty.specs.ImageReading.{dirty_node, places_reached, asked_behind, found_with_bits, outcome_with, bits_behind}
 use Rattle.wb_dirty.specs.ImageLoading.{node_told, as_told, found_in, dirty_wanted, part_outcome, IsAhead, IsBehind}
 use Rattle.wb_dirty.specs.ImageLoading.PartRead.{OfMapping}
@@ -28,50 +27,33 @@ use Rattle.wb_dirty.proofs.MappingsFound.{found_as_told}
 
 -- ---- refusals
 
--- a refusal of the mapping is one of the image
+-- a refusal of one reading is one of a reading that fails where it does
+fails_alike : {X Y : Type 0} (refusal : Refusal) (one : Result X Place) (other : Result Y Place) → ((place : Place) → one ≡ Err place → other ≡ Err place) → FailsBy refusal one → FailsBy refusal other
+fails_alike {X} {Y} Range one other same fails = absurd fails
+fails_alike {X} {Y} Crosses one other same fails = absurd fails
+fails_alike {X} {Y} Busy one other same fails = absurd fails
+fails_alike {X} {Y} Defer one other same fails = absurd fails
+fails_alike {X} {Y} (Io device) one other same fails = absurd fails
+fails_alike {X} {Y} Failed one other same fails = absurd fails
+fails_alike {X} {Y} Memory one other same fails = tt
+fails_alike {X} {Y} Worn one other same fails = absurd fails
+fails_alike {X} {Y} Geometry one other same fails = absurd fails
+fails_alike {X} {Y} NotFormatted one other same fails = absurd fails
+fails_alike {X} {Y} (Damaged place) one other same fails = same place fails
+fails_alike {X} {Y} Mismatch one other same fails = absurd fails
+fails_alike {X} {Y} NotClean one other same fails = absurd fails
+fails_alike {X} {Y} BadMessage one other same fails = absurd fails
+fails_alike {X} {Y} WrongMode one other same fails = absurd fails
+fails_alike {X} {Y} BadTable one other same fails = absurd fails
+fails_alike {X} {Y} GenerationEnd one other same fails = absurd fails
+
+-- one of the mapping is one of the image
 pub fails_then : (refusal : Refusal) (reading : ReadOutcome) (go_on : Found → ReadOutcome) → FailsBy refusal reading → FailsBy refusal (reading then go_on)
-fails_then Range reading go_on fails = absurd fails
-fails_then Crosses reading go_on fails = absurd fails
-fails_then Busy reading go_on fails = absurd fails
-fails_then Defer reading go_on fails = absurd fails
-fails_then (Io device) reading go_on fails = absurd fails
-fails_then Failed reading go_on fails = absurd fails
-fails_then Memory reading go_on fails = tt
-fails_then Worn reading go_on fails = absurd fails
-fails_then Geometry reading go_on fails = absurd fails
-fails_then NotFormatted reading go_on fails = absurd fails
-fails_then (Damaged place) reading go_on fails = ap (λ (r : ReadOutcome). r then go_on) fails
-fails_then Mismatch reading go_on fails = absurd fails
-fails_then NotClean reading go_on fails = absurd fails
-fails_then BadMessage reading go_on fails = absurd fails
-fails_then WrongMode reading go_on fails = absurd fails
-fails_then BadTable reading go_on fails = absurd fails
-fails_then GenerationEnd reading go_on fails = absurd fails
+fails_then refusal reading go_on = fails_alike refusal reading (reading then go_on) (λ place e. ap (λ (r : ReadOutcome). r then go_on) e)
 
 -- and so is one of the dirty bits
-pub ends_fail : (refusal : Refusal) (mapping : Found) (reading : MarksOutcome) → EndsBy refusal reading → FailsBy refusal (outcome_with mapping reading)
-ends_fail Range mapping reading ends = absurd ends
-ends_fail Crosses mapping reading ends = absurd ends
-ends_fail Busy mapping reading ends = absurd ends
-ends_fail Defer mapping reading ends = absurd ends
-ends_fail (Io device) mapping reading ends = absurd ends
-ends_fail Failed mapping reading ends = absurd ends
-ends_fail Memory mapping reading ends = tt
-ends_fail Worn mapping reading ends = absurd ends
-ends_fail Geometry mapping reading ends = absurd ends
-ends_fail NotFormatted mapping reading ends = absurd ends
-ends_fail (Damaged place) mapping reading ends = ap (λ (r : MarksOutcome). outcome_with mapping r) ends
-ends_fail Mismatch mapping reading ends = absurd ends
-ends_fail NotClean mapping reading ends = absurd ends
-ends_fail BadMessage mapping reading ends = absurd ends
-ends_fail WrongMode mapping reading ends = absurd ends
-ends_fail BadTable mapping reading ends = absurd ends
-ends_fail GenerationEnd mapping reading ends = absurd ends
-
--- what holds of the refusal that a `?` hands on
-pub handed : {T E : Type 0} (r : Result T E) (refusal : E) (P : E → Type 0) → IsErrAnd r (λ e. e ≡ refusal) → P refusal → IfErr r P
-handed (Ok x) refusal P is h = tt
-handed (Err e) refusal P is h = subst P (sym is) h
+pub ends_fail : (refusal : Refusal) (mapping : Found) (reading : MarksOutcome) → FailsBy refusal reading → FailsBy refusal (outcome_with mapping reading)
+ends_fail refusal mapping reading = fails_alike refusal reading (outcome_with mapping reading) (λ place e. ap (λ (r : MarksOutcome). outcome_with mapping r) e)
 
 -- ---- what is wanted
 
@@ -202,6 +184,17 @@ front-begun nodes reached e =
 
 pub reached_alone : (nodes : List PlacedNode) (reached : List Place) → reached ≡ map (λ node. node.place) nodes → nodes ++ map dirty_node (drop (length nodes) reached) ≡ nodes
 reached_alone nodes reached e = ap (λ (ps : List Place). nodes ++ map dirty_node ps) (front_alone nodes reached e) ∙ append-nil nodes
+
+-- behind a mapping that was read, the places of its nodes were reached
+pub record AreBegun (root : Root) (l : Loading) (nodes : List PlacedNode) (tree : Mapping) (reached : List Place) : Type 0 where
+  pub found : l.found ≡ found_in root nodes tree
+  pub places : reached ≡ map (λ node. node.place) nodes
+
+pub bits-begun : (root : Root) (l : Loading) (nodes : List PlacedNode) (tree : Mapping) (reached : List Place) → IsAhead root l nodes → ((others : Nodes) → outcome l others ≡ Ok l.found) → tree.entries ≡ l.found.entries
+    → reached ≡ places_reached l.found → AreBegun root l nodes tree reached
+bits-begun root l nodes tree reached h ended entries places =
+    let same = found-ahead root l nodes tree h ended entries in
+    record { found = same; places = places ∙ ap (λ (f : Found). places_reached f) same }
 
 -- ---- dirty bits are read
 

@@ -1,39 +1,44 @@
 -- A reading that goes on with the node that is wanted.
-use Rattle.std.proofs.Common.{nat_eq, zero, suc, ◌≡◌, ◌≤◌, ◌-◌, ◌∙◌, sym, ap, subst, refl, ℕ, Bool, true, false, cond, List, [], ◌∷◌, ◌++◌, Option, Some, None, Ok, Err, reverse, arith}
+use Rattle.std.proofs.Common.{zero, suc, ◌≡◌, ◌≤◌, ◌-◌, ◌∙◌, sym, ap, subst, refl, ℕ, Bool, true, false, List, [], ◌∷◌, ◌++◌, Option, Some, None, Ok, Err, reverse, arith}
 use Rattle.std.specs.Prelude.{All}
 use Rattle.std.proofs.lemmas.List.Elements.{All-append}
 use Rattle.wb_types.specs.declared.number.Place.{Place}
-use Rattle.wb_types.specs.declared.refusal.Refusal.{Refusal}
-use Rattle.wb_types.specs.declared.refusal.Refusal.TheVariants.{Damaged}
 use Rattle.wb_format.specs.declared.node.Node.{Node}
 use Rattle.wb_tree.specs.declared.placed.PlacedNode.{PlacedNode}
-use Rattle.wb_tree.specs.Reading.{Nodes}
-use Rattle.wb_dirty.specs.declared.child.Child.{Child}
-use Rattle.wb_dirty.specs.Reading.{Asked, Marks, MarksOutcome, ◌next◌, each, is_among, bits_read, children_from, names_node, is_dirty_node, reached_also, node_read, dirty_top_read}
-use Rattle.wb_dirty.specs.Loading.{DirtyLoading, outcome_of, wanted_read, rest_read, left_read, EndsBy}
-use Rattle.wb_dirty.proofs.Steps.{each-none, each-append, next-same, next_ok, rest_read-next, dirty_child_read-named, dirty_child_read-unnamed, same_node_read, node_read-none, node_read-other, node_read-leaf, node_read-inner}
+use Rattle.wb_tree.specs.Reading.{Nodes, ◌then◌}
+use Rattle.wb_tree.proofs.Reading.Steps.{then_nothing}
+use Rattle.wb_tree.proofs.Reading.LoaderSteps.{by_told}
+use Rattle.wb_dirty.specs.declared.children.Child.{Child}
+use Rattle.wb_dirty.specs.Reading.{Asked, Marks, MarksOutcome, each, is_among, bits_read, children_from, names_node, is_dirty_node, reached_also, node_read, dirty_top_read}
+use Rattle.wb_dirty.specs.Loading.{DirtyLoading, outcome_of, wanted_read, rest_read, left_read}
+use Rattle.wb_dirty.proofs.Steps.{each-none, each-append, then-same, rest_read-next, dirty_child_read-named, dirty_child_read-unnamed, same_node_read, node_read-none, node_read-other, node_read-leaf, node_read-inner}
 
 -- the node that is wanted, and then what is left
 pub outcome-wanted : (l : DirtyLoading) (wanted : PlacedNode) (nodes : Nodes) → l.wanted ≡ Some wanted → outcome_of l nodes ≡ wanted_read l.asked nodes l.left (Some wanted) l.marks
 outcome-wanted l wanted nodes e = ap (λ (o : Option PlacedNode). wanted_read l.asked nodes l.left o l.marks) e
 
 rest_of : Asked → Nodes → List Child → MarksOutcome → MarksOutcome
-rest_of asked nodes left reading = reading next rest_read asked nodes left
+rest_of asked nodes left reading = reading then rest_read asked nodes left
 
 -- nothing, or another node, is spelled there
-pub outcome-none : (l : DirtyLoading) (wanted : PlacedNode) (nodes : Nodes) → l.wanted ≡ Some wanted → nodes wanted.place.0 ≡ None → outcome_of l nodes ≡ Err wanted.place
+outcome-none : (l : DirtyLoading) (wanted : PlacedNode) (nodes : Nodes) → l.wanted ≡ Some wanted → nodes wanted.place.0 ≡ None → outcome_of l nodes ≡ Err wanted.place
 unfolding rest_of
 outcome-none l wanted nodes e none = outcome-wanted l wanted nodes e ∙ ap (rest_of l.asked nodes l.left) (node_read-none l.asked nodes wanted.level wanted.index wanted.place l.marks none)
 
-pub outcome-other : (l : DirtyLoading) (wanted : PlacedNode) (nodes : Nodes) (node : Node) → l.wanted ≡ Some wanted → nodes wanted.place.0 ≡ Some node → is_dirty_node l.asked.root wanted.level wanted.index node ≡ false
+outcome-other : (l : DirtyLoading) (wanted : PlacedNode) (nodes : Nodes) (node : Node) → l.wanted ≡ Some wanted → nodes wanted.place.0 ≡ Some node → is_dirty_node l.asked.root wanted.level wanted.index node ≡ false
     → outcome_of l nodes ≡ Err wanted.place
 unfolding rest_of
 outcome-other l wanted nodes node e some wrong = outcome-wanted l wanted nodes e ∙ ap (rest_of l.asked nodes l.left) (node_read-other l.asked nodes wanted.level wanted.index wanted.place node l.marks some wrong)
 
+-- what is spelled there is not what is wanted
+pub outcome-wrong : (l : DirtyLoading) (wanted : PlacedNode) (nodes : Nodes) → l.wanted ≡ Some wanted → ((node : Node) → nodes wanted.place.0 ≡ Some node → is_dirty_node l.asked.root wanted.level wanted.index node ≡ false)
+    → outcome_of l nodes ≡ Err wanted.place
+outcome-wrong l wanted nodes e = by_told (nodes wanted.place.0) _ (outcome-none l wanted nodes e) (λ node some wrong. outcome-other l wanted nodes node e some wrong)
+
 -- a leaf that is wanted, with what its bits give
 pub rest-leaf : (asked : Asked) (nodes : Nodes) (left : List Child) (wanted : PlacedNode) (node : Node) (marks : Marks) (reading : MarksOutcome) → wanted.level ≡ 1 → nodes wanted.place.0 ≡ Some node
     → is_dirty_node asked.root wanted.level wanted.index node ≡ true → bits_read asked wanted.place wanted.index node.words (reached_also wanted.place marks) ≡ reading
-    → wanted_read asked nodes left (Some wanted) marks ≡ (reading next rest_read asked nodes left)
+    → wanted_read asked nodes left (Some wanted) marks ≡ (reading then rest_read asked nodes left)
 unfolding rest_of
 rest-leaf asked nodes left wanted node marks reading one some right read = ap (rest_of asked nodes left) (node_read-leaf asked nodes wanted node marks one some right ∙ read)
 
@@ -72,20 +77,6 @@ pub outcome-ended : (l : DirtyLoading) (nodes : Nodes) → l.wanted ≡ None →
 outcome-ended l nodes wanted left =
     ap (λ (o : Option PlacedNode). wanted_read l.asked nodes l.left o l.marks) wanted ∙ rest-none l.asked nodes l.left l.marks left
 
--- a refusal that names the place of the fault
-pub ends_there : (refusal : Refusal) (place : Place) (reading : MarksOutcome) → refusal ≡ Damaged place → reading ≡ Err place → EndsBy refusal reading
-ends_there refusal place reading e h = rw e h
-
--- one place more was reached
-step : (a b r s : Bool) → s ≡ cond b true r → cond a true s ≡ cond b true (cond a true r)
-step true true r s e = refl
-step true false r s e = refl
-step false b r s e = e
-
-pub is_among-push : (number : ℕ) (places : List Place) (place : Place) → is_among number (places ++ place ∷ []) ≡ cond (nat_eq place.0 number) true (is_among number places)
-is_among-push number [] place = refl
-is_among-push number (first ∷ places) place = step (nat_eq first.0 number) (nat_eq place.0 number) (is_among number places) (is_among number (places ++ place ∷ [])) (is_among-push number places place)
-
 -- ---- a node that is taken in
 
 -- a leaf
@@ -110,8 +101,8 @@ all_push {X} P xs ys x all here e = subst (All P) (sym e) (All-append P xs (x �
 -- what was told is one reading's
 pub top_wanted : (asked : Asked) (nodes : Nodes) (node : PlacedNode) (marks : Marks) → wanted_read asked nodes [] (Some node) marks ≡ node_read asked nodes node.level node.index node.place marks
 top_wanted asked nodes node marks =
-    next-same (node_read asked nodes node.level node.index node.place marks) (rest_read asked nodes []) (λ (m : Marks). Ok m) (λ m. rest-none asked nodes [] m refl)
-    ∙ next_ok (node_read asked nodes node.level node.index node.place marks)
+    then-same (node_read asked nodes node.level node.index node.place marks) (rest_read asked nodes []) (λ (m : Marks). Ok m) (λ m. rest-none asked nodes [] m refl)
+    ∙ then_nothing (node_read asked nodes node.level node.index node.place marks)
 
 pub all_none : {X : Type 0} (P : X → Type 0) → All P []
 all_none {X} P k d below = absurd (omega (arith, below))

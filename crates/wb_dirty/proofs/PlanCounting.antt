@@ -1,12 +1,12 @@
 -- How many nodes a set of dirty blocks needs.
-use Rattle.std.proofs.Common.{◌≡◌, ◌≤◌, ◌<◌, ◌+◌, ◌-◌, ◌*◌, ◌^◌, ◌∙◌, sym, ap, refl, ℕ, zero, suc, Bool, true, List, [], ◌∷◌, ◌++◌, min, length, mul-le-mul_right, arith, inl, inr}
+use Rattle.std.proofs.Common.{◌≡◌, ◌≤◌, ◌<◌, ◌+◌, ◌-◌, ◌*◌, ◌^◌, ◌∙◌, sym, ap, refl, ℕ, zero, suc, Bool, true, List, [], ◌∷◌, ◌++◌, length, mul-le-mul_right, arith, inl, inr}
 use Rattle.std.proofs.lemmas.Bool.{cases_Bool}
-use Rattle.std.proofs.lemmas.Grind.{div_ceil_times}
 use Rattle.std.proofs.lemmas.List.{length-append}
-use Rattle.std.proofs.Math.Nat.{one-le-pow, lt_of_mul-lt-mul_right, add-mul, pow-succ', pow-le-pow_right}
-use Rattle.wb_types.specs.Limits.{dirty_depth_of, dirty_node_count, node_count, nodes_at, nodes_up_to, words_of_bits}
+use Rattle.std.proofs.Math.Nat.{one-le-pow, add-mul, pow-succ', pow-le-pow_right}
+use Rattle.wb_types.specs.Limits.{dirty_depth_of, dirty_node_count, node_count, nodes_at, words_of_bits}
 use Rattle.wb_tree.specs.Mapping.{NodeName, each_from}
 use Rattle.wb_tree.proofs.Nodes.Listing.{each_from-more}
+use Rattle.wb_tree.proofs.Nodes.Counting.{AreFew, before-most, index-counted, few_here, few_nowhere}
 use Rattle.wb_dirty.specs.Planning.{has_dirty, dirty_below, dirty_names}
 use Rattle.wb_dirty.proofs.DirtyBits.{has_dirty-begins}
 use Rattle.wb_dirty.proofs.PlanSteps.{dirty_below-some, leaf_needs_none}
@@ -60,60 +60,20 @@ node-most dirty level index count from h =
 
 -- ---- at most
 
--- how many nodes of a level and below it stand before one of its nodes, where each of so many words has a dirty block
-earlier : ℕ → ℕ → ℕ → ℕ
-earlier zero words index = 0
-earlier (suc level) words index = earlier level words (32 * index) + min (nodes_at (suc level) words) index
-
-earlier-rises : (level words index later : ℕ) → index ≤ later → earlier level words index ≤ earlier level words later
-unfolding earlier
-earlier-rises zero words index later h = omega arith
-earlier-rises (suc level) words index later h = let below = earlier-rises level words (32 * index) (32 * later) (omega arith) in omega arith
-
-earlier-most : (level words index : ℕ) → earlier level words index ≤ nodes_up_to level words
-unfolding earlier nodes_up_to
-earlier-most zero words index = omega arith
-earlier-most (suc level) words index = let below = earlier-most level words (32 * index) in omega arith
-
 -- a node with a dirty block below it is one of those of its level
 one-of_level : (dirty : List Bool) (level index : ℕ) → has_dirty dirty level index ≡ true → index < nodes_at level (words_of_bits (length dirty))
-one-of_level dirty level index some =
-    let begins = has_dirty-begins dirty level index some in
-    let inside : index * 32 ^ level < words_of_bits (length dirty) = omega (arith, begins) in
-    let all = div_ceil_times (words_of_bits (length dirty)) (32 ^ level) (some_at level) in
-    let less : index * 32 ^ level < nodes_at level (words_of_bits (length dirty)) * 32 ^ level = omega (arith, all.0, inside) in
-    lt_of_mul-lt-mul_right (32 ^ level) less
+one-of_level dirty level index some = let begins = has_dirty-begins dirty level index some in index-counted level (words_of_bits (length dirty)) index (omega (arith, begins))
 
-each-few : (dirty : List Bool) (level words : ℕ) → ((index : ℕ) → length (dirty_below dirty level index) + earlier level words index ≤ earlier level words (index + 1))
-    → (count first : ℕ) → length (each_from (dirty_below dirty level) count first) + earlier level words first ≤ earlier level words (first + count)
-unfolding each_from
-each-few dirty level words each zero first = let e : first + zero ≡ first = omega arith in rw e (omega arith)
-each-few dirty level words each (suc count) first =
-    let here = each first in
-    let rest = each-few dirty level words each count (first + 1) in
-    let e : first + suc count ≡ first + 1 + count = omega arith in
-    rw e (omega (arith, here, rest, length-append (dirty_below dirty level first) (each_from (dirty_below dirty level) count (first + 1))))
-
-below-few : (dirty : List Bool) (level index : ℕ)
-    → length (dirty_below dirty level index) + earlier level (words_of_bits (length dirty)) index ≤ earlier level (words_of_bits (length dirty)) (index + 1)
-unfolding earlier dirty_below
-below-few dirty zero index = omega arith
+below-few : (dirty : List Bool) (level : ℕ) → AreFew (dirty_below dirty level) level (words_of_bits (length dirty))
+unfolding dirty_below
+below-few dirty zero index = few_nowhere zero (words_of_bits (length dirty)) index
 below-few dirty (suc level) index = elim (cases_Bool (has_dirty dirty (suc level) index)) [
-  | inl some ↦
-      let children : List NodeName = each_from (dirty_below dirty level) 32 (32 * index) in
-      let counted = one-of_level dirty (suc level) index some in
-      let each = each-few dirty level (words_of_bits (length dirty)) (below-few dirty level) 32 (32 * index) in
-      let last : 32 * index + 32 ≡ 32 * (index + 1) = omega arith in
-      let each' : length children + earlier level (words_of_bits (length dirty)) (32 * index) ≤ earlier level (words_of_bits (length dirty)) (32 * (index + 1)) = rw (← last) each in
-      let self : List NodeName = record { level = suc level; index = index } ∷ [] in
-      rw some (omega (arith, length-append children self, each', counted))
-  | inr none ↦
-      let below = earlier-rises level (words_of_bits (length dirty)) (32 * index) (32 * (index + 1)) (omega arith) in
-      rw none (omega (arith, below))
+  | inl some ↦ rw some (few_here (dirty_below dirty level) level (words_of_bits (length dirty)) index _ (below-few dirty level) (one-of_level dirty (suc level) index some))
+  | inr none ↦ rw none (few_nowhere (suc level) (words_of_bits (length dirty)) index)
 ]
 
 -- no more than where each leaf has a bit
 pub names-few : (dirty : List Bool) → length (dirty_names dirty) ≤ dirty_node_count (length dirty)
 unfolding dirty_node_count node_count dirty_depth_of
 names-few dirty =
-    omega (arith, below-few dirty (dirty_depth_of (length dirty)) 0, earlier-most (dirty_depth_of (length dirty)) (words_of_bits (length dirty)) (0 + 1))
+    omega (arith, below-few dirty (dirty_depth_of (length dirty)) 0, before-most (dirty_depth_of (length dirty)) (words_of_bits (length dirty)) (0 + 1))

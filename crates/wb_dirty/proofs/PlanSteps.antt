@@ -2,7 +2,7 @@
 use Rattle.std.proofs.Common.{◌≡◌, ◌≤◌, ◌<◌, ◌+◌, ◌-◌, ◌*◌, ◌∙◌, sym, ap, subst, refl, ℕ, zero, suc, Bool, true, false, List, [], ◌∷◌, ◌++◌, Option, Some, None, length, take, get_or, append_assoc, arith, inl, inr}
 use Rattle.std.specs.Prelude.{Contains, slice_get, slice_index}
 use Rattle.std.proofs.lemmas.Bool.{cond-true, cond-false}
-use Rattle.std.proofs.lemmas.List.{length-append, length-map, map-append, take_more, length_push, append-nil, get_or-map, length-take, get_or-take}
+use Rattle.std.proofs.lemmas.List.{length-append, length-map, map-append, append-nil, get_or-map, length-take, get_or-take}
 use Rattle.std.proofs.lemmas.List.Elements.{Contains-append_left, Contains-push, Contains-push_cases}
 use Rattle.std.proofs.lemmas.Option.{slice_get-get_or}
 use Rattle.wb_types.specs.declared.number.Place.{Place}
@@ -12,6 +12,7 @@ use Rattle.wb_tree.specs.Mapping.{NodeName, each_from}
 use Rattle.wb_tree.specs.Images.{name_of, place_word}
 use Rattle.wb_tree.specs.Planning.{names}
 use Rattle.wb_tree.proofs.Nodes.Listing.{each_from-split}
+use Rattle.wb_tree.proofs.Images.PlanSteps.{places-more}
 use Rattle.wb_dirty.specs.Planning.{has_dirty, dirty_below, StandsAt, IsPlaceIfNeeded, IsNamedBy, IsPlanned, ArePlanned, Continues}
 
 -- ---- the names
@@ -102,9 +103,6 @@ pub continues-both : (one two three : List (Place × Node)) → Continues one tw
 continues-both one two three a b =
     record { more = a.more ++ b.more; is = b.is ∙ (ap (λ (ns : List (Place × Node)). ns ++ b.more) a.is ∙ append_assoc one a.more b.more) }
 
-pub continues-same : (one two three : List (Place × Node)) → Continues one two → three ≡ two → Continues one three
-continues-same one two three a e = record { more = a.more; is = e ∙ a.is }
-
 pub continues-push : (nodes pushed : List (Place × Node)) (node : Place × Node) → pushed ≡ nodes ++ node ∷ [] → Continues nodes pushed
 continues-push nodes pushed node e = record { more = node ∷ []; is = e }
 
@@ -133,21 +131,15 @@ pub planned-none : (dirty : List Bool) (generation : ℕ) (free : List Place) (n
 planned-none dirty generation free nodes e = subst (λ ns. ArePlanned dirty generation free ns) (sym e) (record { places = refl; each = λ node there. absurd (omega (arith, there.1)) })
 
 -- one more, at the next of the free places
-pub planned-push : (dirty : List Bool) (generation : ℕ) (free : List Place) (nodes same pushed : List (Place × Node)) (node : Place × Node) (at : ℕ) (d : Place) → ArePlanned dirty generation free nodes → same ≡ nodes
-    → pushed ≡ same ++ node ∷ [] → at ≡ length nodes → at < length free → node.0 ≡ get_or free at d → IsPlanned dirty generation nodes node.1 → ArePlanned dirty generation free pushed
-planned-push dirty generation free nodes same pushed node at d h e f g inside place p =
-    let is : pushed ≡ nodes ++ node ∷ [] = f ∙ ap (λ (ns : List (Place × Node)). ns ++ node ∷ []) e in
-    let here : node.0 ≡ get_or free (length nodes) d = place ∙ ap (λ n. get_or free n d) g in
-    let room : length nodes < length free = omega arith in
+pub planned-push : (dirty : List Bool) (generation : ℕ) (free : List Place) (nodes pushed : List (Place × Node)) (node : Place × Node) → ArePlanned dirty generation free nodes → pushed ≡ nodes ++ node ∷ []
+    → length nodes < length free → slice_get free (length nodes) ≡ Some node.0 → IsPlanned dirty generation nodes node.1 → ArePlanned dirty generation free pushed
+planned-push dirty generation free nodes pushed node h is room there p =
+    let more = continues-push nodes (nodes ++ node ∷ []) node refl in
     subst (λ ns. ArePlanned dirty generation free ns) (sym is) (record {
-      places =
-          map-append (λ (n : Place × Node). n.0) nodes (node ∷ [])
-          ∙ (ap (λ (ps : List Place). ps ++ node.0 ∷ []) h.places
-          ∙ (ap (λ (p : Place). take (length nodes) free ++ p ∷ []) here
-          ∙ (sym (take_more free (length nodes) d room) ∙ ap (λ n. take n free) (sym (length_push nodes node)))));
-      each = λ other there. elim (Contains-push_cases nodes node other there) [
-        | inl old ↦ planned-more dirty generation nodes (nodes ++ node ∷ []) other.1 (continues-push nodes (nodes ++ node ∷ []) node refl) (h.each other old)
-        | inr new ↦ planned-more dirty generation nodes (nodes ++ node ∷ []) other.1 (continues-push nodes (nodes ++ node ∷ []) node refl) (subst (λ (n : Place × Node). IsPlanned dirty generation nodes n.1) new p)
+      places = places-more free nodes node h.places room there;
+      each = λ other at. elim (Contains-push_cases nodes node other at) [
+        | inl old ↦ planned-more dirty generation nodes (nodes ++ node ∷ []) other.1 more (h.each other old)
+        | inr new ↦ planned-more dirty generation nodes (nodes ++ node ∷ []) other.1 more (subst (λ (n : Place × Node). IsPlanned dirty generation nodes n.1) new p)
       ];
     })
 

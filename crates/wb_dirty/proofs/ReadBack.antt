@@ -16,17 +16,17 @@ use Rattle.wb_tree.specs.declared.placed.PlacedNode.{PlacedNode}
 use Rattle.wb_tree.specs.Mapping.{NodeName, each_from}
 use Rattle.wb_tree.specs.Images.{place_word}
 use Rattle.wb_tree.specs.Planning.{names}
-use Rattle.wb_tree.specs.Reading.{Nodes}
+use Rattle.wb_tree.specs.Reading.{Nodes, ◌then◌}
 use Rattle.wb_tree.proofs.Nodes.Names.{AreApart, has, either_had, itself_had, had_left, had_right}
-use Rattle.wb_dirty.specs.declared.child.Child.{Child}
+use Rattle.wb_dirty.specs.declared.children.Child.{Child}
 use Rattle.wb_dirty.specs.declared.planning.DirtyPlan.{DirtyPlan}
-use Rattle.wb_dirty.specs.Reading.{Asked, Marks, MarksOutcome, ◌next◌, each, is_among, bit_read, bits_read, children_from, names_node, is_dirty_node, node_read, dirty_top_read, none_dirty}
+use Rattle.wb_dirty.specs.Reading.{Asked, Marks, MarksOutcome, each, is_among, bit_read, bits_read, children_from, names_node, is_dirty_node, node_read, dirty_top_read, none_dirty}
 use Rattle.wb_dirty.specs.Loading.{left_read}
 use Rattle.wb_dirty.specs.Planning.{has_dirty, dirty_below, dirty_names, StandsAt, IsPlaceIfNeeded, IsNamedBy, IsPlanned, IsDirtyPlan}
 use Rattle.wb_dirty.specs.ReadBack.{MayBeRead, taken_places, IsStoredPlan, IsReadBack, PlanIsReadBack, TakenPlacesMayBeRead}
 use Rattle.wb_dirty.proofs.TakenBits.{marks_of}
 use Rattle.wb_dirty.proofs.Steps.{each-first, dirty_child_read-named, node_read-leaf, node_read-inner}
-use Rattle.wb_dirty.proofs.Loads.{is_among-push}
+use Rattle.wb_tree.proofs.Reading.ReachedLemmas.{is_one_at-push}
 use Rattle.wb_dirty.proofs.DirtyBits.{dirty_to, dirty_to-none, dirty_to-all, dirty_to-set, dirty_to-skip, dirty_to-skip_many, has_dirty-begins, has_dirty-none, depth-holds}
 use Rattle.wb_dirty.proofs.DirtyNames.{dirty_each-apart, dirty_open-apart, dirty_below-apart, apart-not_both, had_only, contained-had, stands-once, contained-place, place-once, is_among-append, contained-among, among-contained}
 use Rattle.wb_dirty.proofs.PlanSteps.{dirty_below-none, dirty_below-some, leaf_needs_none, length-names}
@@ -86,11 +86,11 @@ one_right : (all : List (Place × Node)) (xs ys : List NodeName) (number : ℕ) 
 one_right all xs ys number o = record { level = o.level; index = o.index; place = o.place; had = had_right xs ys o.level o.index o.had; stands = o.stands; is = o.is }
 
 read-then : (dirty : List Bool) (all : List (Place × Node)) (xs ys : List NodeName) (reached : List Place) (middle to : ℕ) (first : MarksOutcome) (rest : Marks → MarksOutcome)
-    → (one : IsRead dirty all xs reached middle first) → IsRead dirty all ys (reached ++ one.places) to (rest (marks_of (reached ++ one.places) (dirty_to middle dirty))) → IsRead dirty all (xs ++ ys) reached to (first next rest)
+    → (one : IsRead dirty all xs reached middle first) → IsRead dirty all ys (reached ++ one.places) to (rest (marks_of (reached ++ one.places) (dirty_to middle dirty))) → IsRead dirty all (xs ++ ys) reached to (first then rest)
 read-then dirty all xs ys reached middle to first rest one two = record {
   places = one.places ++ two.places;
   read =
-      ap (λ (o : MarksOutcome). o next rest) one.read
+      ap (λ (o : MarksOutcome). o then rest) one.read
       ∙ (two.read ∙ ap (λ (ps : List Place). Ok (marks_of ps (dirty_to to dirty))) (append_assoc reached one.places two.places));
   among = λ number h. elim (either_true (is_among number one.places) (is_among number two.places) (sym (is_among-append number one.places two.places) ∙ h)) [
     | inl a ↦ one_left all xs ys number (one.among number a)
@@ -130,7 +130,7 @@ bits-taken asked here index words reached dirty bits entries (suc count) k block
     let one : bit_read asked here (2048 * index + k) (is_member words k) (marks_of reached (dirty_to block dirty)) ≡ Ok (marks_of reached (dirty_to (suc block) dirty)) =
     subst (λ n. bit_read asked here n (is_member words k) (marks_of reached (dirty_to block dirty)) ≡ Ok (marks_of reached (dirty_to (suc block) dirty))) e
     (bit-taken asked here block (is_member words k) reached dirty (bits k (omega (arith, room)) ∙ ap (λ n. get_or dirty n false) (sym e)) entries) in
-    ap (λ (o : MarksOutcome). o next each (λ j. bit_read asked here (2048 * index + j) (is_member words j)) (range_with_len (k + 1) count)) one
+    ap (λ (o : MarksOutcome). o then each (λ j. bit_read asked here (2048 * index + j) (is_member words j)) (range_with_len (k + 1) count)) one
     ∙ (bits-taken asked here index words reached dirty bits entries count (k + 1) (suc block) (omega (arith, e)) (omega (arith, room)) ∙ ap (λ n. Ok (marks_of reached (dirty_to n dirty))) (omega arith))
 
 all_four : (a b c d : Bool) → a ≡ true → b ≡ true → c ≡ true → d ≡ true → (a && b && c && d) ≡ true
@@ -171,7 +171,7 @@ fresh-below : (asked : Asked) (nodes : Nodes) (dirty : List Bool) (generation : 
     → Fresh all children (reached ++ here ∷ [])
 unfolding Fresh
 fresh-below asked nodes dirty generation all level index here children reached r s apart fresh = λ l i place h t.
-    is_among-push place.0 reached here
+    is_one_at-push (λ (p : Place). p) place.0 reached here
     ∙ (rw (
       fresh l i place (had_left children (record { level = level; index = index } ∷ []) l i h) t,
       false_from_ne_true (here.0 == place.0) (λ e.
@@ -275,7 +275,7 @@ child-next asked nodes dirty generation all level index here words count j i (So
     let named : slice_index words j ≢ 0 = λ z. absurd (omega (arith, low, z, word)) in
     let to : 64 * ((i + 1 + count) * 32 ^ level) ≡ 64 * ((i + suc count) * 32 ^ level) = ap (λ n. 64 * (n * 32 ^ level)) (omega arith) in
     read-as dirty all (dirty_below dirty level i ++ each_from (dirty_below dirty level) count (i + 1)) (dirty_below dirty level i ++ each_from (dirty_below dirty level) count (i + 1)) reached _ _ _ _ refl to
-    (ap (λ (o : MarksOutcome). o next each (left_read asked nodes) (children_from count level index here words (j + 1))) first
+    (ap (λ (o : MarksOutcome). o then each (left_read asked nodes) (children_from count level index here words (j + 1))) first
     ∙ (sym (each-first (left_read asked nodes) (made (32 * index + j) (slice_index words j)) (children_from count level index here words (j + 1)) marks)
     ∙ ap (λ (cs : List Child). each (left_read asked nodes) cs marks) (sym (children-take count level index here words j named))))
     (read-then dirty all (dirty_below dirty level i) (each_from (dirty_below dirty level) count (i + 1)) reached (64 * ((i + 1) * 32 ^ level)) (64 * ((i + 1 + count) * 32 ^ level)) (node_read asked nodes level i place marks)

@@ -1,20 +1,18 @@
 -- Steps of a reading of dirty bits, one after the other, and a node that is read, by its level.
-use Rattle.std.proofs.Common.{◌≡◌, ◌≢◌, ◌≤◌, ◌<◌, ◌+◌, ◌-◌, ◌*◌, ◌^◌, ◌∙◌, ◌&&◌, sym, ap, subst, refl, ℕ, zero, suc, Bool, true, false, not, nat_eq, ltb, leb, List, [], ◌∷◌, ◌++◌, reverse, Some, None, Ok, Err, arith, slice_index, add-one}
+use Rattle.std.proofs.Common.{◌≡◌, ◌≢◌, ◌≤◌, ◌<◌, ◌+◌, ◌-◌, ◌*◌, ◌^◌, ◌∙◌, sym, ap, subst, refl, ℕ, zero, suc, Bool, true, false, nat_eq, ltb, List, [], ◌∷◌, ◌++◌, reverse, Some, None, Ok, Err, arith, slice_index, add-one}
 use Rattle.std.specs.Prelude.{if◌then◌else◌}
 use Rattle.std.specs.List.{AllByRecursion}
-use Rattle.std.proofs.lemmas.Bool.{ne_eqb, not-true, le-ltb}
-use Rattle.std.proofs.lemmas.Grind.{common_steps}
+use Rattle.std.proofs.lemmas.Bool.{ne_eqb, le-ltb}
 use Rattle.std.proofs.lemmas.List.{reverse-append}
-use borrow.Author.Tests.{ltb-true}
 use Rattle.std.proofs.Math.Nat.{one-le-pow, mul-le-mul_left}
 use Rattle.wb_types.specs.declared.number.Place.{Place}
-use Rattle.wb_types.proofs.Truth.{and_true}
 use Rattle.wb_format.specs.declared.root.Root.{Root}
 use Rattle.wb_format.specs.declared.node.Node.{Node}
-use Rattle.wb_tree.specs.Reading.{Nodes}
+use Rattle.wb_tree.specs.Reading.{Nodes, ◌then◌}
+use Rattle.wb_tree.proofs.Reading.Steps.{IsNaming, names_with-is, index_below, same_read}
 use Rattle.wb_tree.specs.declared.placed.PlacedNode.{PlacedNode}
-use Rattle.wb_dirty.specs.declared.child.Child.{Child}
-use Rattle.wb_dirty.specs.Reading.{Asked, Marks, MarksOutcome, ◌next◌, each, is_among, bits_read, children_from, names_node, dirty_child_read, is_dirty_node, reached_also, node_read}
+use Rattle.wb_dirty.specs.declared.children.Child.{Child}
+use Rattle.wb_dirty.specs.Reading.{Asked, Marks, MarksOutcome, each, is_among, bits_read, children_from, names_node, dirty_child_read, is_dirty_node, reached_also, node_read}
 use Rattle.wb_dirty.specs.Loading.{left_read, rest_read}
 
 -- ---- one after the other
@@ -23,28 +21,24 @@ pub each-none : {X : Type 0} (step : X → Marks → MarksOutcome) (marks : Mark
 unfolding each
 each-none {X} step marks = refl
 
-pub each-first : {X : Type 0} (step : X → Marks → MarksOutcome) (x : X) (xs : List X) (marks : Marks) → each step (x ∷ xs) marks ≡ (step x marks next each step xs)
+pub each-first : {X : Type 0} (step : X → Marks → MarksOutcome) (x : X) (xs : List X) (marks : Marks) → each step (x ∷ xs) marks ≡ (step x marks then each step xs)
 unfolding each
 each-first {X} step x xs marks = refl
 
-next-next : (a : MarksOutcome) (f g : Marks → MarksOutcome) → ((a next f) next g) ≡ (a next (λ m. f m next g))
-next-next (Ok marks) f g = refl
-next-next (Err place) f g = refl
+then-then : (a : MarksOutcome) (f g : Marks → MarksOutcome) → ((a then f) then g) ≡ (a then (λ m. f m then g))
+then-then (Ok marks) f g = refl
+then-then (Err place) f g = refl
 
-pub next-same : (a : MarksOutcome) (f g : Marks → MarksOutcome) → ((m : Marks) → f m ≡ g m) → (a next f) ≡ (a next g)
-next-same (Ok marks) f g same = same marks
-next-same (Err place) f g same = refl
+pub then-same : (a : MarksOutcome) (f g : Marks → MarksOutcome) → ((m : Marks) → f m ≡ g m) → (a then f) ≡ (a then g)
+then-same (Ok marks) f g same = same marks
+then-same (Err place) f g same = refl
 
-pub next_ok : (a : MarksOutcome) → (a next (λ marks. Ok marks)) ≡ a
-next_ok (Ok marks) = refl
-next_ok (Err place) = refl
-
-pub each-append : {X : Type 0} (step : X → Marks → MarksOutcome) (xs ys : List X) (marks : Marks) → each step (xs ++ ys) marks ≡ (each step xs marks next each step ys)
+pub each-append : {X : Type 0} (step : X → Marks → MarksOutcome) (xs ys : List X) (marks : Marks) → each step (xs ++ ys) marks ≡ (each step xs marks then each step ys)
 unfolding each
 each-append {X} step [] ys marks = refl
 each-append {X} step (x ∷ xs) ys marks =
-    next-same (step x marks) (each step (xs ++ ys)) (λ m. each step xs m next each step ys) (each-append step xs ys)
-    ∙ sym (next-next (step x marks) (each step xs) (each step ys))
+    then-same (step x marks) (each step (xs ++ ys)) (λ m. each step xs m then each step ys) (each-append step xs ys)
+    ∙ sym (then-then (step x marks) (each step xs) (each step ys))
 
 -- ---- children
 
@@ -67,8 +61,8 @@ pub children-left : (asked : Asked) (nodes : Nodes) (level : ℕ) (children : Li
 unfolding each
 children-left asked nodes level [] marks all = refl
 children-left asked nodes level (child ∷ children) marks all =
-    ap (λ l. dirty_child_read asked.root (node_read asked nodes l) child marks next each (dirty_child_read asked.root (node_read asked nodes level)) children) (sym all.0)
-    ∙ next-same (left_read asked nodes child marks) (each (dirty_child_read asked.root (node_read asked nodes level)) children) (each (left_read asked nodes) children)
+    ap (λ l. dirty_child_read asked.root (node_read asked nodes l) child marks then each (dirty_child_read asked.root (node_read asked nodes level)) children) (sym all.0)
+    ∙ then-same (left_read asked nodes child marks) (each (dirty_child_read asked.root (node_read asked nodes level)) children) (each (left_read asked nodes) children)
     (λ m. children-left asked nodes level children m all.1)
 
 pub dirty_child_read-named : (root : Root) (read : ℕ → Place → Marks → MarksOutcome) (child : Child) (marks : Marks) → names_node root marks.reached child ≡ true
@@ -79,38 +73,18 @@ pub dirty_child_read-unnamed : (root : Root) (read : ℕ → Place → Marks →
     → dirty_child_read root read child marks ≡ Err child.from
 dirty_child_read-unnamed root read child marks e = rw e refl
 
--- what the test of a child means
-pub record IsNamed (root : Root) (reached : List Place) (child : Child) : Type 0 where
-  pub behind : 2 ≤ child.word
-  pub inside : child.word < root.geometry.meta_sectors
-  pub unread : is_among child.word reached ≡ false
-  pub below : 64 * (child.index * 32 ^ child.level) < root.geometry.cache_blocks
-
-pub names_node-is : (root : Root) (reached : List Place) (child : Child) → names_node root reached child ≡ true → IsNamed root reached child
-names_node-is root reached child h =
-    let a = and_true (leb 2 child.word && ltb child.word root.geometry.meta_sectors && not (is_among child.word reached)) (ltb (64 * (child.index * 32 ^ child.level)) root.geometry.cache_blocks) h in
-    let b = and_true (leb 2 child.word && ltb child.word root.geometry.meta_sectors) (not (is_among child.word reached)) a.0 in
-    let d = and_true (leb 2 child.word) (ltb child.word root.geometry.meta_sectors) b.0 in
-    record {
-      behind = grind (arith, common_steps);
-      inside = ltb-true _ _ d.1;
-      unread = not-true (is_among child.word reached) b.1;
-      below = ltb-true _ _ a.1;
-    }
+pub names_node-is : (root : Root) (reached : List Place) (child : Child) → names_node root reached child ≡ true
+    → IsNaming root (is_among child.word reached) child.word (64 * (child.index * 32 ^ child.level))
+names_node-is root reached child h = names_with-is root (is_among child.word reached) child.word (64 * (child.index * 32 ^ child.level)) h
 
 -- a node has no more nodes before it than there are cache blocks
 pub index_first : (index level blocks : ℕ) → 64 * (index * 32 ^ level) < blocks → index < blocks
-index_first index level blocks h =
-    let some : 1 ≤ 32 ^ level = one-le-pow level 32 (omega arith) in
-    let more : index * 1 ≤ index * 32 ^ level = mul-le-mul_left index some in
-    omega arith
+index_first index level blocks h = index_below index level blocks (omega (arith, h))
 
 pub same_node_read : (asked : Asked) (nodes : Nodes) (level level' index index' : ℕ) (place place' : Place) (marks : Marks) → level ≡ level' → index ≡ index' → place.0 ≡ place'.0
     → node_read asked nodes level index place marks ≡ node_read asked nodes level' index' place' marks
 same_node_read asked nodes level level' index index' place place' marks a b c =
-    let made : ℕ → Place = λ n. record { 0 = n } in
-    let d : place ≡ place' = ap made c in
-    ap (λ l. node_read asked nodes l index place marks) a ∙ (ap (λ i. node_read asked nodes level' i place marks) b ∙ ap (λ p. node_read asked nodes level' index' p marks) d)
+    ap (λ read. read marks) (same_read (node_read asked nodes) level level' index index' place place' a b c)
 
 -- ---- a node, by its level
 
@@ -161,7 +135,7 @@ node_read-inner asked nodes inner node marks two e right =
 
 -- the next child, and then the others
 pub rest_read-next : (asked : Asked) (nodes : Nodes) (items rest : List Child) (child : Child) (marks : Marks) → items ≡ rest ++ child ∷ []
-    → rest_read asked nodes items marks ≡ (left_read asked nodes child marks next rest_read asked nodes rest)
+    → rest_read asked nodes items marks ≡ (left_read asked nodes child marks then rest_read asked nodes rest)
 unfolding each
 rest_read-next asked nodes items rest child marks e = ap (λ (xs : List Child). each (left_read asked nodes) xs marks) (ap (λ (xs : List Child). reverse xs) e ∙ reverse-append rest (child ∷ []))
 

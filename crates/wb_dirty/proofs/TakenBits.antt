@@ -7,7 +7,8 @@ use Rattle.wb_types.specs.declared.number.Place.{Place}
 use Rattle.wb_format.specs.declared.root.Root.{Root}
 use Rattle.wb_bits.specs.BitWords.{is_member}
 use Rattle.wb_tree.specs.declared.placed.PlacedNode.{PlacedNode}
-use Rattle.wb_dirty.specs.Reading.{Asked, Marks, MarksOutcome, ◌next◌, each, bit_read, bits_read}
+use Rattle.wb_tree.specs.Reading.{◌then◌}
+use Rattle.wb_dirty.specs.Reading.{Asked, Marks, MarksOutcome, each, bit_read, bits_read}
 use Rattle.wb_dirty.proofs.Steps.{each-first, each-none}
 
 abbrev pub asked_of : Root → List Bool → Asked
@@ -31,7 +32,7 @@ pub record IsTaken (mapped : List Bool) (leaf : PlacedNode) (words : List ℕ) (
 -- the next bit
 next_bit : (root : Root) (mapped : List Bool) (leaf : PlacedNode) (words : List ℕ) (k : ℕ) (marks : Marks) → k < 2048
     → each (bit_step root mapped leaf words) (range_with_len k (2048 - k)) marks
-    ≡ (bit_step root mapped leaf words k marks next each (bit_step root mapped leaf words) (range_with_len (k + 1) (2048 - (k + 1))))
+    ≡ (bit_step root mapped leaf words k marks then each (bit_step root mapped leaf words) (range_with_len (k + 1) (2048 - (k + 1))))
 next_bit root mapped leaf words k marks below =
     let e : 2048 - k ≡ suc (2048 - (k + 1)) = omega arith in
     ap (λ n. each (bit_step root mapped leaf words) (range_with_len k n) marks) e
@@ -60,7 +61,7 @@ taken-set mapped leaf words dirty₀ dirty k block dirty' h below set here there
       let now' : slice_set dirty (2048 * leaf.index + k) true ≡ dirty' = ap (λ b. slice_set dirty b true) (sym here) ∙ sym now in
       h.taken root reached
       ∙ (next_bit root mapped leaf words k (marks_of reached dirty) below
-      ∙ (ap (λ (o : MarksOutcome). o next each (bit_step root mapped leaf words) (range_with_len (k + 1) (2048 - (k + 1))))
+      ∙ (ap (λ (o : MarksOutcome). o then each (bit_step root mapped leaf words) (range_with_len (k + 1) (2048 - (k + 1))))
       (bit-set (asked_of root mapped) leaf.place (2048 * leaf.index + k) (is_member words k) (marks_of reached dirty) set there')
       ∙ ap (λ (d : List Bool). each (bit_step root mapped leaf words) (range_with_len (k + 1) (2048 - (k + 1))) (marks_of reached d)) now'));
 }
@@ -73,7 +74,7 @@ taken-clear mapped leaf words dirty₀ dirty k dirty' h below clear now = record
   taken = λ root reached.
       h.taken root reached
       ∙ (next_bit root mapped leaf words k (marks_of reached dirty) below
-      ∙ (ap (λ (o : MarksOutcome). o next each (bit_step root mapped leaf words) (range_with_len (k + 1) (2048 - (k + 1))))
+      ∙ (ap (λ (o : MarksOutcome). o then each (bit_step root mapped leaf words) (range_with_len (k + 1) (2048 - (k + 1))))
       (bit-clear (asked_of root mapped) leaf.place (2048 * leaf.index + k) (is_member words k) (marks_of reached dirty) clear)
       ∙ ap (λ (d : List Bool). each (bit_step root mapped leaf words) (range_with_len (k + 1) (2048 - (k + 1))) (marks_of reached d)) (sym now)));
 }
@@ -85,7 +86,7 @@ taken-fault mapped leaf words dirty₀ dirty k block h below set here none root 
     let none' : get_or mapped (2048 * leaf.index + k) false ≡ false = subst (λ b. get_or mapped b false ≡ false) here none in
     h.taken root reached
     ∙ (next_bit root mapped leaf words k (marks_of reached dirty) below
-    ∙ ap (λ (o : MarksOutcome). o next each (bit_step root mapped leaf words) (range_with_len (k + 1) (2048 - (k + 1))))
+    ∙ ap (λ (o : MarksOutcome). o then each (bit_step root mapped leaf words) (range_with_len (k + 1) (2048 - (k + 1))))
     (bit-fault (asked_of root mapped) leaf.place (2048 * leaf.index + k) (is_member words k) (marks_of reached dirty) set none'))
 
 -- all bits were read

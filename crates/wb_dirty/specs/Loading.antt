@@ -1,14 +1,14 @@
 -- A reading of dirty bits that has come to some node, and what is left of it.
-use Rattle.std.specs.Prelude.{◌≡◌, ◌≤◌, ◌<◌, ℕ, true, false, Option, Some, None, Err, List, [], ◌∷◌, ◌++◌, All, length, reverse}
+use Rattle.std.specs.Prelude.{◌≡◌, ◌≤◌, ◌<◌, ℕ, true, false, Option, Some, None, IsSome, List, [], ◌∷◌, ◌++◌, All, length, reverse}
 use Rattle.wb_types.specs.declared.number.Place.{Place}
 use Rattle.wb_types.specs.declared.refusal.Refusal.{Refusal}
-use Rattle.wb_types.specs.declared.refusal.Refusal.TheVariants.{Memory, Damaged}
 use Rattle.wb_format.specs.declared.node.Node.{Node}
 use Rattle.wb_format.specs.declared.root.Root.{Root}
-use Rattle.wb_tree.specs.Reading.{Nodes}
+use Rattle.wb_tree.specs.Reading.{Nodes, ◌then◌}
+use Rattle.wb_tree.specs.Loading.{FailsBy}
 use Rattle.wb_tree.specs.declared.placed.PlacedNode.{PlacedNode}
-use Rattle.wb_dirty.specs.declared.child.Child.{Child}
-use Rattle.wb_dirty.specs.Reading.{Asked, Marks, MarksOutcome, ◌next◌, each, dirty_child_read, node_read, is_among}
+use Rattle.wb_dirty.specs.declared.children.Child.{Child}
+use Rattle.wb_dirty.specs.Reading.{Asked, Marks, MarksOutcome, each, dirty_child_read, node_read, is_among}
 
 -- a reading so far: what was read, the words whose children are still to be read, the next of them last, and the node that is
 -- to be read first
@@ -34,16 +34,11 @@ rest_read asked nodes left marks = each (left_read asked nodes) (reverse left) m
 -- a node, and then what is left
 abbrev pub wanted_read : Asked → Nodes → List Child → Option PlacedNode → Marks → MarksOutcome
 wanted_read asked nodes left None marks = rest_read asked nodes left marks
-wanted_read asked nodes left (Some node) marks = node_read asked nodes node.level node.index node.place marks next rest_read asked nodes left
+wanted_read asked nodes left (Some node) marks = node_read asked nodes node.level node.index node.place marks then rest_read asked nodes left
 
 -- what the whole reading gives, over sectors that read as these nodes
 abbrev pub outcome_of : DirtyLoading → Nodes → MarksOutcome
 outcome_of l nodes = wanted_read l.asked nodes l.left l.wanted l.marks
-
--- the place of a node that is wanted
-abbrev pub place_wanted : Option PlacedNode → Option Place
-place_wanted None = None
-place_wanted (Some node) = Some node.place
 
 -- a place that may be read: behind the slots, on the device, and not read before
 pub record MayReach (root : Root) (reached : List Place) (place : Place) : Type 0 where
@@ -51,27 +46,21 @@ pub record MayReach (root : Root) (reached : List Place) (place : Place) : Type 
   pub inside : place.0 < root.geometry.meta_sectors
   pub unread : is_among place.0 reached ≡ false
 
--- a refusal of want of memory says nothing of a reading, one of damage names its first fault, and no other comes
-abbrev pub EndsBy : Refusal → MarksOutcome → Type 0
-EndsBy Memory reading = Unit {0}
-EndsBy (Damaged place) reading = reading ≡ Err place
-EndsBy _ reading = ⊥
-
 -- the same is read at the places that were reached
 abbrev pub AgreeOn : List Place → Nodes → Nodes → Type 0
 AgreeOn reached nodes others = (place : ℕ) → is_among place reached ≡ true → nodes place ≡ others place
 
--- told what the sector of the wanted node reads as, a reading goes on so: what is left gives what it gave before
-abbrev pub GoesOnBy : DirtyLoading → Option Node → DirtyLoading → Type 0
-GoesOnBy l node after = (wanted : PlacedNode) (nodes : Nodes) → l.wanted ≡ Some wanted → nodes wanted.place.0 ≡ node → outcome_of after nodes ≡ outcome_of l nodes
+-- Told what the sector of the wanted node reads as, a reading goes on so: what is left gives what it gave before, and the place of
+-- the node was reached. Where none is wanted it stays as it is.
+pub record IsTold (l : DirtyLoading) (node : Option Node) (after : DirtyLoading) : Type 0 where
+  pub goes_on : (wanted : PlacedNode) (nodes : Nodes) → l.wanted ≡ Some wanted → nodes wanted.place.0 ≡ node → outcome_of after nodes ≡ outcome_of l nodes
+  pub reached : (wanted : PlacedNode) → l.wanted ≡ Some wanted → after.marks.reached ≡ l.marks.reached ++ wanted.place ∷ []
+  pub asked : after.asked ≡ l.asked
+  pub idle : l.wanted ≡ None → after ≡ l
 
--- and its place was reached
-abbrev pub ReachedWanted : DirtyLoading → DirtyLoading → Type 0
-ReachedWanted l after = (wanted : PlacedNode) → l.wanted ≡ Some wanted → after.marks.reached ≡ l.marks.reached ++ wanted.place ∷ []
-
--- or it fails so
+-- or it fails so, where a node is wanted
 abbrev pub FailsOnceTold : DirtyLoading → Option Node → Refusal → Type 0
-FailsOnceTold l node refusal = (wanted : PlacedNode) (nodes : Nodes) → l.wanted ≡ Some wanted → nodes wanted.place.0 ≡ node → EndsBy refusal (outcome_of l nodes)
+FailsOnceTold l node refusal = IsSome l.wanted × ((wanted : PlacedNode) (nodes : Nodes) → l.wanted ≡ Some wanted → nodes wanted.place.0 ≡ node → FailsBy refusal (outcome_of l nodes))
 
 -- What holds of every reading: it has ended where no node is wanted, it has a mark for each cache block, a node that is wanted has
 -- a level of the tree and a place that may be read.

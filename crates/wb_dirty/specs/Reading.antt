@@ -2,15 +2,15 @@
 --
 -- It is read behind the mapping, and as a mapping is: of a node its text, level, index and generation first, then its words in
 -- rising order, with the whole child of a word before the next word. No place is reached twice over both trees.
-use Rattle.std.specs.Prelude.{◌+◌, ◌*◌, ◌%◌, ◌^◌, ◌&&◌, ◌==◌, ℕ, zero, suc, Bool, true, false, not, nat_lt, nat_le, if◌then◌else◌, Option, Some, None, Result, Ok, Err, List, [], ◌∷◌, ◌++◌, get_or, slice_index, slice_set, length, replicate}
+use Rattle.std.specs.Prelude.{◌+◌, ◌*◌, ◌%◌, ◌^◌, ◌==◌, ℕ, zero, suc, Bool, true, false, if◌then◌else◌, Option, Some, None, Result, Ok, Err, List, [], ◌∷◌, ◌++◌, get_or, slice_index, slice_set, length, replicate}
 use Rattle.std.specs.List.{range_with_len}
 use Rattle.wb_types.specs.declared.number.Place.{Place}
 use Rattle.wb_types.specs.Limits.{dirty_depth_of}
 use Rattle.wb_bits.specs.BitWords.{is_member}
 use Rattle.wb_format.specs.declared.node.Node.{Node}
 use Rattle.wb_format.specs.declared.root.Root.{Root}
-use Rattle.wb_tree.specs.Reading.{Nodes}
-use Rattle.wb_dirty.specs.declared.child.Child.{Child}
+use Rattle.wb_tree.specs.Reading.{Nodes, ◌then◌, is_one_at, names_with, is_wanted}
+use Rattle.wb_dirty.specs.declared.children.Child.{Child}
 
 -- what a reading goes by: a root, and of each cache block whether the mapping has an entry of it
 pub record Asked : Type 0 where
@@ -26,21 +26,14 @@ pub record Marks : Type 0 where
 abbrev pub MarksOutcome : Type 0
 MarksOutcome = Result Marks Place
 
--- goes on where there was no fault
-infixl 10 ◌next◌
-abbrev pub ◌next◌ : MarksOutcome → (Marks → MarksOutcome) → MarksOutcome
-(Ok marks) next go_on = go_on marks
-(Err place) next go_on = Err place
-
 -- a step for each of these, one after the other
 unfoldable pub each : {X : Type 0} → (X → Marks → MarksOutcome) → List X → Marks → MarksOutcome
 each step [] marks = Ok marks
-each step (x ∷ xs) marks = step x marks next each step xs
+each step (x ∷ xs) marks = step x marks then each step xs
 
 -- one of these places has this number
 abbrev pub is_among : ℕ → List Place → Bool
-is_among number [] = false
-is_among number (place ∷ places) = if place.0 == number then true else is_among number places
+is_among number places = is_one_at (λ place. place) number places
 
 -- bit k of the leaf that stands here, which is that of a cache block: where it is set the block has to have an entry
 abbrev pub bit_read : Asked → Place → ℕ → Bool → Marks → MarksOutcome
@@ -59,19 +52,17 @@ children_from (suc count) level index here words j =
     if slice_index words j == 0 then children_from count level index here words (j + 1)
     else record { level = level; index = 32 * index + j; word = slice_index words j; from = here } ∷ children_from count level index here words (j + 1)
 
--- A word names a child: its place is behind the slots, on the device and was not reached before, and the bit of some cache block
--- lies below the child.
+-- a word names a child, below which lies the bit of some cache block
 abbrev pub names_node : Root → List Place → Child → Bool
-names_node root reached child =
-    nat_le 2 child.word && nat_lt child.word root.geometry.meta_sectors && not (is_among child.word reached) && nat_lt (64 * (child.index * 32 ^ child.level)) root.geometry.cache_blocks
+names_node root reached child = names_with root (is_among child.word reached) child.word (64 * (child.index * 32 ^ child.level))
 
 -- a child, by what reads a node of its level
 abbrev pub dirty_child_read : Root → (ℕ → Place → Marks → MarksOutcome) → Child → Marks → MarksOutcome
 dirty_child_read root read child marks = if names_node root marks.reached child then read child.index (record { 0 = child.word }) marks else Err child.from
 
--- a node is one of dirty bits that the tree has here: of this level and index, and not newer than the root
+-- a node is one of dirty bits that the tree has here
 abbrev pub is_dirty_node : Root → ℕ → ℕ → Node → Bool
-is_dirty_node root level index node = node.dirty && (node.level == level) && (node.index == index) && nat_le node.generation root.generation
+is_dirty_node root level index node = is_wanted node.dirty root level index node
 
 -- one place more was reached
 abbrev pub reached_also : Place → Marks → Marks

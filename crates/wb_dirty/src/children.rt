@@ -3,14 +3,24 @@
 ghost use Rattle.std.specs.Prelude.{◌≡◌, ◌≤◌, ◌<◌, ◌+◌, ◌-◌, ◌*◌, ◌^◌, ◌++◌, [], true, false, None, All, OnOk, IfOk, IfErr, IfSome, IfNone, nat_lt, reverse};
 ghost use Rattle.wb_types.specs.declared.refusal.Refusal.TheVariants.{Memory as OutOfMemory};
 ghost use Rattle.wb_tree.specs.Reading.{Nodes};
+ghost use Rattle.wb_tree.specs.Loading.{FailsBy};
 ghost use Rattle.wb_dirty.specs.Reading.{Asked, Marks, children_from, names_node};
-ghost use Rattle.wb_dirty.specs.Loading.{IsLevelOfChild, MayReach, EndsBy, rest_read, wanted_read};
+ghost use Rattle.wb_dirty.specs.Loading.{IsLevelOfChild, MayReach, rest_read, wanted_read};
 
-use crate::child::Child;
-use crate::reached::Reached;
 use wb_format::Root;
-use wb_tree::PlacedNode;
+use wb_tree::{PlacedNode, Reached};
 use wb_types::{Place, Refusal};
+
+/// A word of a node that is no leaf, and the node that it names: of level 1 or 2, and as which of its level, counted from 0.
+#[derive(Clone, Copy, Debug)]
+pub(crate) struct Child {
+    level: u32,
+    index: u64,
+    /// What the word says: the number of its place.
+    word: u64,
+    /// Where the node stands that has the word.
+    from: Place,
+}
 
 /// Puts the words of a node that name children on top of those whose children are still to be read, the first word last.
 pub(crate) fn put_children(
@@ -43,7 +53,7 @@ pub(crate) fn put_children(
 
 impl Child {
     /// The node that the word names, where it names one.
-    pub(crate) fn node(&self, root: &Root, reached: &Reached) -> Option<PlacedNode>
+    pub(crate) fn node(&self, root: &Root, reached: &Reached<Place>) -> Option<PlacedNode>
         requires { IsLevelOfChild self.now }
         ensures named { IfSome result (λ _. names_node root.now reached.now self.now ≡ true) }
         ensures level { IfSome result (λ node. node.level ≡ self.now.level) }
@@ -62,7 +72,7 @@ impl Child {
     }
 
     /// Whether it names one.
-    fn is_named(&self, root: &Root, reached: &Reached) -> bool
+    fn is_named(&self, root: &Root, reached: &Reached<Place>) -> bool
         requires { IsLevelOfChild self.now }
         ensures { result ≡ names_node root.now reached.now self.now }
     {
@@ -99,7 +109,7 @@ impl Child {
 /// no word is left. `Damaged` with the place of the node that has a word which names none.
 pub(crate) fn next_wanted(
     root: &Root,
-    reached: &Reached,
+    reached: &Reached<Place>,
     left: &mut Vec<Child>,
 ) -> Result<Option<PlacedNode>, Refusal>
     requires { All IsLevelOfChild left.old.items }
@@ -111,7 +121,7 @@ pub(crate) fn next_wanted(
     ensures level_from { IfOk result (λ wanted. IfSome wanted (λ node. 1 ≤ node.level)) }
     ensures level_to { IfOk result (λ wanted. IfSome wanted (λ node. node.level ≤ 3)) }
     ensures err { IfErr result (λ refusal. (asked : Asked) (nodes : Nodes) (marks : Marks) → asked.root ≡ root.now → marks.reached ≡ reached.now
-        → EndsBy refusal (rest_read asked nodes left.old.items marks)) }
+        → FailsBy refusal (rest_read asked nodes left.old.items marks)) }
 {
     let Some(child) = left.pop() else {
         return Ok(None);

@@ -28,12 +28,11 @@ fn count_below(dirty: &BitSet, level: u32, index: u32) -> u32
     if !is_any_below(dirty, level, index) {
         return 0;
     }
-    if level == 1 {
-        return 1;
-    }
     let mut count = 1;
-    for j in 0..32 {
-        count += count_below(dirty, level - 1, 32 * index + j);
+    if level > 1 {
+        for j in 0..32 {
+            count += count_below(dirty, level - 1, 32 * index + j);
+        }
     }
     count
 }

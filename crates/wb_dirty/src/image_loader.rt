@@ -14,7 +14,7 @@ use std::alloc::{Allocator, Global};
 use std::marker::Model;
 use wb_bits::BitSet;
 use wb_format::{Node, Root};
-use wb_tree::{PlacedNode, Tree};
+use wb_tree::{Tree, places_of};
 use wb_types::{Place, Refusal};
 
 /// An image that is being read: the mapping of its root from the top, and behind it the dirty bits, where the root names a tree of
@@ -124,13 +124,4 @@ impl<A: Allocator + Clone> ImageLoader<A> {
             }
         }
     }
-}
-
-/// The places of nodes, in their order. `Memory` where there is no room for them.
-fn places_of(global: Global, nodes: &[PlacedNode]) -> Result<Vec<Place>, Refusal>
-    ensures places { IfOk result (λ places. places.items ≡ map (λ node. node.place) nodes.now) }
-    ensures refused { IfErr result (λ refusal. refusal ≡ OutOfMemory) }
-{
-    let places = nodes.iter().map(|node| node.place).collect(global)?;
-    Ok(places)
 }

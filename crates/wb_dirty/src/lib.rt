@@ -7,7 +7,6 @@
 #![tactic(auto)]
 
 mod bits;
-mod child;
 mod children;
 mod counting;
 mod image_loader;
@@ -16,7 +15,6 @@ mod image_steps;
 mod law;
 mod loader;
 mod planning;
-mod reached;
 
 pub use counting::dirty_nodes_of;
 pub use image_loader::ImageLoader;

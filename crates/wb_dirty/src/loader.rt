@@ -4,19 +4,18 @@ ghost use Rattle.std.specs.Prelude.{◌≡◌, ◌≢◌, ◌≤◌, ◌<◌, []
 ghost use Rattle.wb_types.specs.declared.refusal.Refusal.TheVariants.{Memory as OutOfMemory};
 ghost use Rattle.wb_types.specs.declared.number.Place.{Place as At};
 ghost use Rattle.wb_tree.specs.Reading.{Nodes};
+ghost use Rattle.wb_tree.specs.Loading.{FailsBy, wanted_place};
 ghost use Rattle.wb_types.specs.Limits.{dirty_depth_of};
 ghost use Rattle.wb_dirty.specs.Reading.{Asked, Marks, is_dirty_node as is_right_node, slot_of_root as slot_in, dirty_top_read, dirty_read};
-ghost use Rattle.wb_dirty.specs.Loading.{IsLevelOfChild, outcome_of, wanted_read, rest_read, place_wanted, MayReach, EndsBy, GoesOnBy, ReachedWanted, FailsOnceTold};
+ghost use Rattle.wb_dirty.specs.Loading.{IsLevelOfChild, outcome_of, wanted_read, rest_read, MayReach, IsTold, FailsOnceTold};
 
 use crate::bits::take_bits;
-use crate::child::Child;
-use crate::children::{next_wanted, put_children};
-use crate::reached::{Reached, reached_before};
+use crate::children::{Child, next_wanted, put_children};
 use std::alloc::Global;
 use std::marker::Model;
 use wb_bits::BitSet;
 use wb_format::{Node, Root};
-use wb_tree::PlacedNode;
+use wb_tree::{PlacedNode, Reached, wanted_node};
 use wb_types::{Place, Refusal};
 
 /// A tree of dirty bits that is being read from its top, each node's words in rising order, a child before the next word.
@@ -27,7 +26,7 @@ use wb_types::{Place, Refusal};
 pub struct DirtyLoader {
     root: Root,
     mapped: BitSet,
-    reached: Reached,
+    reached: Reached<Place>,
     dirty: BitSet,
     /// Words whose nodes are still to be read, the next of them last.
     left: Vec<Child>,
@@ -58,7 +57,7 @@ impl DirtyLoader {
         ensures asked { IfOk result (λ l. l.asked ≡ record { root = root.now; mapped = mapped }) }
         ensures reached { IfOk result (λ l. l.marks.reached ≡ places.now) }
         ensures begun { IfOk result (λ l. (nodes : Nodes) → outcome_of l nodes ≡ dirty_read (record { root = root.now; mapped = mapped }) nodes places.now) }
-        ensures err { IfErr result (λ refusal. (nodes : Nodes) → EndsBy refusal (dirty_read (record { root = root.now; mapped = mapped }) nodes places.now)) }
+        ensures err { IfErr result (λ refusal. (nodes : Nodes) → FailsBy refusal (dirty_read (record { root = root.now; mapped = mapped }) nodes places.now)) }
         ensures memory { IfErr result (λ refusal. places.now ≡ [] → refusal ≡ OutOfMemory) }
     {
         let dirty = BitSet::new(alloc, root.geometry.cache_blocks as usize)?;
@@ -76,7 +75,7 @@ impl DirtyLoader {
 
     /// The place of the node to be read next; none where the tree was read.
     pub fn wanted(&self) -> Option<Place>
-        ensures place { result ≡ place_wanted self.now.wanted }
+        ensures place { result ≡ wanted_place self.now.wanted }
         ensures ended { IfNone result (self.now.wanted ≡ None) }
         ensures fresh { IfSome result (MayReach self.now.asked.root self.now.marks.reached) }
     {
@@ -90,23 +89,32 @@ impl DirtyLoader {
     /// `Damaged` with the place that the first fault of the tree names, `Memory` where there is no room for what the node is
     /// remembered by.
     pub fn tell(self, node: Option<Node>) -> Result<DirtyLoader, Refusal>
-        ensures goes_on { IfOk result (λ l. GoesOnBy self node l) }
-        ensures reached { IfOk result (λ l. ReachedWanted self l) }
-        ensures asked { IfOk result (λ l. l.asked ≡ self.asked) }
-        ensures idle { IfOk result (λ l. self.wanted ≡ None → l ≡ self) }
-        ensures cause { IfErr result (λ _. IsSome self.wanted) }
-        ensures err { IfErr result (λ refusal. FailsOnceTold self node refusal) }
+        ensures ok { IfOk result (IsTold self node) }
+        ensures err { IfErr result (FailsOnceTold self node) }
     {
         let Some(wanted) = self.wanted else {
             return Ok(self);
         };
-        let Some(node) = node else {
-            return Err(Refusal::Damaged(wanted.place));
-        };
-        if !is_dirty_node(&self.root, wanted, &node) {
-            return Err(Refusal::Damaged(wanted.place));
-        }
-        self.enter(wanted, &node)
+        let node = wanted_node(&self.root, wanted, node, true)?;
+        let DirtyLoader {
+            root,
+            mapped,
+            mut reached,
+            mut dirty,
+            mut left,
+            ..
+        } = self;
+        reached.push(wanted.place)?;
+        take_in(&root, wanted, &node, &mapped, &mut dirty, &mut left)?;
+        let wanted = next_wanted(&root, &reached, &mut left)?;
+        Ok(DirtyLoader {
+            root,
+            mapped,
+            reached,
+            dirty,
+            left,
+            wanted,
+        })
     }
 
     /// The dirty blocks, once no node is wanted: what was read, of whatever sectors read as they were told.
@@ -117,38 +125,6 @@ impl DirtyLoader {
     {
         let DirtyLoader { dirty, .. } = self;
         dirty
-    }
-
-    /// Goes on with the node that is wanted.
-    fn enter(self, wanted: PlacedNode, node: &Node) -> Result<DirtyLoader, Refusal>
-        requires wanted { self.wanted ≡ Some wanted }
-        requires right { is_right_node self.asked.root wanted.level wanted.index node.now ≡ true }
-        ensures goes_on { IfOk result (λ l. (nodes : Nodes) → nodes wanted.place.0 ≡ Some node.now → outcome_of l nodes ≡ outcome_of self nodes) }
-        ensures reached { IfOk result (λ l. l.marks.reached ≡ self.marks.reached ++ wanted.place ∷ []) }
-        ensures asked { IfOk result (λ l. l.asked ≡ self.asked) }
-        ensures err { IfErr result (λ refusal. (nodes : Nodes) → nodes wanted.place.0 ≡ Some node.now → EndsBy refusal (outcome_of self nodes)) }
-    {
-        let DirtyLoader {
-            root,
-            mapped,
-            mut reached,
-            mut dirty,
-            mut left,
-            ..
-        } = self;
-        reached.push(wanted.place)?;
-        take_in(&root, wanted, node, &mapped, &mut dirty, &mut left)?;
-        match next_wanted(&root, &reached, &mut left) {
-            Ok(wanted) => Ok(DirtyLoader {
-                root,
-                mapped,
-                reached,
-                dirty,
-                left,
-                wanted,
-            }),
-            Err(refusal) => Err(refusal),
-        }
     }
 }
 
@@ -174,7 +150,7 @@ fn take_in(
     ensures sizes { OnOk result (length dirty.new ≡ length dirty.old) }
     ensures levels { OnOk result (All IsLevelOfChild left.new.items) }
     ensures err { IfErr result (λ refusal. (nodes : Nodes) (reached : List At) → nodes wanted.place.0 ≡ Some node.now
-        → EndsBy refusal (wanted_read (record { root = root.now; mapped = mapped.now }) nodes left.old.items (Some wanted) (record { reached = reached; dirty = dirty.old }))) }
+        → FailsBy refusal (wanted_read (record { root = root.now; mapped = mapped.now }) nodes left.old.items (Some wanted) (record { reached = reached; dirty = dirty.old }))) }
 {
     if wanted.level == 1 {
         if let Err(refusal) = take_bits(wanted, &node.words, mapped, dirty) {
@@ -187,14 +163,14 @@ fn take_in(
 }
 
 /// The top of the dirty bits of a root, where it names one. `Damaged` with the root's slot where something was read at its place.
-fn first_wanted(root: &Root, reached: &Reached) -> Result<Option<PlacedNode>, Refusal>
+fn first_wanted(root: &Root, reached: &Reached<Place>) -> Result<Option<PlacedNode>, Refusal>
     ensures begun { IfOk result (λ wanted. (asked : Asked) (nodes : Nodes) (marks : Marks) → asked.root ≡ root.now → marks.reached ≡ reached.now
         → wanted_read asked nodes [] wanted marks ≡ dirty_top_read asked nodes (dirty_depth_of root.now.geometry.cache_blocks) root.now.top_dirty marks) }
     ensures fresh { IfOk result (λ wanted. IfSome wanted (λ node. MayReach root.now reached.now node.place)) }
     ensures level_from { IfOk result (λ wanted. IfSome wanted (λ node. 1 ≤ node.level)) }
     ensures level_to { IfOk result (λ wanted. IfSome wanted (λ node. node.level ≤ 3)) }
     ensures err { IfErr result (λ refusal. (asked : Asked) (nodes : Nodes) (marks : Marks) → asked.root ≡ root.now → marks.reached ≡ reached.now
-        → EndsBy refusal (dirty_top_read asked nodes (dirty_depth_of root.now.geometry.cache_blocks) root.now.top_dirty marks)) }
+        → FailsBy refusal (dirty_top_read asked nodes (dirty_depth_of root.now.geometry.cache_blocks) root.now.top_dirty marks)) }
     ensures after { IfErr result (λ refusal. reached.now ≢ []) }
 {
     let Some(top) = root.top_dirty else {
@@ -226,12 +202,14 @@ fn slot_of(root: &Root) -> Place
     Place((root.generation % 2) as u32)
 }
 
-/// Whether a node is the one of dirty bits that is wanted, and not newer than the root.
-fn is_dirty_node(root: &Root, wanted: PlacedNode, node: &Node) -> bool
-    ensures { result ≡ is_right_node root.now wanted.level wanted.index node.now }
+/// These places, in their order. `Memory` where there is no room for them.
+fn reached_before(alloc: Global, places: &[Place]) -> Result<Reached<Place>, Refusal>
+    ensures ok { IfOk result (λ reached. reached ≡ places.now) }
+    ensures refused { IfErr result (λ refusal. refusal ≡ OutOfMemory) }
 {
-    node.dirty
-        && node.level == wanted.level
-        && node.index == wanted.index
-        && node.generation <= root.generation
+    let mut reached = Reached::new(alloc);
+    for place in places {
+        reached.push(*place)?;
+    }
+    Ok(reached)
 }

@@ -7,7 +7,6 @@ ghost use Rattle.wb_types.specs.declared.refusal.Refusal.TheVariants.{Memory as 
 ghost use Rattle.wb_types.specs.Limits.{dirty_depth_of};
 ghost use Rattle.wb_bits.specs.BitWords.{is_member};
 ghost use Rattle.wb_format.specs.NodeWords.{IsNodeWord};
-ghost use Rattle.wb_tree.specs.Images.{place_word};
 ghost use Rattle.wb_tree.specs.Mapping.{each_from};
 ghost use Rattle.wb_tree.specs.Planning.{names};
 ghost use Rattle.wb_dirty.specs.Planning.{has_dirty, dirty_below, dirty_names, IsPlaceIfNeeded, IsNamedBy, ArePlanned, Continues, IsDirtyPlan};
@@ -15,6 +14,7 @@ ghost use Rattle.wb_dirty.specs.Planning.{has_dirty, dirty_below, dirty_names, I
 use std::alloc::Global;
 use wb_bits::BitSet;
 use wb_format::Node;
+use wb_tree::{number_of, put_node};
 use wb_types::{Place, Refusal};
 
 /// The nodes of dirty bits that a clean image writes, in the order of an image, each with its place, and the place of their top;
@@ -99,19 +99,14 @@ fn plan_node(
         return Ok(None);
     }
     let words = plan_words(plan, level, index, nodes)?;
-    nodes.reserve(1)?;
-    let place = plan.free[nodes.len()];
-    nodes.push_reserved((
-        place,
-        Node {
-            generation: plan.generation,
-            dirty: true,
-            level,
-            index,
-            words,
-        },
-    ));
-    Ok(Some(place))
+    let node = Node {
+        generation: plan.generation,
+        dirty: true,
+        level,
+        index,
+        words,
+    };
+    Ok(Some(put_node(nodes, plan.free, node)?))
 }
 
 /// The words of a node: of a leaf the bits of its blocks, else the places of its children, which are added with all below them.
@@ -145,7 +140,7 @@ fn plan_words(
     let mut words = [0; 32];
     for j in 0..32 {
         let child = plan_node(plan, level - 1, 32 * index + j, nodes)?;
-        words[j as usize] = word_of_place(child);
+        words[j as usize] = number_of(child);
     }
     Ok(words)
 }
@@ -206,15 +201,4 @@ fn bits_from(dirty: &BitSet, first: usize) -> u64
         }
     }
     word
-}
-
-/// The number of a place in a word, 0 for none.
-fn word_of_place(place: Option<Place>) -> u64
-    ensures number { result ≡ place_word place }
-    ensures at_most { result ≤ 4294967295 }
-{
-    match place {
-        None => 0,
-        Some(Place(number)) => u64::from(number),
-    }
 }

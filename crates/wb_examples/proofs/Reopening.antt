@@ -114,21 +114,9 @@ module _ (P A : Type 0) (policy : P) (alloc : A) (mode : Mode) (s : Setting P 0 
 
     -- what the crash left, of which these are the cache and the origin
     abbrev pub again : Down P A
-    again = record {
-      mode = Writeback;
-      writes = write_back_starts;
-      policy = policy;
-      alloc = alloc;
-      global = s.global;
-      shape = there;
-      metadata = crashed Metadata choice with_root;
-      cache = cache;
-      origin = origin;
-      none = none_there;
-      size = size_there;
-      rest = all_resting s.rest;
-      idle = resting_idle s.rest;
-    }
+    again =
+        let left : List History = crashed Metadata choice with_root in
+        record { mode = Writeback; writes = write_back_starts; policy = policy; alloc = alloc; global = s.global; shape = there; metadata = left; cache = cache; origin = origin; none = none_there; size = size_there; rest = all_resting s.rest; idle = resting_idle s.rest }
 
     abbrev opened_again : State P A
     opened_again = ends s.global there (down P A again) (opening P A again)

@@ -9,7 +9,7 @@ use Rattle.wb_types.specs.Limits.{IsWithinLimits, HasRoom, dirty_nodes, node_cou
 use Rattle.wb_types.specs.declared.geometry.Geometry.{Geometry}
 use Rattle.wb_types.specs.declared.number.Place.{Place}
 use Rattle.wb_format.specs.Bytes.{IsSector, number_at}
-use Rattle.wb_format.specs.Sizes.{IsTop, MayNameDirty, top_number}
+use Rattle.wb_format.specs.Sizes.{IsTop, MayNameDirty, SpellsGeometry, top_number}
 use Rattle.wb_types.specs.Versions.{version_number}
 use Rattle.wb_format.specs.Letters.{root_magic}
 use Rattle.wb_format.specs.Layout.{SpellsRoot}
@@ -275,60 +275,32 @@ fields_in v s = elim (two_of (two_of (two_of (is_sector s) (cases_eq (number_at 
       | inr none ↦ inr (λ h. none (((h.bytes, h.magic), (h.version, h.rest)), (((h.clean, h.flag), h.within), (h.room, ((h.top, h.top_inside, h.top_is), (h.top_dirty, h.dirty_inside, h.dirty_is))))))
     ]
 
+-- the sizes and the root that such numbers tell
+abbrev geometry_of : (v : Version) (s : List ℕ) → HasFields v s → Geometry
+geometry_of v s h = record { block = number_at s 24 4; cache_blocks = number_at s 28 4; origin_blocks = number_at s 32 4; meta_sectors = number_at s 36 4; version = v; within = h.within; room = h.room }
+
+abbrev root_of : (v : Version) (s : List ℕ) → HasFields v s → Root
+root_of v s h =
+    let sizes = geometry_of v s h in
+    record { generation = number_at s 8 8; version = v; clean = h.clean; geometry = sizes; top = h.top; top_dirty = h.top_dirty; same_version = refl; top_inside = h.top_inside; dirty_inside = h.dirty_inside; dirty_clean = h.may }
+
 -- a sector with such numbers spells a root of this version, and what spells one has them
 root_with : (v : Version) (s : List ℕ) → HasFields v s → (r : Root) × SpellsRoot s r
 root_with v s h = (
-  record {
-    generation = number_at s 8 8;
-    version = v;
-    clean = h.clean;
-    geometry = record {
-      block = number_at s 24 4;
-      cache_blocks = number_at s 28 4;
-      origin_blocks = number_at s 32 4;
-      meta_sectors = number_at s 36 4;
-      version = v;
-      within = h.within;
-      room = h.room;
-    };
-    top = h.top;
-    top_dirty = h.top_dirty;
-    same_version = refl;
-    top_inside = h.top_inside;
-    dirty_inside = h.dirty_inside;
-    dirty_clean = h.may;
-  },
-  record {
-    bytes = h.bytes;
-    magic = h.magic;
-    generation = refl;
-    version = h.version;
-    flags = h.flag;
-    geometry = record { block = refl; cache_blocks = refl; origin_blocks = refl; meta_sectors = refl; version = h.version };
-    top = h.top_is;
-    top_dirty = h.dirty_is;
-    rest = h.rest;
-  },
+  root_of v s h,
+  let sizes : SpellsGeometry s (geometry_of v s h) = record { block = refl; cache_blocks = refl; origin_blocks = refl; meta_sectors = refl; version = h.version } in
+      record { bytes = h.bytes; magic = h.magic; generation = refl; version = h.version; flags = h.flag; geometry = sizes; top = h.top_is; top_dirty = h.dirty_is; rest = h.rest },
 )
 
 has_fields : (s : List ℕ) (r : Root) → SpellsRoot s r → HasFields r.version s
-has_fields s r p = record {
-  clean = r.clean;
-  top = r.top;
-  top_dirty = r.top_dirty;
-  bytes = p.bytes;
-  magic = p.magic;
-  version = p.version;
-  rest = p.rest;
-  flag = p.flags;
-  within = rw (p.geometry.block, p.geometry.cache_blocks, p.geometry.origin_blocks, p.geometry.meta_sectors) r.geometry.within;
-  room = rw (p.geometry.cache_blocks, p.geometry.meta_sectors) (subst (λ (v : Version). HasRoom v r.geometry.cache_blocks r.geometry.meta_sectors) (sym (one_version r.version r.geometry.version r.same_version)) r.geometry.room);
-  top_inside = subst (λ (m : ℕ). IsTop m r.top) (sym p.geometry.meta_sectors) r.top_inside;
-  top_is = p.top;
-  dirty_inside = subst (λ (m : ℕ). IsTop m r.top_dirty) (sym p.geometry.meta_sectors) r.dirty_inside;
-  dirty_is = p.top_dirty;
-  may = r.dirty_clean;
-}
+has_fields s r p =
+    let g = p.geometry in
+    let within : IsWithinLimits (number_at s 24 4) (number_at s 28 4) (number_at s 32 4) (number_at s 36 4) = rw (g.block, g.cache_blocks, g.origin_blocks, g.meta_sectors) r.geometry.within in
+    let of_version = subst (λ (v : Version). HasRoom v r.geometry.cache_blocks r.geometry.meta_sectors) (sym (one_version r.version r.geometry.version r.same_version)) r.geometry.room in
+    let room : HasRoom r.version (number_at s 28 4) (number_at s 36 4) = rw (g.cache_blocks, g.meta_sectors) of_version in
+    let inside = subst (λ (m : ℕ). IsTop m r.top) (sym g.meta_sectors) r.top_inside in
+    let dirty_inside = subst (λ (m : ℕ). IsTop m r.top_dirty) (sym g.meta_sectors) r.dirty_inside in
+    record { clean = r.clean; top = r.top; top_dirty = r.top_dirty; bytes = p.bytes; magic = p.magic; version = p.version; rest = p.rest; flag = p.flags; within = within; room = room; top_inside = inside; top_is = p.top; dirty_inside = dirty_inside; dirty_is = p.top_dirty; may = r.dirty_clean }
 
 -- a sector spells a root or none
 pub root_or_none : (s : List ℕ) → ((r : Root) × SpellsRoot s r) ⊎ ((r : Root) → ¬ SpellsRoot s r)

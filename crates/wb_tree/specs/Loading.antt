@@ -1,5 +1,5 @@
 -- A reading that has come to some node, and what is left of it.
-use Rattle.std.specs.Prelude.{◌≡◌, ◌≤◌, ◌<◌, ◌+◌, ◌-◌, ◌*◌, ℕ, Bool, true, false, Option, Some, None, Ok, Err, List, [], ◌∷◌, ◌++◌, length, slice_index, reverse}
+use Rattle.std.specs.Prelude.{◌≡◌, ◌≤◌, ◌<◌, ◌+◌, ◌-◌, ◌*◌, ℕ, Bool, true, false, Option, Some, None, IsSome, Result, Ok, Err, List, [], ◌∷◌, ◌++◌, length, slice_index, reverse}
 use Rattle.wb_types.specs.Limits.{depth_of}
 use Rattle.wb_types.specs.declared.entry.Entry.{Entry}
 use Rattle.wb_types.specs.declared.number.Place.{Place}
@@ -73,7 +73,7 @@ pub record IsFresh (root : Root) (reached : List PlacedNode) (place : Place) : T
   pub unread : is_reached place.0 reached ≡ false
 
 -- a refusal of want of memory says nothing of a reading, one of damage names its first fault, and no other comes
-abbrev pub FailsBy : Refusal → ReadOutcome → Type 0
+abbrev pub FailsBy : {X : Type 0} → Refusal → Result X Place → Type 0
 FailsBy Memory reading = Unit {0}
 FailsBy (Damaged place) reading = reading ≡ Err place
 FailsBy _ reading = ⊥
@@ -87,10 +87,9 @@ LoadingGoesOn l node next = (wanted : PlacedNode) (nodes : Nodes) → l.wanted �
 abbrev pub HasReached : Loading → Loading → Type 0
 HasReached l next = (wanted : PlacedNode) → l.wanted ≡ Some wanted → next.found.reached ≡ l.found.reached ++ wanted ∷ []
 
--- or it fails so
+-- or it fails so, where a node is wanted
 abbrev pub FailsAt : Loading → Option Node → Refusal → Type 0
-FailsAt l node refusal = (wanted : PlacedNode) (nodes : Nodes) → l.wanted ≡ Some wanted → nodes wanted.place.0 ≡ node
-    → FailsBy refusal (outcome l nodes)
+FailsAt l node refusal = IsSome l.wanted × ((wanted : PlacedNode) (nodes : Nodes) → l.wanted ≡ Some wanted → nodes wanted.place.0 ≡ node → FailsBy refusal (outcome l nodes))
 
 -- the same is read at the places that were reached
 abbrev pub AgreeAt : List PlacedNode → Nodes → Nodes → Type 0

@@ -38,8 +38,8 @@ ReadOutcome = Result Found Place
 
 -- goes on where there was no fault
 infixl 10 ◌then◌
-abbrev pub ◌then◌ : ReadOutcome → (Found → ReadOutcome) → ReadOutcome
-(Ok found) then next = next found
+abbrev pub ◌then◌ : {X : Type 0} → Result X Place → (X → Result X Place) → Result X Place
+(Ok x) then next = next x
 (Err place) then next = Err place
 
 -- so many steps one after the other, with the numbers from one on
@@ -52,10 +52,14 @@ abbrev pub entry_in : ℕ → Option Entry
 entry_in zero = None
 entry_in (suc n) = Some (record { origin = record { 0 = suc n / 2 ^ 16 }; dirty = suc n / 2 % 2 == 1; hint = suc n / 2 ^ 4 % 2 ^ 5 })
 
+-- one of these, of which each is at a place, is at this one
+abbrev pub is_one_at : {X : Type 0} → (X → Place) → ℕ → List X → Bool
+is_one_at at place [] = false
+is_one_at at place (x ∷ xs) = if (at x).0 == place then true else is_one_at at place xs
+
 -- one of these nodes stands at this place
 abbrev pub is_reached : ℕ → List PlacedNode → Bool
-is_reached place [] = false
-is_reached place (node ∷ nodes) = if node.place.0 == place then true else is_reached place nodes
+is_reached place nodes = is_one_at (λ node. node.place) place nodes
 
 -- a cache block may have an entry: both blocks are there, and the origin block stands in no entry before
 abbrev pub may_map : Root → List Bool → ℕ → Entry → Bool
@@ -70,11 +74,14 @@ entry_read root here block (Some entry) found =
     then Ok (record { reached = found.reached; entries = slice_set found.entries block (Some entry); mapped = slice_set found.mapped entry.origin.0 true })
     else Err here
 
--- A word names a child of this level and index: its place is behind the slots, on the device and was not reached
--- before, and some cache block lies below the child.
+-- A word names a node with this cache block below it: its place is behind the slots, on the device and was not reached before, and
+-- the block is there.
+abbrev pub names_with : Root → Bool → ℕ → ℕ → Bool
+names_with root was_reached word block = nat_le 2 word && nat_lt word root.geometry.meta_sectors && not was_reached && nat_lt block root.geometry.cache_blocks
+
+-- a word names a child of this level and index
 abbrev pub names_child : Root → List PlacedNode → ℕ → ℕ → ℕ → Bool
-names_child root reached level index word =
-    nat_le 2 word && nat_lt word root.geometry.meta_sectors && not (is_reached word reached) && nat_lt (index * 32 ^ level) root.geometry.cache_blocks
+names_child root reached level index word = names_with root (is_reached word reached) word (index * 32 ^ level)
 
 -- a word of the node here that is no leaf, with the child that it names
 abbrev pub child_read : Root → Place → ℕ → ℕ → (ℕ → Place → Found → ReadOutcome) → ℕ → Found → ReadOutcome
@@ -82,9 +89,18 @@ child_read root here level index read word found =
     if word == 0 then Ok found
     else (if names_child root found.reached level index word then read index (record { 0 = word }) found else Err here)
 
--- a node is one that the mapping has here: none of dirty bits, of this level and index, and not newer than the root
+-- a node is of a tree, as is said of it, of this level and index, and not newer than the root
+abbrev pub is_wanted : Bool → Root → ℕ → ℕ → Node → Bool
+is_wanted of_tree root level index node = of_tree && (node.level == level) && (node.index == index) && nat_le node.generation root.generation
+
+-- a node is one of dirty bits, or one of the mapping
+abbrev pub is_kind : Bool → Node → Bool
+is_kind true node = node.dirty
+is_kind false node = not node.dirty
+
+-- a node is one that the mapping has here: none of dirty bits
 abbrev pub is_node_of : Root → ℕ → ℕ → Node → Bool
-is_node_of root level index node = not node.dirty && (node.level == level) && (node.index == index) && nat_le node.generation root.generation
+is_node_of root level index node = is_wanted (not node.dirty) root level index node
 
 -- one node more was reached
 abbrev pub reached_at : ℕ → ℕ → Place → Found → Found

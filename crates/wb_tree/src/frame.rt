@@ -31,7 +31,7 @@ impl Frame {
     pub(crate) fn next_child(
         &mut self,
         root: &Root,
-        reached: &Reached,
+        reached: &Reached<PlacedNode>,
     ) -> Result<Option<PlacedNode>, Refusal>
         ensures child { IfOk result (λ child. (nodes : Nodes) (found : Found) → found.reached ≡ reached.now
             → MatchOption child
@@ -63,7 +63,7 @@ impl Frame {
 fn child_of(
     parent: PlacedNode,
     root: &Root,
-    reached: &Reached,
+    reached: &Reached<PlacedNode>,
     j: usize,
     word: u64,
 ) -> Option<PlacedNode>
@@ -91,7 +91,7 @@ fn child_of(
 }
 
 /// Whether a word names a child of this level and index.
-fn is_child(root: &Root, reached: &Reached, level: u32, index: u64, word: u64) -> bool
+fn is_child(root: &Root, reached: &Reached<PlacedNode>, level: u32, index: u64, word: u64) -> bool
     requires level { level ≤ 3 }
     requires index { index < 2 ^ 38 }
     ensures { result ≡ names_child root.now reached.now level index word }

@@ -56,7 +56,7 @@ pub(crate) fn take_in(
 /// names no child.
 pub(crate) fn next_wanted(
     root: &Root,
-    reached: &Reached,
+    reached: &Reached<PlacedNode>,
     frames: &mut Vec<Frame>,
 ) -> Result<Option<PlacedNode>, Refusal>
     ensures goes_on { IfOk result (λ wanted. (nodes : Nodes) (found : Found) → found.reached ≡ reached.now

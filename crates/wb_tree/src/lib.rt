@@ -17,9 +17,13 @@ mod placed;
 mod planning;
 mod reached;
 mod tree;
+mod wanted;
 
 pub use image::Image;
 pub use law::{edit_law, mapping_law};
 pub use loader::Loader;
-pub use placed::PlacedNode;
+pub use placed::{PlacedNode, places_of};
+pub use planning::{number_of, put_node};
+pub use reached::{Reached, Standing};
 pub use tree::Tree;
+pub use wanted::wanted_node;

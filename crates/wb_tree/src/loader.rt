@@ -1,6 +1,6 @@
 //! Reading of a tree, one node a call.
 
-ghost use Rattle.std.specs.Prelude.{◌≡◌, ◌≤◌, [], ◌∷◌, ◌++◌, true, Some, None, Ok, IfOk, IfErr, IfSome, IfNone, IsSome, map};
+ghost use Rattle.std.specs.Prelude.{◌≡◌, ◌≤◌, [], ◌∷◌, ◌++◌, true, Some, None, Ok, IfOk, IfErr, IfSome, IfNone, map};
 ghost use Rattle.wb_types.specs.declared.refusal.Refusal.TheVariants.{Memory as OutOfMemory};
 ghost use Rattle.wb_tree.specs.Reading.{Nodes, tree_read, is_node_of as is_right_node};
 ghost use Rattle.wb_tree.specs.Loading.{outcome, wanted_place, top_node, IsFresh, FailsBy, LoadingGoesOn, HasReached, FailsAt};
@@ -10,6 +10,7 @@ use crate::frame::Frame;
 use crate::frames::{next_wanted, take_in};
 use crate::placed::{all_exist, places_of};
 use crate::reached::Reached;
+use crate::wanted::wanted_node;
 use crate::{PlacedNode, Tree};
 use std::alloc::{Allocator, Global};
 use std::marker::Model;
@@ -28,7 +29,7 @@ pub struct Loader<A: Allocator> {
     entries: Vec<Option<Entry>>,
     /// Of each origin block whether it stands in an entry.
     mapped: Vec<bool>,
-    reached: Reached,
+    reached: Reached<PlacedNode>,
     /// The nodes above the leaves whose words are being read, from the top down.
     frames: Vec<Frame>,
     wanted: Option<PlacedNode>,
@@ -74,10 +75,8 @@ impl<A: Allocator + Clone> Loader<A> {
         ensures ended { IfNone result (self.now.wanted ≡ None) }
         ensures fresh { IfSome result (IsFresh self.now.root self.now.found.reached) }
     {
-        match self.wanted {
-            Some(node) => Some(node.place),
-            None => None,
-        }
+        let node = self.wanted?;
+        Some(node.place)
     }
 
     /// Goes on with what the sector at the wanted place spells: a node, or none. Nothing is done where none is
@@ -88,18 +87,12 @@ impl<A: Allocator + Clone> Loader<A> {
         ensures reached { IfOk result (λ l. HasReached self l) }
         ensures root { IfOk result (λ l. l.root ≡ self.root) }
         ensures idle { IfOk result (λ l. self.wanted ≡ None → l ≡ self) }
-        ensures cause { IfErr result (λ _. IsSome self.wanted) }
-        ensures err { IfErr result (λ refusal. FailsAt self node refusal) }
+        ensures err { IfErr result (FailsAt self node) }
     {
         let Some(wanted) = self.wanted else {
             return Ok(self);
         };
-        let Some(node) = node else {
-            return Err(Refusal::Damaged(wanted.place));
-        };
-        if !is_node_of(&self.root, wanted, &node) {
-            return Err(Refusal::Damaged(wanted.place));
-        }
+        let node = wanted_node(&self.root, wanted, node, false)?;
         self.enter(wanted, &node)
     }
 
@@ -123,7 +116,7 @@ impl<A: Allocator + Clone> Loader<A> {
             reached,
             ..
         } = self;
-        let nodes = reached.into_nodes();
+        let nodes = reached.into_items();
         let places = places_of(global, &nodes)?;
         let known = if all_exist(&entries, &nodes) {
             nodes
@@ -183,14 +176,4 @@ fn top_of(root: &Root) -> Option<PlacedNode>
             place,
         }),
     }
-}
-
-/// Whether a node is the one of the mapping that is wanted, and not newer than the root.
-fn is_node_of(root: &Root, wanted: PlacedNode, node: &Node) -> bool
-    ensures { result ≡ is_right_node root.now wanted.level wanted.index node.now }
-{
-    !node.dirty
-        && node.level == wanted.level
-        && node.index == wanted.index
-        && node.generation <= root.generation
 }

@@ -19,7 +19,7 @@ pub struct PlacedNode {
 }
 
 /// The places of nodes, in their order. `Memory` where there is no room for them.
-pub(crate) fn places_of(global: Global, nodes: &[PlacedNode]) -> Result<Vec<Place>, Refusal>
+pub fn places_of(global: Global, nodes: &[PlacedNode]) -> Result<Vec<Place>, Refusal>
     ensures places { IfOk result (λ places. places.items ≡ map (λ node. node.place) nodes.now) }
     ensures refused { IfErr result (λ refusal. refusal ≡ OutOfMemory) }
 {

@@ -1,6 +1,6 @@
 //! The nodes that an image writes.
 
-ghost use Rattle.std.specs.Prelude.{◌≡◌, ◌≤◌, ◌<◌, ◌+◌, ◌-◌, ◌*◌, ◌^◌, ◌++◌, ℕ, false, Some, None, IfOk, OnOk, IfErr, slice_index, slice_index_or};
+ghost use Rattle.std.specs.Prelude.{◌≡◌, ◌≤◌, ◌<◌, ◌+◌, ◌-◌, ◌*◌, ◌^◌, [], ◌∷◌, ◌++◌, ℕ, false, Some, None, IfOk, OnOk, IfErr, length, slice_get, slice_index, slice_index_or};
 ghost use Rattle.wb_types.specs.declared.entry.Entry.{Entry as EntryValue};
 ghost use Rattle.wb_types.specs.declared.refusal.Refusal.TheVariants.{Memory as OutOfMemory};
 ghost use Rattle.wb_format.specs.NodeWords.{IsEntry, IsLeafWord, IsNodeWord, entry_word, kept};
@@ -55,10 +55,9 @@ pub(crate) fn plan_node<A: Allocator + Clone>(
         Some(None) => {}
     }
     let words = plan_words(plan, level, index, nodes)?;
-    nodes.reserve(1)?;
-    let place = plan.free[nodes.len()];
-    nodes.push_reserved((
-        place,
+    let place = put_node(
+        nodes,
+        plan.free,
         Node {
             generation: plan.generation,
             dirty: false,
@@ -66,7 +65,7 @@ pub(crate) fn plan_node<A: Allocator + Clone>(
             index,
             words,
         },
-    ));
+    )?;
     Ok(Some(place))
 }
 
@@ -133,8 +132,25 @@ fn entry_at<A: Allocator + Clone>(tree: &Tree<A>, block: u32) -> Option<Entry>
     tree.get(CBlock(block))
 }
 
+/// Puts a node behind these, at the next of the free places, and gives that. `Memory` where there is no room for it.
+pub fn put_node(
+    nodes: &mut Vec<(Place, Node)>,
+    free: &[Place],
+    node: Node,
+) -> Result<Place, Refusal>
+    requires { length nodes.old.items < length free.now }
+    ensures there { IfOk result (λ place. slice_get free.now (length nodes.old.items) ≡ Some place) }
+    ensures put { IfOk result (λ place. nodes.new.items ≡ nodes.old.items ++ (place, node) ∷ []) }
+    ensures refused { IfErr result (λ refusal. refusal ≡ OutOfMemory) }
+{
+    nodes.reserve(1)?;
+    let place = free[nodes.len()];
+    nodes.push_reserved((place, node));
+    Ok(place)
+}
+
 /// The number of a place in a word, 0 for none.
-fn number_of(place: Option<Place>) -> u64
+pub fn number_of(place: Option<Place>) -> u64
     ensures number { result ≡ place_word place }
     ensures at_most { result ≤ 4294967295 }
 {

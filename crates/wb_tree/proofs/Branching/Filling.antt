@@ -238,14 +238,9 @@ entries_filled entries cache_blocks depth root is size enough = (top_front entri
 
 pub boxes_filled : {A : Type 0} (entries : List (Option Entry)) (cache_blocks depth : ℕ) (root : Option (Box Branch A)) → IsFilled entries depth 0 root → length entries ≡ cache_blocks → depth ≡ depth_of cache_blocks → cache_blocks ≤ 1048576 → 1 ≤ depth
     → depth ≤ 4 → cache_blocks ≤ 32 ^ depth → AreBoxes cache_blocks depth root
-boxes_filled entries cache_blocks depth root is size levels few from to enough = record {
-  few = few;
-  from = from;
-  to = to;
-  levels = levels;
-  enough = enough;
-  top = is.slot;
-  sound = subst (λ ks. IsSound (record { entries = take cache_blocks (entries_in (32 ^ depth) root); known = ks })) (sym is.unknown) (unknown-sound (take cache_blocks (entries_in (32 ^ depth) root)));
-  once = subst AreApart (sym is.unknown) tt;
-  ends = (top_front entries cache_blocks depth root is size enough).left;
-}
+boxes_filled entries cache_blocks depth root is size levels few from to enough =
+    let there : List (Option Entry) = take cache_blocks (entries_in (32 ^ depth) root) in
+    let sound = subst (λ ks. IsSound (record { entries = there; known = ks })) (sym is.unknown) (unknown-sound there) in
+    let once = subst AreApart (sym is.unknown) tt in
+    let front = top_front entries cache_blocks depth root is size enough in
+    record { few = few; from = from; to = to; levels = levels; enough = enough; top = is.slot; sound = sound; once = once; ends = front.left }

@@ -1,5 +1,5 @@
 -- What a tree of boxes tells of its known nodes.
-use Rattle.std.proofs.Common.{◌≡◌, ◌≤◌, ◌<◌, ◌+◌, ◌-◌, ◌*◌, ◌/◌, ◌^◌, ◌++◌, ◌∙◌, sym, ap, subst, ℕ, Option, Box, List, [], length, arith}
+use Rattle.std.proofs.Common.{◌≡◌, ◌≤◌, ◌<◌, ◌+◌, ◌-◌, ◌*◌, ◌/◌, ◌^◌, ◌∙◌, sym, ap, subst, ℕ, Option, Box, List, length, arith}
 use Rattle.std.proofs.Math.Nat.{div-lt_iff_lt-mul, one-le-pow}
 use Rattle.wb_types.specs.Limits.{depth_of}
 use Rattle.wb_types.specs.declared.entry.Entry.{Entry}

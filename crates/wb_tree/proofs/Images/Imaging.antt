@@ -1,5 +1,5 @@
 -- When a root and nodes are the image of a tree.
-use Rattle.std.proofs.Common.{◌≡◌, ◌≤◌, ◌+◌, ◌∙◌, ℕ, Bool, false, List, [], Some, None, map, take, length, arith}
+use Rattle.std.proofs.Common.{◌≡◌, ◌≤◌, ◌+◌, ℕ, Bool, false, List, [], Some, None, map, take, length, arith}
 use Rattle.std.specs.Prelude.{◌⊎◌, All, Contains}
 use Rattle.std.proofs.lemmas.List.{length-map}
 use Rattle.wb_types.specs.Limits.{depth_of, node_count}

@@ -1,11 +1,11 @@
 -- The nodes that are planned, one after the other.
-use Rattle.std.proofs.Common.{◌≡◌, ◌≤◌, ◌<◌, ◌+◌, ◌-◌, ◌*◌, ◌/◌, ◌^◌, ◌&&◌, ◌==◌, ◌∙◌, sym, ap, subst, refl, ℕ, zero, suc, true, false, is_some, List, [], ◌∷◌, ◌++◌, Option, Some, None, map, replicate, take, length, get_or, append_assoc, arith, inl, inr}
+use Rattle.std.proofs.Common.{◌≡◌, ◌≤◌, ◌<◌, ◌+◌, ◌-◌, ◌*◌, ◌/◌, ◌^◌, ◌&&◌, ◌==◌, ◌∙◌, sym, ap, subst, refl, ℕ, zero, suc, true, false, is_some, List, [], ◌∷◌, ◌++◌, Option, Some, None, map, replicate, take, length, append_assoc, arith, inl, inr}
 use Rattle.std.specs.Prelude.{IsSome, slice_get, slice_index_or}
 use Rattle.std.specs.List.{AllByRecursion}
 use Rattle.std.proofs.lemmas.Bool.{cases_Bool}
 use Rattle.std.proofs.lemmas.List.{length-append, length-map, map-append, take_more, length_push}
 use Rattle.std.proofs.lemmas.List.Elements.{All-push}
-use Rattle.std.proofs.lemmas.Option.{get_or_from_slice_get, slice_get-get_or}
+use Rattle.std.proofs.lemmas.Option.{get_or_from_slice_get}
 use Rattle.std.proofs.Math.Nat.{pow-succ'}
 use Rattle.wb_types.specs.declared.number.Place.{Place}
 use Rattle.wb_types.specs.declared.version.Version.{Version}
@@ -217,15 +217,20 @@ next-place m free front node may none h =
     planned-new m free node.level node.index none
     ∙ (ap (λ (ns : List NodeName). place_in (placed ns free) node.level node.index) shape ∙ placed-behind front h.rest node free apart (next-inside m free front node may h))
 
+-- nodes with one more stand at the first of the places
+pub places-more : (free : List Place) (nodes : List (Place × Node)) (node : Place × Node) → map (λ n. n.0) nodes ≡ take (length nodes) free → length nodes < length free → slice_get free (length nodes) ≡ Some node.0
+    → map (λ n. n.0) (nodes ++ node ∷ []) ≡ take (length (nodes ++ node ∷ [])) free
+places-more free nodes node places inside there =
+    map-append (λ (n : Place × Node). n.0) nodes (node ∷ [])
+    ∙ (ap (λ (ps : List Place). ps ++ node.0 ∷ []) places
+    ∙ (ap (λ (p : Place). take (length nodes) free ++ p ∷ []) (sym (get_or_from_slice_get free (length nodes) node.0 node.0 there))
+    ∙ (sym (take_more free (length nodes) node.0 inside) ∙ ap (λ k. take k free) (sym (length_push nodes node)))))
+
 -- a node more is written
 pub written-more : (version : Version) (m : Mapping) (generation : ℕ) (free : List Place) (nodes : List (Place × Node)) (node : Place × Node) → AreWritten version m generation free nodes → length nodes < length free
     → slice_get free (length nodes) ≡ Some node.0 → IsWritten version m generation node → AreWritten version m generation free (nodes ++ node ∷ [])
 written-more version m generation free nodes node h inside there one = record {
-  places =
-      map-append (λ (n : Place × Node). n.0) nodes (node ∷ [])
-      ∙ (ap (λ (ps : List Place). ps ++ node.0 ∷ []) h.places
-      ∙ (ap (λ (p : Place). take (length nodes) free ++ p ∷ []) (sym (get_or_from_slice_get free (length nodes) node.0 node.0 there))
-      ∙ (sym (take_more free (length nodes) node.0 inside) ∙ ap (λ k. take k free) (sym (length_push nodes node)))));
+  places = places-more free nodes node h.places inside there;
   each = All-push (IsWritten version m generation) nodes node h.each one;
 }
 
@@ -250,27 +255,19 @@ next-is m free front level index nodes may some e none h same =
       place = next-place m free (names nodes) node may none begins ∙ ap (λ k. slice_get free k) long;
     }
 
--- its place is read from the list of places
-pub next-there : (m : Mapping) (free : List Place) (front : List NodeName) (level index : ℕ) (nodes : List (Place × Node)) (len : ℕ) (other : Place)
-    → IsNext m free front level index nodes → len ≡ length nodes → place_of (planned m free) level index ≡ Some (get_or free len other)
-next-there m free front level index nodes len other h e =
-    let inside = h.inside in
-    h.place ∙ (ap (λ k. slice_get free k) (sym e) ∙ slice_get-get_or free len other (omega arith))
-
--- and it is written there
-pub next-written : (version : Version) (m : Mapping) (free : List Place) (front : List NodeName) (generation level index : ℕ) (nodes nodes' new : List (Place × Node)) (node : Place × Node)
-    → IsNext m free front level index nodes → AreWritten version (planned m free) generation free nodes → nodes' ≡ nodes → new ≡ nodes' ++ node ∷ []
+-- it is written there
+pub next-written : (version : Version) (m : Mapping) (free : List Place) (front : List NodeName) (generation level index : ℕ) (nodes new : List (Place × Node)) (node : Place × Node)
+    → IsNext m free front level index nodes → AreWritten version (planned m free) generation free nodes → new ≡ nodes ++ node ∷ []
     → node.1.level ≡ level → node.1.index ≡ index → IsWritten version (planned m free) generation node → AreWritten version (planned m free) generation free new
-next-written version m free front generation level index nodes nodes' new node h written same more a b one =
+next-written version m free front generation level index nodes new node h written more a b one =
     let n : Mapping = planned m free in
     let here : place_of n node.1.level node.1.index ≡ place_of n level index = ap (λ l. place_of n l node.1.index) a ∙ ap (λ i. place_of n level i) b in
     let there : slice_get free (length nodes) ≡ Some node.0 = sym h.place ∙ (sym here ∙ one.stands) in
-    subst (AreWritten version n generation free) (sym (more ∙ ap (λ (ns : List (Place × Node)). ns ++ node ∷ []) same)) (written-more version n generation free nodes node written h.inside there one)
+    subst (AreWritten version n generation free) (sym more) (written-more version n generation free nodes node written h.inside there one)
 
 -- the names of the nodes with one more
-pub names-pushed : (nodes nodes' new : List (Place × Node)) (node : Place × Node) → nodes' ≡ nodes → new ≡ nodes' ++ node ∷ [] → names new ≡ names nodes ++ name_of node.1 ∷ []
-names-pushed nodes nodes' new node same more =
-    ap names more ∙ (ap (λ (ns : List (Place × Node)). names (ns ++ node ∷ [])) same ∙ map-append (λ (n : Place × Node). name_of n.1) nodes (node ∷ []))
+pub names-pushed : (nodes new : List (Place × Node)) (node : Place × Node) → new ≡ nodes ++ node ∷ [] → names new ≡ names nodes ++ name_of node.1 ∷ []
+names-pushed nodes new node more = ap names more ∙ map-append (λ (n : Place × Node). name_of n.1) nodes (node ∷ [])
 
 -- ---- the words
 

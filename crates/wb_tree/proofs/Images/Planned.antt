@@ -1,6 +1,6 @@
 -- The tree whose changed nodes all stand at the first of some free places.
 use Rattle.std.proofs.Common.{◌≡◌, ◌≤◌, ◌<◌, ◌+◌, ◌∙◌, ◌&&◌, ◌==◌, sym, ap, subst, refl, ℕ, zero, suc, true, false, is_some, List, [], ◌∷◌, ◌++◌, Option, Some, None, map, take, length, inl, inr, arith}
-use Rattle.std.specs.Prelude.{◌⊎◌, Contains, IsSome, slice_get, if◌then◌else◌}
+use Rattle.std.specs.Prelude.{◌⊎◌, Contains, IsSome, slice_get}
 use Rattle.std.specs.List.{AllByRecursion}
 use Rattle.std.proofs.lemmas.Bool.{cases_Bool}
 use Rattle.std.proofs.lemmas.Option.{get_or_from_slice_get, slice_get_within}

@@ -1,6 +1,6 @@
 -- How many nodes a tree has at most, and a reading reaches.
 use Rattle.std.proofs.lemmas.Bool.{cases_Bool}
-use Rattle.std.proofs.Common.{◌≡◌, ◌≤◌, ◌<◌, ◌+◌, ◌*◌, ◌^◌, ◌==◌, ap, refl, ℕ, zero, suc, Bool, true, false, List, [], ◌∷◌, Option, Some, None, Ok, Err, min, length, arith, inl, inr}
+use Rattle.std.proofs.Common.{◌≡◌, ◌≤◌, ◌<◌, ◌+◌, ◌*◌, ◌^◌, ◌==◌, ap, refl, ℕ, zero, suc, Bool, true, false, List, [], ◌∷◌, ◌++◌, Option, Some, None, Ok, Err, min, length, arith, inl, inr}
 use Rattle.std.specs.Prelude.{slice_index, if◌then◌else◌}
 use Rattle.std.proofs.lemmas.Grind.{div_ceil_times}
 use Rattle.std.proofs.lemmas.List.{length-append}
@@ -17,7 +17,7 @@ use Rattle.wb_tree.proofs.Nodes.Fronts.{begins_inside}
 use Rattle.wb_tree.proofs.Reading.Steps.{names_child-is, then_ok, test_ok}
 
 -- how many nodes of a level and below it stand before one of its nodes, where every cache block has an entry
-before : ℕ → ℕ → ℕ → ℕ
+pub before : ℕ → ℕ → ℕ → ℕ
 before zero blocks index = 0
 before (suc level) blocks index = before level blocks (32 * index) + min (nodes_at (suc level) blocks) index
 
@@ -26,45 +26,56 @@ unfolding before
 before-rises zero blocks index later h = omega arith
 before-rises (suc level) blocks index later h = let below = before-rises level blocks (32 * index) (32 * later) (omega arith) in omega arith
 
-before-most : (level blocks index : ℕ) → before level blocks index ≤ nodes_up_to level blocks
+pub before-most : (level blocks index : ℕ) → before level blocks index ≤ nodes_up_to level blocks
 unfolding before nodes_up_to
 before-most zero blocks index = omega arith
 before-most (suc level) blocks index = let below = before-most level blocks (32 * index) in omega arith
 
 -- a node that begins before the last cache block is one of its level
-index-counted : (level blocks index : ℕ) → index * 32 ^ level < blocks → index < nodes_at level blocks
+pub index-counted : (level blocks index : ℕ) → index * 32 ^ level < blocks → index < nodes_at level blocks
 index-counted level blocks index h =
     let some : 1 ≤ 32 ^ level = one-le-pow level 32 (omega arith) in
     let all = div_ceil_times blocks (32 ^ level) (omega arith) in
     let less : index * 32 ^ level < nodes_at level blocks * 32 ^ level = omega (arith, all.0) in
     lt_of_mul-lt-mul_right (32 ^ level) less
 
-each-counted : (entries : List (Option Entry)) (level blocks : ℕ) → ((index : ℕ) → length (nodes_below entries level index) + before level blocks index ≤ before level blocks (index + 1))
-    → (count first : ℕ) → length (each_from (nodes_below entries level) count first) + before level blocks first ≤ before level blocks (first + count)
-unfolding each_from
-each-counted entries level blocks each zero first = let e : first + zero ≡ first = omega arith in rw e (omega arith)
-each-counted entries level blocks each (suc count) first =
-    let here = each first in
-    let rest = each-counted entries level blocks each count (first + 1) in
-    let e : first + suc count ≡ first + 1 + count = omega arith in
-    rw e (omega (arith, length-append (nodes_below entries level first) (each_from (nodes_below entries level) count (first + 1))))
+-- no more stand at and below the nodes of a level than there are from one of them to the next
+abbrev pub AreFew : (ℕ → List NodeName) → ℕ → ℕ → Type 0
+AreFew nodes level blocks = (index : ℕ) → length (nodes index) + before level blocks index ≤ before level blocks (index + 1)
 
-below-counted : (entries : List (Option Entry)) (blocks : ℕ) → length entries ≤ blocks → (level index : ℕ) → length (nodes_below entries level index) + before level blocks index ≤ before level blocks (index + 1)
-unfolding before nodes_below
-below-counted entries blocks long zero index = omega arith
+-- nor at and below so many of them
+each-counted : (nodes : ℕ → List NodeName) (level blocks : ℕ) → AreFew nodes level blocks → (count first : ℕ) → length (each_from nodes count first) + before level blocks first ≤ before level blocks (first + count)
+unfolding each_from
+each-counted nodes level blocks few zero first = let e : first + zero ≡ first = omega arith in rw e (omega arith)
+each-counted nodes level blocks few (suc count) first =
+    let here = few first in
+    let rest = each-counted nodes level blocks few count (first + 1) in
+    let e : first + suc count ≡ first + 1 + count = omega arith in
+    rw e (omega (arith, length-append (nodes first) (each_from nodes count (first + 1))))
+
+-- nor at a node that is there and below it
+pub few_here : (nodes : ℕ → List NodeName) (level blocks index : ℕ) (here : NodeName) → AreFew nodes level blocks → index < nodes_at (suc level) blocks
+    → length (each_from nodes 32 (32 * index) ++ here ∷ []) + before (suc level) blocks index ≤ before (suc level) blocks (index + 1)
+unfolding before
+few_here nodes level blocks index here few counted =
+    let children : List NodeName = each_from nodes 32 (32 * index) in
+    let each = each-counted nodes level blocks few 32 (32 * index) in
+    let last : 32 * index + 32 ≡ 32 * (index + 1) = omega arith in
+    let each' : length children + before level blocks (32 * index) ≤ before level blocks (32 * (index + 1)) = rw (← last) each in
+    omega (arith, length-append children (here ∷ []))
+
+-- nor where none is
+pub few_nowhere : (level blocks index : ℕ) → 0 + before level blocks index ≤ before level blocks (index + 1)
+few_nowhere level blocks index = omega (arith, before-rises level blocks index (index + 1) (omega arith))
+
+below-counted : (entries : List (Option Entry)) (blocks : ℕ) → length entries ≤ blocks → (level : ℕ) → AreFew (nodes_below entries level) level blocks
+unfolding nodes_below
+below-counted entries blocks long zero index = few_nowhere zero blocks index
 below-counted entries blocks long (suc level) index = elim (cases_Bool (exists entries (suc level) index)) [
   | inl some ↦
-      let children : List NodeName = each_from (nodes_below entries level) 32 (32 * index) in
       let starts = begins_inside entries (suc level) index some in
-      let counted = index-counted (suc level) blocks index (omega arith) in
-      let each = each-counted entries level blocks (below-counted entries blocks long level) 32 (32 * index) in
-      let last : 32 * index + 32 ≡ 32 * (index + 1) = omega arith in
-      let each' : length children + before level blocks (32 * index) ≤ before level blocks (32 * (index + 1)) = rw (← last) each in
-      let self : List NodeName = record { level = suc level; index = index } ∷ [] in
-      rw some (omega (arith, length-append children self))
-  | inr none ↦
-      let below = before-rises level blocks (32 * index) (32 * (index + 1)) (omega arith) in
-      rw none (omega arith)
+      rw some (few_here (nodes_below entries level) level blocks index _ (below-counted entries blocks long level) (index-counted (suc level) blocks index (omega arith)))
+  | inr none ↦ rw none (few_nowhere (suc level) blocks index)
 ]
 
 -- a tree has no more nodes than one with an entry for each cache block

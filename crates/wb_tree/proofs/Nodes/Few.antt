@@ -1,5 +1,5 @@
 -- A tree has no more known nodes than one of its size can have.
-use Rattle.std.proofs.Common.{◌≡◌, ◌≤◌, ◌<◌, ◌+◌, ◌*◌, ◌^◌, ◌&&◌, ◌==◌, ◌∙◌, ap, refl, ℕ, zero, suc, Bool, true, false, cond, nat_le, List, [], ◌∷◌, Some, None, length, arith, inl, inr}
+use Rattle.std.proofs.Common.{◌≡◌, ◌≤◌, ◌+◌, ◌*◌, ◌^◌, ◌&&◌, ◌==◌, ◌∙◌, ap, refl, ℕ, zero, suc, Bool, true, false, cond, nat_le, List, [], ◌∷◌, Some, None, length, arith, inl, inr}
 use Rattle.std.specs.Prelude.{if◌then◌else◌}
 use Rattle.std.proofs.lemmas.Bool.{cases_Bool}
 use Rattle.wb_types.specs.Limits.{depth_of, node_count, nodes_up_to}

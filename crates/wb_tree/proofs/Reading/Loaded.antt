@@ -1,10 +1,8 @@
 -- The tree that was found, where every node that was reached has an entry below it: what holds of every tree holds of it, no
 -- node counts as changed, and each is read as the tree has it.
-use Rattle.std.proofs.Common.{◌≡◌, ◌≤◌, ◌<◌, ◌+◌, ◌*◌, ◌/◌, ◌^◌, ◌∙◌, ◌&&◌, ◌==◌, sym, ap, subst, refl, ℕ, suc, true, leb, List, [], ◌∷◌, Option, Some, None, Ok, length, get_or, take, drop, arith}
+use Rattle.std.proofs.Common.{◌≡◌, ◌≤◌, ◌<◌, ◌+◌, ◌*◌, ◌/◌, ◌^◌, ◌∙◌, sym, ap, subst, refl, ℕ, suc, true, List, [], ◌∷◌, Option, Some, None, Ok, length, get_or, take, drop, arith}
 use Rattle.std.specs.Prelude.{IsSome, is_some, slice_index_or, All}
 use Rattle.std.specs.List.{list_any, AllByRecursion}
-use Rattle.std.proofs.lemmas.Bool.{eqb-true}
-use Rattle.std.proofs.lemmas.Grind.{common_steps}
 use Rattle.std.proofs.lemmas.List.{get_or-take, get_or-drop, length-take}
 use Rattle.std.proofs.lemmas.Nat.{div-mul-add}
 use Rattle.wb_types.specs.declared.entry.Entry.{Entry}
@@ -24,7 +22,6 @@ use Rattle.wb_tree.proofs.Reading.LoaderSteps.{depth_range}
 use Rattle.wb_tree.proofs.Nodes.Counting.{count-reached}
 use Rattle.wb_tree.proofs.Reading.Grown.{tree_with}
 use Rattle.wb_tree.proofs.Reading.KnownTree.{IsKnownTree, known_tree}
-use Rattle.wb_types.proofs.Truth.{and_true}
 
 -- ---- a node that exists has an entry below it
 

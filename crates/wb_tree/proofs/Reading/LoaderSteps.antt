@@ -1,6 +1,6 @@
 -- A reading that goes on with the node that is wanted.
-use Rattle.std.proofs.Common.{nat_eq, ◌==◌, ◌-◌, take, replicate, ◌≡◌, ◌≤◌, ◌∙◌, sym, ap, subst, refl, ℕ, Bool, true, false, cond, List, [], ◌∷◌, ◌++◌, Option, Some, None, Ok, Err, reverse, arith, leb}
-use Rattle.std.specs.Prelude.{if◌then◌else◌, IfSome}
+use Rattle.std.proofs.Common.{nat_eq, ◌==◌, ◌-◌, take, replicate, ◌≡◌, ◌≤◌, ◌∙◌, sym, ap, subst, refl, ℕ, Bool, true, false, cond, List, [], ◌∷◌, ◌++◌, Option, Some, None, Result, Ok, Err, reverse, arith, leb}
+use Rattle.std.specs.Prelude.{if◌then◌else◌, IfSome, IfErr, IsSome, IsErrAnd}
 use Rattle.std.proofs.lemmas.Bool.{ne_eqb}
 use Rattle.std.proofs.lemmas.List.{take_all}
 use Rattle.std.proofs.lemmas.Bool.Decides.{nat_tests}
@@ -17,6 +17,7 @@ use Rattle.wb_tree.specs.Reading.{Found, ReadOutcome, Nodes, ◌then◌, is_node
 use Rattle.wb_tree.specs.Loading.{Loading, outcome, wanted_rest, frames_rest, leaf_read, found_with, node_on_top, top_node, IsFresh, IsLoading, FailsBy, AgreeAt}
 use Rattle.wb_tree.proofs.Reading.FrameSteps.{frames_rest-lowest}
 use Rattle.wb_tree.proofs.Reading.ReachedLemmas.{is_reached-push}
+use Rattle.wb_tree.proofs.Reading.Steps.{then_nothing}
 use Rattle.wb_tree.proofs.Reading.NodeSteps.{node_read-none, node_read-other, node_read-leaf, node_read-inner}
 
 -- the node that is wanted, and then what is left
@@ -27,14 +28,24 @@ rest_of : Root → Nodes → List Frame → ReadOutcome → ReadOutcome
 rest_of root nodes frames reading = reading then frames_rest root nodes frames
 
 -- nothing, or another node, is spelled there
-pub outcome-none : (l : Loading) (wanted : PlacedNode) (nodes : Nodes) → l.wanted ≡ Some wanted → nodes wanted.place.0 ≡ None → outcome l nodes ≡ Err wanted.place
+outcome-none : (l : Loading) (wanted : PlacedNode) (nodes : Nodes) → l.wanted ≡ Some wanted → nodes wanted.place.0 ≡ None → outcome l nodes ≡ Err wanted.place
 unfolding rest_of
 outcome-none l wanted nodes e none = outcome-wanted l wanted nodes e ∙ ap (rest_of l.root nodes (reverse l.frames)) (node_read-none l.root nodes wanted.level wanted.index wanted.place l.found none)
 
-pub outcome-other : (l : Loading) (wanted : PlacedNode) (nodes : Nodes) (node : Node) → l.wanted ≡ Some wanted → nodes wanted.place.0 ≡ Some node → is_node_of l.root wanted.level wanted.index node ≡ false
+outcome-other : (l : Loading) (wanted : PlacedNode) (nodes : Nodes) (node : Node) → l.wanted ≡ Some wanted → nodes wanted.place.0 ≡ Some node → is_node_of l.root wanted.level wanted.index node ≡ false
     → outcome l nodes ≡ Err wanted.place
 unfolding rest_of
 outcome-other l wanted nodes node e some wrong = outcome-wanted l wanted nodes e ∙ ap (rest_of l.root nodes (reverse l.frames)) (node_read-other l.root nodes wanted.level wanted.index wanted.place node l.found some wrong)
+
+-- what holds where none is spelled and where another node is, holds where no right one is
+pub by_told : {P : Type 0} (o : Option Node) (right : Node → Bool) → (o ≡ None → P) → ((node : Node) → o ≡ Some node → right node ≡ false → P) → ((node : Node) → o ≡ Some node → right node ≡ false) → P
+by_told {P} None right none other wrong = none refl
+by_told {P} (Some node) right none other wrong = other node refl (wrong node refl)
+
+-- what is spelled there is not what is wanted
+pub outcome-wrong : (l : Loading) (wanted : PlacedNode) (nodes : Nodes) → l.wanted ≡ Some wanted → ((node : Node) → nodes wanted.place.0 ≡ Some node → is_node_of l.root wanted.level wanted.index node ≡ false)
+    → outcome l nodes ≡ Err wanted.place
+outcome-wrong l wanted nodes e = by_told (nodes wanted.place.0) _ (outcome-none l wanted nodes e) (λ node some wrong. outcome-other l wanted nodes node e some wrong)
 
 -- a leaf that is wanted
 pub rest-leaf : (root : Root) (nodes : Nodes) (frames : List Frame) (wanted : PlacedNode) (node : Node) (found : Found) → wanted.level ≡ 1 → nodes wanted.place.0 ≡ Some node
@@ -74,8 +85,27 @@ pub same_wanted : (a b : PlacedNode) → ◌≡◌ {A = Option PlacedNode} (Some
 same_wanted a b e = cc
 
 -- a refusal that names the place of the fault
-pub fails_there : (refusal : Refusal) (place : Place) (reading : ReadOutcome) → refusal ≡ Damaged place → reading ≡ Err place → FailsBy refusal reading
-fails_there refusal place reading e h = rw e h
+pub fails_there : {X : Type 0} (refusal : Refusal) (place : Place) (reading : Result X Place) → refusal ≡ Damaged place → reading ≡ Err place → FailsBy refusal reading
+fails_there {X} refusal place reading e h = rw e h
+
+-- what holds of the refusal that a `?` hands on
+pub handed : {T E : Type 0} (r : Result T E) (refusal : E) (P : E → Type 0) → IsErrAnd r (λ e. e ≡ refusal) → P refusal → IfErr r P
+handed (Ok x) refusal P is h = tt
+handed (Err e) refusal P is h = subst P (sym is) h
+
+-- a `?` hands on that what is spelled at the wanted place is not what is wanted
+pub handed_wrong : {T X : Type 0} (r : Result T Refusal) (refusal : Refusal) (now : Option PlacedNode) (here : PlacedNode) (told : Option Node) (right : PlacedNode → Node → Bool) (reading : Nodes → Result X Place)
+    → IsErrAnd r (λ e. e ≡ refusal) → now ≡ Some here → refusal ≡ Damaged here.place → ((node : Node) → told ≡ Some node → right here node ≡ false)
+    → ((wanted : PlacedNode) (nodes : Nodes) → now ≡ Some wanted → ((node : Node) → nodes wanted.place.0 ≡ Some node → right wanted node ≡ false) → reading nodes ≡ Err wanted.place)
+    → IfErr r (λ e. IsSome now × ((wanted : PlacedNode) (nodes : Nodes) → now ≡ Some wanted → nodes wanted.place.0 ≡ told → FailsBy e (reading nodes)))
+handed_wrong r refusal now here told right reading is wants damaged other wrong =
+    handed r refusal _ is (
+      subst IsSome (sym wants) refl,
+      λ wanted nodes e as_told.
+          let same = same_wanted here wanted (sym wants ∙ e) in
+          fails_there refusal wanted.place (reading nodes) (damaged ∙ ap (λ (w : PlacedNode). Damaged w.place) same)
+          (wrong wanted nodes e (λ node some. subst (λ (w : PlacedNode). right w node ≡ false) same (other node (sym as_told ∙ some)))),
+    )
 
 -- ---- the top
 
@@ -112,10 +142,6 @@ pub top_node-is : (root : Root) (node : PlacedNode) → top_node root ≡ Some n
 top_node-is root node h = top_is root root.top node refl h
 
 -- ---- what was told
-
-then_nothing : (reading : ReadOutcome) → (reading then (λ found. Ok found)) ≡ reading
-then_nothing (Ok found) = refl
-then_nothing (Err place) = refl
 
 from_top : (root : Root) (nodes : Nodes) (top : Option Place) → wanted_rest root nodes [] (node_on_top root top) (nothing_found root) ≡ top_read root nodes top
 from_top root nodes None = refl

@@ -1,7 +1,7 @@
 -- The entries that are read are a mapping: each is within the sizes, and no origin block stands in two.
 use Rattle.std.proofs.Common.{◌≡◌, ◌≢◌, ◌≤◌, ◌<◌, ◌+◌, ◌*◌, ◌∙◌, ◌&&◌, ◌==◌, sym, ap, subst, refl, ℕ, zero, suc, Bool, true, false, ltb, List, Option, Some, None, Ok, Err, length, arith, inl, inr}
 use Rattle.std.specs.Prelude.{◌⊎◌, slice_index, slice_index_or, slice_set, if◌then◌else◌, not}
-use Rattle.std.proofs.lemmas.Bool.{cases_lt, eqb-true, not-true}
+use Rattle.std.proofs.lemmas.Bool.{cases_lt, not-true}
 use Rattle.std.proofs.lemmas.List.{length-set, length-replicate, get_or-set_same, get_or-set_other}
 use borrow.Author.Tests.{ltb-true}
 use Rattle.wb_types.specs.declared.entry.Entry.{Entry}

@@ -1,5 +1,5 @@
 -- Steps of a reading, one after the other.
-use Rattle.std.proofs.Common.{◌≡◌, ◌≢◌, ◌≤◌, ◌<◌, ◌+◌, ◌-◌, ◌*◌, ◌^◌, ◌∙◌, ◌&&◌, ap, refl, ℕ, zero, suc, get_or, replicate, Bool, true, false, not, nat_eq, ltb, leb, List, Option, Some, None, Ok, Err, arith, add-one}
+use Rattle.std.proofs.Common.{◌≡◌, ◌≢◌, ◌≤◌, ◌<◌, ◌+◌, ◌-◌, ◌*◌, ◌^◌, ◌∙◌, ◌&&◌, ap, refl, ℕ, zero, suc, get_or, replicate, Bool, true, false, not, nat_eq, ltb, leb, List, Option, Some, None, Result, Ok, Err, arith, add-one}
 use Rattle.std.proofs.lemmas.Bool.{ne_eqb, not-true}
 use Rattle.std.proofs.lemmas.Grind.{common_steps}
 use borrow.Author.Tests.{ltb-true}
@@ -9,7 +9,7 @@ use Rattle.wb_types.specs.declared.entry.Entry.{Entry}
 use Rattle.wb_types.specs.declared.number.Place.{Place}
 use Rattle.wb_format.specs.declared.root.Root.{Root}
 use Rattle.wb_tree.specs.declared.placed.PlacedNode.{PlacedNode}
-use Rattle.wb_tree.specs.Reading.{Found, ReadOutcome, Nodes, node_read, ◌then◌, each_step, child_read, names_child, entry_read, may_map, is_reached}
+use Rattle.wb_tree.specs.Reading.{Found, ReadOutcome, Nodes, node_read, ◌then◌, each_step, child_read, names_with, names_child, entry_read, may_map, is_reached}
 use Rattle.wb_types.proofs.Truth.{and_true}
 
 -- the next of the steps that are left
@@ -40,24 +40,27 @@ pub child_read-unnamed : (root : Root) (here : Place) (level index : ℕ) (read 
     → child_read root here level index read word found ≡ Err here
 child_read-unnamed root here level index read word found some unnamed = rw (not_zero word some, unnamed) refl
 
--- what the test of a child means
-pub record IsChild (root : Root) (reached : List PlacedNode) (level index word : ℕ) : Type 0 where
+-- what the test of a word means
+pub record IsNaming (root : Root) (was_reached : Bool) (word block : ℕ) : Type 0 where
   pub behind : 2 ≤ word
   pub inside : word < root.geometry.meta_sectors
-  pub unread : is_reached word reached ≡ false
-  pub below : index * 32 ^ level < root.geometry.cache_blocks
+  pub unread : was_reached ≡ false
+  pub below : block < root.geometry.cache_blocks
 
-pub names_child-is : (root : Root) (reached : List PlacedNode) (level index word : ℕ) → names_child root reached level index word ≡ true → IsChild root reached level index word
-names_child-is root reached level index word h =
-    let a = and_true (leb 2 word && ltb word root.geometry.meta_sectors && not (is_reached word reached)) (ltb (index * 32 ^ level) root.geometry.cache_blocks) h in
-    let b = and_true (leb 2 word && ltb word root.geometry.meta_sectors) (not (is_reached word reached)) a.0 in
+pub names_with-is : (root : Root) (was_reached : Bool) (word block : ℕ) → names_with root was_reached word block ≡ true → IsNaming root was_reached word block
+names_with-is root was_reached word block h =
+    let a = and_true (leb 2 word && ltb word root.geometry.meta_sectors && not was_reached) (ltb block root.geometry.cache_blocks) h in
+    let b = and_true (leb 2 word && ltb word root.geometry.meta_sectors) (not was_reached) a.0 in
     let d = and_true (leb 2 word) (ltb word root.geometry.meta_sectors) b.0 in
     record {
       behind = grind (arith, common_steps);
       inside = ltb-true _ _ d.1;
-      unread = not-true (is_reached word reached) b.1;
+      unread = not-true was_reached b.1;
       below = ltb-true _ _ a.1;
     }
+
+pub names_child-is : (root : Root) (reached : List PlacedNode) (level index word : ℕ) → names_child root reached level index word ≡ true → IsNaming root (is_reached word reached) word (index * 32 ^ level)
+names_child-is root reached level index word h = names_with-is root (is_reached word reached) word (index * 32 ^ level) h
 
 -- a node has no more nodes before it than cache blocks
 pub index_below : (index level blocks : ℕ) → index * 32 ^ level < blocks → index < blocks
@@ -66,12 +69,16 @@ index_below index level blocks h =
     let more : index * 1 ≤ index * 32 ^ level = mul-le-mul_left index some in
     omega arith
 
+-- a node is read by its level, its index and the number of its place
+pub same_read : {Y : Type 0} (read : ℕ → ℕ → Place → Y) (level level' index index' : ℕ) (place place' : Place) → level ≡ level' → index ≡ index' → place.0 ≡ place'.0 → read level index place ≡ read level' index' place'
+same_read {Y} read level level' index index' place place' a b c =
+    let made : ℕ → Place = λ n. record { 0 = n } in
+    ap (λ l. read l index place) a ∙ (ap (λ i. read level' i place) b ∙ ap (λ p. read level' index' p) (ap made c))
+
 pub same_node_read : (root : Root) (nodes : Nodes) (level level' index index' : ℕ) (place place' : Place) (found : Found) → level ≡ level' → index ≡ index' → place.0 ≡ place'.0
     → node_read root nodes level index place found ≡ node_read root nodes level' index' place' found
 same_node_read root nodes level level' index index' place place' found a b c =
-    let made : ℕ → Place = λ n. record { 0 = n } in
-    let d : place ≡ place' = ap made c in
-    ap (λ l. node_read root nodes l index place found) a ∙ (ap (λ i. node_read root nodes level' i place found) b ∙ ap (λ p. node_read root nodes level' index' p found) d)
+    ap (λ read. read found) (same_read (node_read root nodes) level level' index index' place place' a b c)
 
 -- ---- entries
 
@@ -89,9 +96,14 @@ entry_read-none root here block (Some entry) found none = absurd (none entry ref
 
 -- ---- what was read without a fault
 
-pub then_ok : (reading : ReadOutcome) (go_on : Found → ReadOutcome) (next : Found) → (reading then go_on) ≡ Ok next → (found : Found) × (reading ≡ Ok found) × (go_on found ≡ Ok next)
-then_ok (Ok found) go_on next e = (found, refl, e)
-then_ok (Err place) go_on next e = absurd (cc)
+pub then_ok : {X : Type 0} (reading : Result X Place) (go_on : X → Result X Place) (next : X) → (reading then go_on) ≡ Ok next → (found : X) × (reading ≡ Ok found) × (go_on found ≡ Ok next)
+then_ok {X} (Ok found) go_on next e = (found, refl, e)
+then_ok {X} (Err place) go_on next e = absurd (cc)
+
+-- nothing goes on
+pub then_nothing : {X : Type 0} (reading : Result X Place) → (reading then (λ found. Ok found)) ≡ reading
+then_nothing {X} (Ok found) = refl
+then_nothing {X} (Err place) = refl
 
 -- where a test has to come out true
 pub test_ok : (test : Bool) (here : Place) (reading : ReadOutcome) (next : Found) → (if test then reading else Err here) ≡ Ok next → (test ≡ true) × (reading ≡ Ok next)

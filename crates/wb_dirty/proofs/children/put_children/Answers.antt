@@ -1,6 +1,6 @@
 use Rattle.std.proofs.Common.{List, ◌≡◌, ◌∙◌, sym, ap, subst, reverse, arith, ◌+◌, ◌-◌, ◌*◌, slice_index}
 use Rattle.std.specs.Prelude.{All}
-use Rattle.wb_dirty.specs.declared.child.Child.{Child}
+use Rattle.wb_dirty.specs.declared.children.Child.{Child}
 use Rattle.wb_dirty.specs.Loading.{IsLevelOfChild}
 use Rattle.wb_dirty.proofs.Steps.{children-next, children-skip, children-all, children-zero}
 use Rattle.wb_dirty.proofs.Loads.{all_push}

@@ -10,11 +10,11 @@ returns-then-not-is_any_below-clause-count t c = ap length (sym (dirty_below-non
 pub returns-then-not-is_any_below-clause-at_most : goal.returns-then-not-is_any_below-clause-at_most
 returns-then-not-is_any_below-clause-at_most t c = some_at c.args.level
 
-pub returns-then-level-eq1-clause-count : goal.returns-then-level-eq1-clause-count
-returns-then-level-eq1-clause-count t c = leaf-count c.args.dirty.now c.args.level c.args.index c.if-level-eq1.true (sym c.is_any_below.ensures ∙ c.if-not-is_any_below.false)
+pub returns-else-level-gt1-clause-count : goal.returns-else-level-gt1-clause-count
+returns-else-level-gt1-clause-count t c = leaf-count c.args.dirty.now c.args.level c.args.index (omega (arith, c.requires.level_from, c.if-level-gt1.false)) (sym c.is_any_below.ensures ∙ c.if-not-is_any_below.false)
 
-pub returns-then-level-eq1-clause-at_most : goal.returns-then-level-eq1-clause-at_most
-returns-then-level-eq1-clause-at_most t c = leaf-most c.args.level c.if-level-eq1.true
+pub returns-else-level-gt1-clause-at_most : goal.returns-else-level-gt1-clause-at_most
+returns-else-level-gt1-clause-at_most t c = leaf-most c.args.level (omega (arith, c.requires.level_from, c.if-level-gt1.false))
 
 pub loop-j-init : goal.loop-j-init
 loop-j-init t c = counted-none c.args.dirty.now (c.args.level - 1) (32 * c.args.index)
@@ -32,7 +32,7 @@ overflow_add-index t c =
 pub count_below-count-requires : goal.count_below-count-requires
 count_below-count-requires t c =
     let low = has_dirty-low c.args.dirty.now c.args.level c.args.index c.requires.level_from c.requires.few (sym c.is_any_below.ensures ∙ c.if-not-is_any_below.false) in
-    (omega (arith, c.requires.level_from), (c.requires.few, (omega (arith, c.requires.level_from, c.if-level-eq1.false), (omega (arith, c.requires.level_to), omega (arith, low, c.loop-j-test.true)))))
+    (omega (arith, c.requires.level_from), (c.requires.few, (omega (arith, c.requires.level_from, c.if-level-gt1.true), (omega (arith, c.requires.level_to), omega (arith, low, c.loop-j-test.true)))))
 
 pub overflow_add-count : goal.overflow_add-count
 overflow_add-count t c =
@@ -44,13 +44,13 @@ pub loop-j-preserved : goal.loop-j-preserved
 loop-j-preserved t c =
     counted-more c.args.dirty.now (c.args.level - 1) (32 * c.args.index) c.loop-j.j c.loop-j.count c.count_below-count.result c.loop-j.invariant c.count_below-count.ensures.count c.count_below-count.ensures.at_most
 
-pub returns-clause-count : goal.returns-clause-count
-returns-clause-count t c =
+pub returns-after-loop-j-clause-count : goal.returns-after-loop-j-clause-count
+returns-after-loop-j-clause-count t c =
     let end : c.loop-j.j ≡ 32 = omega arith in
     node-count c.args.dirty.now c.args.level c.args.index c.loop-j.count c.requires.level_from (sym c.is_any_below.ensures ∙ c.if-not-is_any_below.false)
     (subst (λ n. IsCountedTo c.args.dirty.now (c.args.level - 1) (32 * c.args.index) n c.loop-j.count) end c.loop-j.invariant)
 
-pub returns-clause-at_most : goal.returns-clause-at_most
-returns-clause-at_most t c =
+pub returns-after-loop-j-clause-at_most : goal.returns-after-loop-j-clause-at_most
+returns-after-loop-j-clause-at_most t c =
     let end : c.loop-j.j ≡ 32 = omega arith in
     node-most c.args.dirty.now c.args.level c.args.index c.loop-j.count c.requires.level_from (subst (λ n. IsCountedTo c.args.dirty.now (c.args.level - 1) (32 * c.args.index) n c.loop-j.count) end c.loop-j.invariant)

@@ -5,23 +5,21 @@ use Rattle.wb_tree.specs.Loaded.{IsMappingOf, IsLoaded}
 use Rattle.wb_tree.specs.Reading.{Found, ReadOutcome}
 use Rattle.wb_tree.specs.declared.placed.PlacedNode.{PlacedNode}
 use Rattle.wb_dirty.specs.Reading.{Asked, dirty_read}
-use Rattle.wb_dirty.specs.ImageReading.{places_reached}
 use Rattle.wb_dirty.specs.ImageLoading.{found_in}
-use Rattle.wb_dirty.proofs.Images.{found-ahead, image-behind, front-begun, reached_alone, ends_fail}
+use Rattle.wb_dirty.proofs.Images.{found-ahead, bits-begun, image-behind, front-begun, reached_alone, ends_fail}
 use Rattle.wb_dirty.proofs.image_steps.go_on.Goals as goal
 
 pub returns-in-Ok-clause-part : goal.returns-in-Ok-clause-part
 returns-in-Ok-clause-part g c =
     let tree = c.in_ok-tree.tree in
     let nodes = c.args.nodes.items in
-    let same : c.args.loader.found ≡ found_in c.args.root.now nodes tree = found-ahead c.args.root.now c.args.loader nodes tree c.requires c.in_ok-tree.ensures.read c.in_ok-tree.ensures.entries in
-    let reached : c.in-Ok.loader.marks.reached ≡ map (λ (node : PlacedNode). node.place) nodes = c.in-Ok.ensures.reached ∙ (c.deref.ensures.value ∙ (c.in_ok-tree.ensures.places ∙ ap (λ (f : Found). places_reached f) same)) in
+    let begun = bits-begun c.args.root.now c.args.loader nodes tree c.in-Ok.loader.marks.reached c.requires c.in_ok-tree.ensures.read c.in_ok-tree.ensures.entries (c.in-Ok.ensures.reached ∙ (c.deref.ensures.value ∙ c.in_ok-tree.ensures.places)) in
     record {
       named = c.requires.named;
       mapping = subst (λ (r : Root). IsMappingOf r tree) c.requires.root_is c.in_ok-tree.ensures.mapping;
-      loaded = subst (λ (f : Found). IsLoaded c.args.root.now f tree) same (subst (λ (r : Root). IsLoaded r c.args.loader.found tree) c.requires.root_is c.in_ok-tree.ensures.known);
+      loaded = subst (λ (f : Found). IsLoaded c.args.root.now f tree) begun.found (subst (λ (r : Root). IsLoaded r c.args.loader.found tree) c.requires.root_is c.in_ok-tree.ensures.known);
       root_is = ap (λ (a : Asked). a.root) c.in-Ok.ensures.asked;
-      front = front-begun nodes c.in-Ok.loader.marks.reached reached;
+      front = front-begun nodes c.in-Ok.loader.marks.reached begun.places;
     }
 
 pub returns-in-Ok-clause-goes_on : goal.returns-in-Ok-clause-goes_on
@@ -40,9 +38,8 @@ pub returns-in-Ok-clause-reached : goal.returns-in-Ok-clause-reached
 returns-in-Ok-clause-reached g c =
     let tree = c.in_ok-tree.tree in
     let nodes = c.args.nodes.items in
-    let same : c.args.loader.found ≡ found_in c.args.root.now nodes tree = found-ahead c.args.root.now c.args.loader nodes tree c.requires c.in_ok-tree.ensures.read c.in_ok-tree.ensures.entries in
-    let reached : c.in-Ok.loader.marks.reached ≡ map (λ (node : PlacedNode). node.place) nodes = c.in-Ok.ensures.reached ∙ (c.deref.ensures.value ∙ (c.in_ok-tree.ensures.places ∙ ap (λ (f : Found). places_reached f) same)) in
-    reached_alone nodes c.in-Ok.loader.marks.reached reached ∙ ap (λ (f : Found). f.reached) (sym same)
+    let begun = bits-begun c.args.root.now c.args.loader nodes tree c.in-Ok.loader.marks.reached c.requires c.in_ok-tree.ensures.read c.in_ok-tree.ensures.entries (c.in-Ok.ensures.reached ∙ (c.deref.ensures.value ∙ c.in_ok-tree.ensures.places)) in
+    reached_alone nodes c.in-Ok.loader.marks.reached begun.places ∙ ap (λ (f : Found). f.reached) (sym begun.found)
 
 pub returns-in-Err-clause-err : goal.returns-in-Err-clause-err
 returns-in-Err-clause-err g c others =

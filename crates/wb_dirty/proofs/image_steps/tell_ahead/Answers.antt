@@ -36,4 +36,4 @@ returns-in-Ok-clause-err g c =
 
 pub returns-in-Err-clause-err : goal.returns-in-Err-clause-err
 returns-in-Err-clause-err g c wanted others e told =
-    fails_then c.in-Err.refusal (outcome c.args.loader others) (bits_behind c.args.root.now others c.args.root.now.top_dirty) (c.in-Err.ensures.err wanted others e told)
+    fails_then c.in-Err.refusal (outcome c.args.loader others) (bits_behind c.args.root.now others c.args.root.now.top_dirty) (c.in-Err.ensures.err.1 wanted others e told)

@@ -9,7 +9,7 @@ use Rattle.wb_tree.proofs.Images.PlanWords.{words_everywhere, IsInnerWord-zero}
 use Rattle.wb_tree.proofs.Images.PlanSteps.{child-more}
 use Rattle.wb_dirty.specs.Planning.{dirty_below, has_dirty, IsNamedBy}
 use Rattle.wb_dirty.proofs.DirtyBits.{has_dirty-low}
-use Rattle.wb_dirty.proofs.PlanSteps.{dirty_below-none, leaf_needs_none, place-left, places-below, places-next, listed-node, continues-self, continues-both, continues-same, continues-push, named-more, planned-push, stands-pushed, inner-of}
+use Rattle.wb_dirty.proofs.PlanSteps.{dirty_below-none, leaf_needs_none, place-left, places-below, places-next, listed-node, continues-self, continues-both, continues-push, named-more, planned-push, stands-pushed, inner-of}
 use Rattle.wb_dirty.proofs.planning.+nodes.Goals as goal
 
 pub plan_node-returns-then-not-is_any_below-clause-names : goal.plan_node-returns-then-not-is_any_below-clause-names
@@ -43,37 +43,34 @@ plan_node-plan_words-requires t c =
       ),
     )
 
-pub plan_node-bounds-plan-len : goal.plan_node-bounds-plan-len
-plan_node-bounds-plan-len t c =
+pub plan_node-put_node-requires : goal.plan_node-put_node-requires
+plan_node-put_node-requires t c =
     let some : has_dirty c.args.plan.now.dirty.now c.args.level c.args.index ≡ true = sym c.is_any_below.ensures ∙ c.if-not-is_any_below.false in
     let room = place-left c.args.plan.now.dirty.now c.args.level c.args.index (length c.args.plan.now.free.now) c.args.nodes.now.items c.plan_words.new.nodes.items c.requires.level_from some c.requires.enough c.in_ok-words.ensures.names in
-    let long : length c.reserve.new.self.items ≡ length c.plan_words.new.nodes.items = ap length c.in_ok-reserve.ensures.items in
-    omega (arith, c.reserve.new.self.ok.0, room, long)
+    room
 
 pub plan_node-returns-clause-names : goal.plan_node-returns-clause-names
 plan_node-returns-clause-names t c =
     let some : has_dirty c.args.plan.now.dirty.now c.args.level c.args.index ≡ true = sym c.is_any_below.ensures ∙ c.if-not-is_any_below.false in
-    listed-node c.args.plan.now.dirty.now c.args.level c.args.index c.args.nodes.now.items c.reserve.new.self.items c.push_reserved.new.self.items _ c.requires.level_from some
-    (ap names c.in_ok-reserve.ensures.items ∙ c.in_ok-words.ensures.names) c.push_reserved.ensures.items refl refl
+    listed-node c.args.plan.now.dirty.now c.args.level c.args.index c.args.nodes.now.items c.plan_words.new.nodes.items c.put_node.new.nodes.items _ c.requires.level_from some
+    c.in_ok-words.ensures.names c.in_ok-put_node.ensures.put refl refl
 
 pub plan_node-returns-clause-continues : goal.plan_node-returns-clause-continues
 plan_node-returns-clause-continues t c =
-    continues-both c.args.nodes.now.items c.reserve.new.self.items c.push_reserved.new.self.items
-    (continues-same c.args.nodes.now.items c.plan_words.new.nodes.items c.reserve.new.self.items c.in_ok-words.ensures.continues c.in_ok-reserve.ensures.items)
-    (continues-push c.reserve.new.self.items c.push_reserved.new.self.items _ c.push_reserved.ensures.items)
+    continues-both c.args.nodes.now.items c.plan_words.new.nodes.items c.put_node.new.nodes.items c.in_ok-words.ensures.continues
+    (continues-push c.plan_words.new.nodes.items c.put_node.new.nodes.items _ c.in_ok-put_node.ensures.put)
 
 pub plan_node-returns-clause-planned : goal.plan_node-returns-clause-planned
 plan_node-returns-clause-planned t c =
     let some : has_dirty c.args.plan.now.dirty.now c.args.level c.args.index ≡ true = sym c.is_any_below.ensures ∙ c.if-not-is_any_below.false in
     let room = place-left c.args.plan.now.dirty.now c.args.level c.args.index (length c.args.plan.now.free.now) c.args.nodes.now.items c.plan_words.new.nodes.items c.requires.level_from some c.requires.enough c.in_ok-words.ensures.names in
-    let long : c.len.result ≡ length c.plan_words.new.nodes.items = let same = ap length c.in_ok-reserve.ensures.items in c.len.ensures ∙ (c.reserve.new.self.ok.0 ∙ same) in
-    planned-push c.args.plan.now.dirty.now c.args.plan.now.generation c.args.plan.now.free.now c.plan_words.new.nodes.items c.reserve.new.self.items c.push_reserved.new.self.items _ c.len.result (record { 0 = 0 })
-    c.in_ok-words.ensures.planned c.in_ok-reserve.ensures.items c.push_reserved.ensures.items long (omega (arith, long, room)) refl
+    planned-push c.args.plan.now.dirty.now c.args.plan.now.generation c.args.plan.now.free.now c.plan_words.new.nodes.items c.put_node.new.nodes.items _
+    c.in_ok-words.ensures.planned c.in_ok-put_node.ensures.put room c.in_ok-put_node.ensures.there
     (record { of_bits = refl; written_in = refl; words = record { leaf = c.in_ok-words.ensures.leaf; inner = c.in_ok-words.ensures.inner } })
 
 pub plan_node-returns-clause-place : goal.plan_node-returns-clause-place
 plan_node-returns-clause-place t c =
-    (sym c.is_any_below.ensures ∙ c.if-not-is_any_below.false, stands-pushed c.reserve.new.self.items c.push_reserved.new.self.items c.args.level c.args.index _ c.push_reserved.ensures.items refl refl)
+    (sym c.is_any_below.ensures ∙ c.if-not-is_any_below.false, stands-pushed c.plan_words.new.nodes.items c.put_node.new.nodes.items c.args.level c.args.index _ c.in_ok-put_node.ensures.put refl refl)
 
 pub plan_words-returns-then-level-eq1-clause-names : goal.plan_words-returns-then-level-eq1-clause-names
 plan_words-returns-then-level-eq1-clause-names t c =
@@ -123,18 +120,18 @@ plan_words-loop-j-preserved t c =
     let j = c.loop-j.j in
     let inside : c.loop-j.j < length c.loop-j.words = omega (arith, c.loop-j.invariant.size, c.loop-j-test.true) in
     let told = c.in_ok-child.ensures in
-    let number = c.word_of_place.ensures in
+    let number = c.number_of.ensures in
     let dirty = c.args.plan.now.dirty.now in
     record {
-      size = length-set c.loop-j.words j c.word_of_place.result ∙ inv.size;
+      size = length-set c.loop-j.words j c.number_of.result ∙ inv.size;
       listed = told.names ∙ child-more (names c.args.nodes.now.items) (dirty_below dirty (c.args.level - 1)) j (32 * c.args.index) (names c.loop-j.nodes.items) inv.listed;
       continues = continues-both c.args.nodes.now.items c.loop-j.nodes.items c.plan_node.new.nodes.items inv.continues told.continues;
       planned = told.planned;
-      words = set_more (λ k word. IsNamedBy dirty c.plan_node.new.nodes.items (c.args.level - 1) (32 * c.args.index + k) word) c.loop-j.words j c.word_of_place.result inside
+      words = set_more (λ k word. IsNamedBy dirty c.plan_node.new.nodes.items (c.args.level - 1) (32 * c.args.index + k) word) c.loop-j.words j c.number_of.result inside
           (λ k below. named-more dirty c.loop-j.nodes.items c.plan_node.new.nodes.items (c.args.level - 1) (32 * c.args.index + k) (slice_index c.loop-j.words k) told.continues (inv.words k below))
           (record { place = c.in_ok-child.child; placed = told.place; spelled = number.number });
-      spelled = set_more (λ k word. IsInnerWord word) c.loop-j.words j c.word_of_place.result inside inv.spelled
-          (inner-of dirty c.args.plan.now.generation c.args.plan.now.free.now c.plan_node.new.nodes.items (c.args.level - 1) (32 * c.args.index + j) c.word_of_place.result c.in_ok-child.child told.planned c.requires.behind told.place number.number number.at_most);
+      spelled = set_more (λ k word. IsInnerWord word) c.loop-j.words j c.number_of.result inside inv.spelled
+          (inner-of dirty c.args.plan.now.generation c.args.plan.now.free.now c.plan_node.new.nodes.items (c.args.level - 1) (32 * c.args.index + j) c.number_of.result c.in_ok-child.child told.planned c.requires.behind told.place number.number number.at_most);
     }
 
 pub plan_words-returns-clause-spelled : goal.plan_words-returns-clause-spelled

@@ -7,7 +7,7 @@ use Rattle.wb_tree.specs.Planning.{planned, names, changed_below}
 use Rattle.wb_tree.proofs.Nodes.Listing.{each_from-none, exists-before}
 use Rattle.wb_tree.proofs.Images.PlanWords.{words_everywhere, IsInnerWord-zero}
 use Rattle.wb_format.proofs.WordLemmas.{set_more}
-use Rattle.wb_tree.proofs.Images.PlanSteps.{begins-children, child-inside, child-more, inner-word, known_below_nothing, leaf-word, leaf_below, names-pushed, next-child, next-is, next-there, next-written, planned-known, planned-none, shut_below}
+use Rattle.wb_tree.proofs.Images.PlanSteps.{begins-children, child-inside, child-more, inner-word, known_below_nothing, leaf-word, leaf_below, names-pushed, next-child, next-is, next-written, planned-known, planned-none, shut_below}
 use Rattle.wb_tree.proofs.planning.+nodes.Goals as goal
 
 pub plan_node-returns-in-None-clause-names : goal.plan_node-returns-in-None-clause-names
@@ -57,40 +57,30 @@ plan_node-plan_words-requires g t c κs within =
       ),
     )
 
-pub plan_node-bounds-plan-len : goal.plan_node-bounds-plan-len
-plan_node-bounds-plan-len g t c =
+pub plan_node-put_node-requires : goal.plan_node-put_node-requires
+plan_node-put_node-requires g t c =
     let next = next-is c.args.plan.now.tree.now c.args.plan.now.free.now (names c.args.nodes.now.items) c.args.level c.args.index c.plan_words.new.nodes.items
     c.requires.can c.requires.level_from (sym c.in-Some-None.ensures.there) (sym c.in-Some-None.ensures.place ∙ c.in-Some-None.field-0-is) c.requires.next c.in_ok-words.ensures.names in
-    let inside = next.inside in
-    let long : length c.reserve.new.self.items ≡ length c.plan_words.new.nodes.items = ap length c.in_ok-reserve.ensures.items in
-    omega (arith, c.reserve.new.self.ok.0)
+    next.inside
 
 pub plan_node-returns-clause-names : goal.plan_node-returns-clause-names
 plan_node-returns-clause-names g t c =
     let next = next-is c.args.plan.now.tree.now c.args.plan.now.free.now (names c.args.nodes.now.items) c.args.level c.args.index c.plan_words.new.nodes.items
     c.requires.can c.requires.level_from (sym c.in-Some-None.ensures.there) (sym c.in-Some-None.ensures.place ∙ c.in-Some-None.field-0-is) c.requires.next c.in_ok-words.ensures.names in
-    names-pushed c.plan_words.new.nodes.items c.reserve.new.self.items c.push_reserved.new.self.items _ c.in_ok-reserve.ensures.items c.push_reserved.ensures.items ∙ next.listed
+    names-pushed c.plan_words.new.nodes.items c.put_node.new.nodes.items _ c.in_ok-place.ensures.put ∙ next.listed
 
 pub plan_node-returns-clause-planned : goal.plan_node-returns-clause-planned
 plan_node-returns-clause-planned g t c =
     let next = next-is c.args.plan.now.tree.now c.args.plan.now.free.now (names c.args.nodes.now.items) c.args.level c.args.index c.plan_words.new.nodes.items
     c.requires.can c.requires.level_from (sym c.in-Some-None.ensures.there) (sym c.in-Some-None.ensures.place ∙ c.in-Some-None.field-0-is) c.requires.next c.in_ok-words.ensures.names in
-    let long : c.len.result ≡ length c.plan_words.new.nodes.items = let same = ap length c.in_ok-reserve.ensures.items in c.len.ensures ∙ (c.reserve.new.self.ok.0 ∙ same) in
-    next-written c.args.plan.now.version c.args.plan.now.tree.now c.args.plan.now.free.now (names c.args.nodes.now.items) c.args.plan.now.generation c.args.level c.args.index c.plan_words.new.nodes.items c.reserve.new.self.items c.push_reserved.new.self.items _
-    next c.in_ok-words.ensures.planned c.in_ok-reserve.ensures.items c.push_reserved.ensures.items refl refl
-    (record {
-      stands = next-there c.args.plan.now.tree.now c.args.plan.now.free.now (names c.args.nodes.now.items) c.args.level c.args.index c.plan_words.new.nodes.items c.len.result (record { 0 = 0 }) next long;
-      written_in = refl;
-      mapping = refl;
-      words = c.in_ok-words.ensures.words;
-    })
+    next-written c.args.plan.now.version c.args.plan.now.tree.now c.args.plan.now.free.now (names c.args.nodes.now.items) c.args.plan.now.generation c.args.level c.args.index c.plan_words.new.nodes.items c.put_node.new.nodes.items _
+    next c.in_ok-words.ensures.planned c.in_ok-place.ensures.put refl refl (record { stands = next.place ∙ c.in_ok-place.ensures.there; written_in = refl; mapping = refl; words = c.in_ok-words.ensures.words })
 
 pub plan_node-returns-clause-place : goal.plan_node-returns-clause-place
 plan_node-returns-clause-place g t c =
     let next = next-is c.args.plan.now.tree.now c.args.plan.now.free.now (names c.args.nodes.now.items) c.args.level c.args.index c.plan_words.new.nodes.items
     c.requires.can c.requires.level_from (sym c.in-Some-None.ensures.there) (sym c.in-Some-None.ensures.place ∙ c.in-Some-None.field-0-is) c.requires.next c.in_ok-words.ensures.names in
-    let long : c.len.result ≡ length c.plan_words.new.nodes.items = let same = ap length c.in_ok-reserve.ensures.items in c.len.ensures ∙ (c.reserve.new.self.ok.0 ∙ same) in
-    sym (next-there c.args.plan.now.tree.now c.args.plan.now.free.now (names c.args.nodes.now.items) c.args.level c.args.index c.plan_words.new.nodes.items c.len.result (record { 0 = 0 }) next long)
+    sym (next.place ∙ c.in_ok-place.ensures.there)
 
 pub plan_words-returns-then-level-eq1-clause-names : goal.plan_words-returns-then-level-eq1-clause-names
 plan_words-returns-then-level-eq1-clause-names g t c =

@@ -1,7 +1,7 @@
 use Rattle.std.proofs.Common.{◌≡◌, ◌∙◌, ap, subst}
 use Rattle.wb_tree.specs.Loading.{FailsBy}
+use Rattle.wb_tree.proofs.Reading.LoaderSteps.{handed}
 use Rattle.wb_dirty.specs.ImageLoading.{ImageLoading, image_loading, image_outcome, mapping_outcome, part_read}
-use Rattle.wb_dirty.proofs.Images.{handed}
 use Rattle.wb_dirty.proofs.image_loader.ImageLoader.tell.Goals as goal
 
 pub returns-in_err-part-clause-err : goal.returns-in_err-part-clause-err

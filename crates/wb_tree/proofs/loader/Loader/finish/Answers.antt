@@ -19,7 +19,7 @@ all_exist-requires g c =
     let l : Loading = loading_of c.self.inside.root c.self.inside.reached c.self.inside.entries.items c.self.inside.mapped.items c.self.inside.frames.items c.self.inside.wanted in
     let none : l.wanted ≡ None = ap (λ (m : Loading). m.wanted) c.self.view_is ∙ c.requires in
     let reads : tree_read l.root c.self.invariant.told ≡ Ok l.found = told-read l c.self.invariant none in
-    subst (λ nodes. All (λ (node : PlacedNode). node.level ≤ 4) nodes) (sym (c.deref-3.ensures.value ∙ c.into_nodes-nodes.ensures)) (reached_levels l.root c.self.invariant.told l.found reads)
+    subst (λ nodes. All (λ (node : PlacedNode). node.level ≤ 4) nodes) (sym (c.deref-3.ensures.value ∙ c.into_items-nodes.ensures)) (reached_levels l.root c.self.invariant.told l.found reads)
 
 pub of_entries-requires-clause-apart : goal.of_entries-requires-clause-apart
 of_entries-requires-clause-apart g c =
@@ -27,7 +27,7 @@ of_entries-requires-clause-apart g c =
     let none : l.wanted ≡ None = ap (λ (m : Loading). m.wanted) c.self.view_is ∙ c.requires in
     let reads : tree_read l.root c.self.invariant.told ≡ Ok l.found = told-read l c.self.invariant none in
     elim c.if-all_exist.branch [
-      | then-all_exist w ↦ subst AreApart (sym (c.deref-5.ensures.value ∙ (ap (λ v. v.items) w.known-is ∙ c.into_nodes-nodes.ensures))) (reached_apart l.root c.self.invariant.told l.found reads)
+      | then-all_exist w ↦ subst AreApart (sym (c.deref-5.ensures.value ∙ (ap (λ v. v.items) w.known-is ∙ c.into_items-nodes.ensures))) (reached_apart l.root c.self.invariant.told l.found reads)
       | else-all_exist w ↦ subst AreApart (sym (c.deref-5.ensures.value ∙ (ap (λ v. v.items) w.known-is ∙ w.new-known.ensures.items))) tt
     ]
 
@@ -38,8 +38,8 @@ of_entries-requires-clause-sound g c =
     let reads : tree_read l.root c.self.invariant.told ≡ Ok l.found = told-read l c.self.invariant none in
     subst (λ (es : List (Option Entry)). IsSound (record { entries = es; known = c.deref-5.result.now })) (sym c.deref-4.ensures.value) (
     elim c.if-all_exist.branch [
-      | then-all_exist w ↦ subst (λ (ks : List PlacedNode). IsSound (record { entries = l.found.entries; known = ks })) (sym (c.deref-5.ensures.value ∙ (ap (λ v. v.items) w.known-is ∙ c.into_nodes-nodes.ensures))) (reached_sound l.root c.self.invariant.told l.found reads
-          (same_exist c.deref-2.result.now c.self.inside.entries.items c.deref-3.result.now c.self.inside.reached c.deref-2.ensures.value (c.deref-3.ensures.value ∙ c.into_nodes-nodes.ensures) (c.all_exist.ensures.0 w.if-all_exist.true)))
+      | then-all_exist w ↦ subst (λ (ks : List PlacedNode). IsSound (record { entries = l.found.entries; known = ks })) (sym (c.deref-5.ensures.value ∙ (ap (λ v. v.items) w.known-is ∙ c.into_items-nodes.ensures))) (reached_sound l.root c.self.invariant.told l.found reads
+          (same_exist c.deref-2.result.now c.self.inside.entries.items c.deref-3.result.now c.self.inside.reached c.deref-2.ensures.value (c.deref-3.ensures.value ∙ c.into_items-nodes.ensures) (c.all_exist.ensures.0 w.if-all_exist.true)))
       | else-all_exist w ↦ subst (λ (ks : List PlacedNode). IsSound (record { entries = l.found.entries; known = ks })) (sym (c.deref-5.ensures.value ∙ (ap (λ v. v.items) w.known-is ∙ w.new-known.ensures.items))) (none_sound l.found.entries)
     ])
 
@@ -61,10 +61,10 @@ returns-clause-known g c =
     let alike : AreAlike m c.in_ok-tree.tree = record { entries = c.in_ok-tree.ensures.entries ∙ c.deref-4.ensures.value; places = c.in_ok-tree.ensures.places } in
     subst (λ (k : Loading). IsLoaded k.root k.found c.in_ok-tree.tree) c.self.view_is (loaded-alike l.root l.found m c.in_ok-tree.tree alike (
     elim c.if-all_exist.branch [
-      | then-all_exist w ↦ loaded_all l.root c.self.invariant.told l.found m reads refl (c.deref-5.ensures.value ∙ (ap (λ v. v.items) w.known-is ∙ c.into_nodes-nodes.ensures))
-          (same_exist c.deref-2.result.now c.self.inside.entries.items c.deref-3.result.now c.self.inside.reached c.deref-2.ensures.value (c.deref-3.ensures.value ∙ c.into_nodes-nodes.ensures) (c.all_exist.ensures.0 w.if-all_exist.true))
+      | then-all_exist w ↦ loaded_all l.root c.self.invariant.told l.found m reads refl (c.deref-5.ensures.value ∙ (ap (λ v. v.items) w.known-is ∙ c.into_items-nodes.ensures))
+          (same_exist c.deref-2.result.now c.self.inside.entries.items c.deref-3.result.now c.self.inside.reached c.deref-2.ensures.value (c.deref-3.ensures.value ∙ c.into_items-nodes.ensures) (c.all_exist.ensures.0 w.if-all_exist.true))
       | else-all_exist w ↦ loaded_none l.root c.self.invariant.told l.found m reads refl (c.deref-5.ensures.value ∙ (ap (λ v. v.items) w.known-is ∙ w.new-known.ensures.items)) (λ whole.
-          let all = c.all_exist.ensures.1 (same_exist c.self.inside.entries.items c.deref-2.result.now c.self.inside.reached c.deref-3.result.now (sym c.deref-2.ensures.value) (sym (c.deref-3.ensures.value ∙ c.into_nodes-nodes.ensures)) whole) in
+          let all = c.all_exist.ensures.1 (same_exist c.self.inside.entries.items c.deref-2.result.now c.self.inside.reached c.deref-3.result.now (sym c.deref-2.ensures.value) (sym (c.deref-3.ensures.value ∙ c.into_items-nodes.ensures)) whole) in
           let both : true ≡ false = sym all ∙ w.if-all_exist.false in
           cc)
     ]))

@@ -1,4 +1,4 @@
-use Rattle.std.proofs.Common.{◌≡◌, ◌+◌, ◌∙◌, ap, subst, List, Option, count_by, is_some, length}
+use Rattle.std.proofs.Common.{◌+◌, ◌∙◌, ap, subst, List, Option, count_by, is_some, length}
 use Rattle.wb_types.specs.declared.number.Place.{Place}
 use Rattle.wb_tree.specs.Mapping.{Mapping, IsSound}
 use Rattle.wb_tree.specs.Branches.{forget}

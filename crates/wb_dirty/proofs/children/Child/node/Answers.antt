@@ -1,6 +1,6 @@
 use Rattle.std.proofs.Common.{sym, ◌∙◌, arith}
 use Rattle.wb_dirty.proofs.Steps.{names_node-is, index_first}
-use Rattle.wb_dirty.proofs.child.Child.node.Goals as goal
+use Rattle.wb_dirty.proofs.children.Child.node.Goals as goal
 
 pub overflow_cast-result : goal.overflow_cast-result
 overflow_cast-result c =

@@ -1,7 +1,7 @@
 use Rattle.std.proofs.Common.{◌≤◌, ◌∙◌, sym, arith}
 use Rattle.std.proofs.lemmas.Bool.{le-ltb}
 use Rattle.wb_dirty.proofs.Steps.{first_past}
-use Rattle.wb_dirty.proofs.child.Child.is_below.Goals as goal
+use Rattle.wb_dirty.proofs.children.Child.is_below.Goals as goal
 
 pub returns-else-self-from : goal.returns-else-self-from
 returns-else-self-from c =
