@@ -24,9 +24,9 @@ use Rattle.wb_orders.specs.Named.{first_of, second_of, IsNamed}
 use Rattle.wb_orders.specs.Orders.{Orders, AreOrders, IsTaken, IsQueue, order_at, cost_of, slots_taken, queue_taken, order_taken, without_order, unmarked}
 use Rattle.wb_orders.proofs.Kept.{Slots, within_of, none_kept, none_cost}
 use Rattle.wb_orders.proofs.Calls.{given_kept, given_cost, taken_kept, taken_cost, over_kept, over_cost}
-use Rattle.wb_desk.specs.Allocation.{LiveOrder, Allocation, AllocationInvariant, MayGiveOrder, Apart, Shareless, NoneTwice, at_opening, block_as_opened, IsActRun, DeskAct, Over, Unmap as UnmapBlock, after_act, after_acts, origin_in, cost, orders_without, cache_at}
+use Rattle.wb_desk.specs.Allocation.{BlockMap, LiveOrder, Allocation, AllocationInvariant, MayGiveOrder, Apart, Shareless, NoneTwice, at_opening, block_as_opened, IsActRun, DeskAct, Over, Unmap as UnmapBlock, after_act, after_acts, origin_in, cost, orders_without, cache_at}
 use Rattle.wb_desk.specs.Desks.{DeskState, DeskInvariant, MayReserve, holdings, sectors_asked}
-use Rattle.wb_desk.specs.Calls.{reserved, released, next_order_taken}
+use Rattle.wb_desk.specs.Calls.{blocks_reserved, reserved, released, next_order_taken}
 use Rattle.wb_desk.specs.Entries.{MayMap, IsRemoved, entry_of, mapped, unmapped, keeps, orders_past, is_replacement}
 use Rattle.wb_desk.specs.Opening.{opened}
 use Rattle.wb_desk.specs.Commits.{commit_begun, commit_broken, commit_ended}
@@ -162,19 +162,26 @@ module _ {P : Type 0} where
   abbrev Follows : HeldImages → Allocation → DeskState P → DeskCall → DeskState P → Type 0
   Follows images a d call new = IsActRun a (acts_of a d call new) × IsAllocation new (images_after d images call) (after_acts a (acts_of a d call new))
 
+  -- the blocks, the mapping and the orders become these, and the rest stays
+  becomes : {d new : DeskState P} {images : HeldImages} {a : Allocation} {blocks : List Block} {mapping : BlockMap} {orders : List LiveOrder} → IsAllocation d images a
+      → new.space.committing ≡ d.space.committing → new.threshold ≡ d.threshold
+      → blocks ≡ new.space.blocks → mapping ≡ holdings new → AreListed orders new.orders.slots → cost orders ≡ cost_of new.orders.slots
+      → IsAllocation new images (record a { blocks = blocks; mapping = mapping; orders = orders })
+  becomes s runs threshold blocks mapping orders sectors = record {
+    blocks = blocks;
+    mapping = mapping;
+    committed = s.committed;
+    running = s.running;
+    committing = s.committing ∙ sym runs;
+    threshold = s.threshold ∙ sym threshold;
+    orders = orders;
+    sectors = sectors;
+  }
+
   take_follows : (d : DeskState P) (images : HeldImages) (a : Allocation) → IsAllocation d images a → AreOrders d.orders → Follows images a d TakeOrder (next_order_taken d)
   take_follows d images a s r = (
     tt,
-    record {
-      blocks = s.blocks;
-      mapping = s.mapping;
-      committed = s.committed;
-      running = s.running;
-      committing = s.committing;
-      threshold = s.threshold;
-      orders = λ c. s.orders c ∙ sym (taken_listed d.orders.slots d.orders.waiting c r.queue);
-      sectors = s.sectors ∙ sym (taken_sectors d.orders.slots d.orders.waiting r.queue);
-    },
+    becomes s refl refl s.blocks s.mapping (λ c. s.orders c ∙ sym (taken_listed d.orders.slots d.orders.waiting c r.queue)) (s.sectors ∙ sym (taken_sectors d.orders.slots d.orders.waiting r.queue)),
   )
 
   tell_follows : (d new : DeskState P) (images : HeldImages) (a : Allocation) → IsAllocation d images a → new ≡ record d { threshold = new.threshold; policy = new.policy } → Follows images a d Tell new
@@ -201,76 +208,29 @@ module _ {P : Type 0} where
     under = sym s.threshold;
   }
 
-  -- the orders after one more was given
+  -- one order more was given
   module _ (d : DeskState P) (images : HeldImages) (a : Allocation) (c : CBlock) (order : Order) (waits : Bool) (s : IsAllocation d images a) (may : MayReserve d c order) where
     abbrev live : Living
     live = record { order = order; sectors = sectors_asked d.geometry order; threshold = d.threshold; number = d.orders.given; waits = waits }
 
-    orders_given : AreListed (a.orders ++ as_given c.0 live ∷ []) (set d.orders.slots c.0 (Some live))
-    orders_given = given_listed a.orders d.orders.slots c.0 live may.give.vacant s.orders
-
-    sectors_given : cost (a.orders ++ as_given c.0 live ∷ []) ≡ cost_of (set d.orders.slots c.0 (Some live))
-    sectors_given = omega (
+    given : (blocks : List Block) → blocks ≡ blocks_reserved d.space.blocks order
+        → IsAllocation (reserved d c order waits) images (record a { blocks = blocks; orders = a.orders ++ as_given c.0 live ∷ [] })
+    given blocks e = becomes s refl refl e s.mapping (given_listed a.orders d.orders.slots c.0 live may.give.vacant s.orders) (omega (
       arith,
       cost_push a.orders (as_given c.0 live),
       s.sectors,
       given_cost d.orders c live (record { vacant = may.give.vacant; idle = may.give.idle; room = may.give.room; number = refl }),
-    )
+    ))
 
   give_follows : (d : DeskState P) (images : HeldImages) (a : Allocation) (c : CBlock) (order : Order) (waits : Bool) → IsAllocation d images a → AreOrders d.orders → AllocationInvariant a → MayReserve d c order
       → Follows images a d (GiveOrder c order waits) (reserved d c order waits)
   give_follows d images a c (Promote b k) waits s r i may = (
     ((may_give d images a c (Promote b k) s r i may, ap (λ (x : List Block). slice_get x c.0) s.blocks ∙ ap (λ (x : CBlock). slice_get d.space.blocks x.0) may.lawful.0 ∙ may.lawful.1), tt),
-    record {
-      blocks = ap (λ (x : List Block). set x c.0 Reserved) s.blocks ∙ ap (λ (x : CBlock). set d.space.blocks x.0 Reserved) may.lawful.0;
-      mapping = s.mapping;
-      committed = s.committed;
-      running = s.running;
-      committing = s.committing;
-      threshold = s.threshold;
-      orders = orders_given d images a c (Promote b k) waits s may;
-      sectors = sectors_given d images a c (Promote b k) waits s may;
-    },
+    given d images a c (Promote b k) waits s may (set a.blocks c.0 Reserved) (ap (λ (x : List Block). set x c.0 Reserved) s.blocks ∙ ap (λ (x : CBlock). set d.space.blocks x.0 Reserved) may.lawful.0),
   )
-  give_follows d images a c (Replace v b k) waits s r i may = (
-    (may_give d images a c (Replace v b k) s r i may, tt),
-    record {
-      blocks = s.blocks;
-      mapping = s.mapping;
-      committed = s.committed;
-      running = s.running;
-      committing = s.committing;
-      threshold = s.threshold;
-      orders = orders_given d images a c (Replace v b k) waits s may;
-      sectors = sectors_given d images a c (Replace v b k) waits s may;
-    },
-  )
-  give_follows d images a c (Demote b) waits s r i may = (
-    (may_give d images a c (Demote b) s r i may, tt),
-    record {
-      blocks = s.blocks;
-      mapping = s.mapping;
-      committed = s.committed;
-      running = s.running;
-      committing = s.committing;
-      threshold = s.threshold;
-      orders = orders_given d images a c (Demote b) waits s may;
-      sectors = sectors_given d images a c (Demote b) waits s may;
-    },
-  )
-  give_follows d images a c (Clean b) waits s r i may = (
-    (may_give d images a c (Clean b) s r i may, tt),
-    record {
-      blocks = s.blocks;
-      mapping = s.mapping;
-      committed = s.committed;
-      running = s.running;
-      committing = s.committing;
-      threshold = s.threshold;
-      orders = orders_given d images a c (Clean b) waits s may;
-      sectors = sectors_given d images a c (Clean b) waits s may;
-    },
-  )
+  give_follows d images a c (Replace v b k) waits s r i may = ((may_give d images a c (Replace v b k) s r i may, tt), given d images a c (Replace v b k) waits s may a.blocks s.blocks)
+  give_follows d images a c (Demote b) waits s r i may = ((may_give d images a c (Demote b) s r i may, tt), given d images a c (Demote b) waits s may a.blocks s.blocks)
+  give_follows d images a c (Clean b) waits s r i may = ((may_give d images a c (Clean b) s r i may, tt), given d images a c (Clean b) waits s may a.blocks s.blocks)
 
   release_follows : (d : DeskState P) (images : HeldImages) (a : Allocation) (c : CBlock) → IsAllocation d images a → AllocationInvariant a → IsTaken (order_at d.orders.slots c.0)
       → Follows images a d (Release c) (released d c)
@@ -278,17 +238,8 @@ module _ {P : Type 0} where
       let t = taken_order (order_at d.orders.slots c.0) is in
       let inside = there_in a.orders d.orders.slots c.0 t.0 s.orders t.1 in (
         (rank_within a.orders c.0 (as_given c.0 t.0) inside, tt),
-        record {
-          blocks = ap (λ (n : ℕ). set a.blocks n (block_released (state a.blocks n))) (rank_there a.orders c.0 (as_given c.0 t.0) inside)
-              ∙ ap (λ (x : List Block). set x c.0 (block_released (state x c.0))) s.blocks;
-          mapping = s.mapping;
-          committed = s.committed;
-          running = s.running;
-          committing = s.committing;
-          threshold = s.threshold;
-          orders = over_listed a.orders d.orders.slots c.0 t.0 t.1 i.shareless s.orders;
-          sectors = over_sectors a.orders d.orders.slots c.0 t.0 t.1 s.orders s.sectors;
-        },
+        becomes s refl refl (ap (λ (n : ℕ). set a.blocks n (block_released (state a.blocks n))) (rank_there a.orders c.0 (as_given c.0 t.0) inside)
+            ∙ ap (λ (x : List Block). set x c.0 (block_released (state x c.0))) s.blocks) s.mapping (over_listed a.orders d.orders.slots c.0 t.0 t.1 i.shareless s.orders) (over_sectors a.orders d.orders.slots c.0 t.0 t.1 s.orders s.sectors),
       )
 
   -- a block is set, and an order of it is over, which leaves the block as it is
@@ -313,16 +264,7 @@ module _ {P : Type 0} where
           ),
           (rank_within a.orders c.0 (as_given c.0 may.live) (there_in a.orders d.orders.slots c.0 may.live s.orders may.there), tt),
         ),
-        record {
-          blocks = set_and_over d images a c.0 may.live Mapped s may.there l refl;
-          mapping = ap (λ (m : Holdings). set m c.0 (Some b.0)) s.mapping ∙ sym (origins-set d.tree.entries tree.entries c.0 (Some (entry_of b)) entries);
-          committed = s.committed;
-          running = s.running;
-          committing = s.committing;
-          threshold = s.threshold;
-          orders = over_listed a.orders d.orders.slots c.0 may.live may.there i.shareless s.orders;
-          sectors = over_sectors a.orders d.orders.slots c.0 may.live may.there s.orders s.sectors;
-        },
+        becomes s refl refl (set_and_over d images a c.0 may.live Mapped s may.there l refl) (ap (λ (m : Holdings). set m c.0 (Some b.0)) s.mapping ∙ sym (origins-set d.tree.entries tree.entries c.0 (Some (entry_of b)) entries)) (over_listed a.orders d.orders.slots c.0 may.live may.there i.shareless s.orders) (over_sectors a.orders d.orders.slots c.0 may.live may.there s.orders s.sectors),
       )
 
   -- a desk whose block was removed, with the orders of then
@@ -347,16 +289,7 @@ module _ {P : Type 0} where
         × IsAllocation (left_with d c tree policy false d.orders demotions) images (after_acts a (acts_removing None c.0 (rank_in a.orders c.0)))
     left_alone demotions = (
       (there, tt),
-      record {
-        blocks = ap (λ (x : List Block). set x c.0 (Quarantined false false)) s.blocks;
-        mapping = emptied;
-        committed = s.committed;
-        running = s.running;
-        committing = s.committing;
-        threshold = s.threshold;
-        orders = s.orders;
-        sectors = s.sectors;
-      },
+      becomes s refl refl (ap (λ (x : List Block). set x c.0 (Quarantined false false)) s.blocks) emptied s.orders s.sectors,
     )
 
     left_under : (demotions : ℕ) (o : Living) → order_at d.orders.slots c.0 ≡ Some o → (r : Bool)
@@ -364,29 +297,11 @@ module _ {P : Type 0} where
         IsActRun a acts × IsAllocation (left_with d c tree policy r (if r then d.orders else without_order d.orders c) demotions) images (after_acts a acts))
     left_under demotions o is true = (
       ((there, has_one a.orders c.0 (as_given c.0 o) (there_in a.orders d.orders.slots c.0 o s.orders is)), tt),
-      record {
-        blocks = ap (λ (x : List Block). set x c.0 (Quarantined true false)) s.blocks;
-        mapping = emptied;
-        committed = s.committed;
-        running = s.running;
-        committing = s.committing;
-        threshold = s.threshold;
-        orders = s.orders;
-        sectors = s.sectors;
-      },
+      becomes s refl refl (ap (λ (x : List Block). set x c.0 (Quarantined true false)) s.blocks) emptied s.orders s.sectors,
     )
     left_under demotions o is false = (
       (there, (rank_within a.orders c.0 (as_given c.0 o) (there_in a.orders d.orders.slots c.0 o s.orders is), tt)),
-      record {
-        blocks = set_and_over d images a c.0 o (Quarantined false false) s is (slice_get_within d.space.blocks c.0 Mapped (mapped_state knows d b.0 c.0 v at)) refl;
-        mapping = emptied;
-        committed = s.committed;
-        running = s.running;
-        committing = s.committing;
-        threshold = s.threshold;
-        orders = over_listed a.orders d.orders.slots c.0 o is i.shareless s.orders;
-        sectors = over_sectors a.orders d.orders.slots c.0 o is s.orders s.sectors;
-      },
+      becomes s refl refl (set_and_over d images a c.0 o (Quarantined false false) s is (slice_get_within d.space.blocks c.0 Mapped (mapped_state knows d b.0 c.0 v at)) refl) emptied (over_listed a.orders d.orders.slots c.0 o is i.shareless s.orders) (over_sectors a.orders d.orders.slots c.0 o is s.orders s.sectors),
     )
 
     left : (demotions : ℕ) (slot : Option Living) → order_at d.orders.slots c.0 ≡ slot → IsActRun a (acts_removing slot c.0 (rank_in a.orders c.0))
@@ -401,47 +316,17 @@ module _ {P : Type 0} where
       → Follows images a d BeginCommit (commit_begun d tree image)
   begin_follows d images a tree image s idle same = (
     (s.committing ∙ idle, tt),
-    record {
-      blocks = ap (λ (x : List Block). map block_begun x) s.blocks;
-      mapping = s.mapping ∙ sym same;
-      committed = s.committed;
-      running = s.mapping;
-      committing = refl;
-      threshold = s.threshold;
-      orders = s.orders;
-      sectors = s.sectors;
-    },
+    record { blocks = ap (λ (x : List Block). map block_begun x) s.blocks; mapping = s.mapping ∙ sym same; committed = s.committed; running = s.mapping; committing = refl; threshold = s.threshold; orders = s.orders; sectors = s.sectors },
   )
 
   end_follows : (d : DeskState P) (images : HeldImages) (a : Allocation) → IsAllocation d images a → d.space.committing ≡ true → Follows images a d EndCommit (commit_ended d)
   end_follows d images a s runs = (
     (s.committing ∙ runs, tt),
-    record {
-      blocks = ap (λ (x : List Block). map block_ended x) s.blocks;
-      mapping = s.mapping;
-      committed = s.running;
-      running = s.running;
-      committing = refl;
-      threshold = s.threshold;
-      orders = s.orders;
-      sectors = s.sectors;
-    },
+    record { blocks = ap (λ (x : List Block). map block_ended x) s.blocks; mapping = s.mapping; committed = s.running; running = s.running; committing = refl; threshold = s.threshold; orders = s.orders; sectors = s.sectors },
   )
 
   break_follows : (d : DeskState P) (images : HeldImages) (a : Allocation) → IsAllocation d images a → Follows images a d BreakCommit (commit_broken d)
-  break_follows d images a s = (
-    tt,
-    record {
-      blocks = s.blocks;
-      mapping = s.mapping;
-      committed = s.committed;
-      running = s.running;
-      committing = s.committing;
-      threshold = s.threshold;
-      orders = s.orders;
-      sectors = s.sectors;
-    },
-  )
+  break_follows d images a s = (tt, becomes s refl refl s.blocks s.mapping s.orders s.sectors)
 
   call_follows : (knows : P → Holdings → Type 0) (d new : DeskState P) (call : DeskCall) (images : HeldImages) (a : Allocation) → DeskInvariant knows d → AreOrders d.orders → IsAllocation d images a
       → AllocationInvariant a → Does d call new → Follows images a d call new

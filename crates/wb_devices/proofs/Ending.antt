@@ -50,7 +50,8 @@ use Rattle.wb_devices.specs.Outcomes.{IsOpen, DataIsDurable, IsRefused, OpeningH
 use Rattle.wb_devices.specs.declared.opening.Opening.{Opening}
 use Rattle.wb_devices.specs.declared.opening_stage.OpeningStage.{OpeningStage}
 use Rattle.wb_devices.specs.declared.running.RunningCommit.{RunningCommit}
-use Rattle.wb_devices.proofs.EndingSteps.{ended, failed, put_done, taken, to_come}
+use Rattle.wb_tasks.proofs.Peeling.{peel}
+use Rattle.wb_devices.proofs.EndingSteps.{ended, failed, put_done, settled, to_come}
 use Rattle.wb_devices.proofs.EndingAnew.{Anew, nodes_by}
 
 served_still : (found : Geometry) {asked asked' : Geometry} → asked ≡ asked' → IsServedBy found asked → IsServedBy found asked'
@@ -114,7 +115,7 @@ module _ {D : Type 0} (tells : Type 0) (size : D → ℕ) (contents : D → List
   Led = LedOpening tells size contents faults
 
   abbrev Settled : List History
-  Settled = synced (contents first.devices.metadata)
+  Settled = settled contents first
 
   abbrev HasSo : Answer → OpeningStage D → Type 0
   HasSo answer new = OpeningHasEnded tells size contents first answer new
@@ -234,8 +235,8 @@ module _ {D : Type 0} (tells : Type 0) (size : D → ℕ) (contents : D → List
         spelled = λ t. subst (λ (i : Image). SpellsRoot (puts t).content i.root) (sym later.2) (puts t).spelled;
         wrote = λ t. (puts t).wrote ∙ ap (λ (i : Image). written Settled (slot_of i.root).0 (puts t).content) (sym later.2);
       } in
-      let last = taken tells size contents faults first (to_come left (Device (Sync Metadata) ∷ [])) mid steps answer new tt r l in
-      last_by left mid onward last.got last.mid last.rest answer new last.fits last.led last.run last.leads
+      let last = peel Led (to_come left (Device (Sync Metadata) ∷ [])) answer steps mid new tt r l in
+      last_by left mid onward last.got last.mid last.rest answer new last.fits last.did last.run last.leads
   root_by left old w got mid steps answer new f led r l = absurd f
 
   -- ---- reading
@@ -381,8 +382,8 @@ module _ {D : Type 0} (tells : Type 0) (size : D → ℕ) (contents : D → List
   read_by left more old was h (Refused refusal) mid steps answer new f led rest r l = ended tells size contents faults first (OpeningJob left) (Refuses refusal) mid steps answer new r l (λ other. refused_so more old mid was refusal led h)
   read_by left more old was h More mid steps answer new f led rest r l = let now = more_read more old mid was led h in rest (more - 1) now.0 now.1 r
   read_by left more old was h Done mid steps answer new f led rest r l =
-      let next = taken tells size contents faults first (to_come left (Device WriteRoot ∷ Device (Sync Metadata) ∷ [])) mid steps answer new tt r l in
-      root_by left mid (all_found more old mid was led h) next.got next.mid next.rest answer new next.fits next.led next.run next.leads
+      let next = peel Led (to_come left (Device WriteRoot ∷ Device (Sync Metadata) ∷ [])) answer steps mid new tt r l in
+      root_by left mid (all_found more old mid was led h) next.got next.mid next.rest answer new next.fits next.did next.run next.leads
   read_by left more old was h (Began nodes) mid steps answer new f led rest r l =
       let begun = begins_anew more nodes old mid was led h in
       nodes_by tells size contents faults first left nodes 0 mid begun.0 begun.1 (omega (arith, begun.2)) steps answer new r l
@@ -436,30 +437,30 @@ module _ {D : Type 0} (tells : Type 0) (size : D → ℕ) (contents : D → List
       IsRunOf (after (to_come left (Device (Sync Cache) ∷ Device (Sync Origin) ∷ (to_read left left).steps)) got) steps answer → Leads Led mid steps new → HasSo answer new
   cache_by left old h cache origin Fault mid steps answer new f led r l = failed tells size contents faults first (OpeningJob left) Cache mid steps answer new r l
   cache_by left old h cache origin Done mid steps answer new f led r l =
-      let next = taken tells size contents faults first (to_come left (Device (Sync Origin) ∷ (to_read left left).steps)) mid steps answer new tt r l in
+      let next = peel Led (to_come left (Device (Sync Origin) ∷ (to_read left left).steps)) answer steps mid new tt r l in
       origin_by left mid (record {
         metadata = λ t. ap contents led.0.0 ∙ h.metadata t;
         begun = same_opening old.opening mid.opening h.begun led.4.0 led.4.1;
         geometry = led.2 ∙ h.geometry;
         mode = led.5 ∙ h.mode;
-      }) (λ t. (led.4.2 t).0 ∙ ap (λ (d : D). synced (contents d)) cache) (led.0.1 ∙ origin) next.got next.mid next.rest answer new next.fits next.led next.run next.leads
+      }) (λ t. (led.4.2 t).0 ∙ ap (λ (d : D). synced (contents d)) cache) (led.0.1 ∙ origin) next.got next.mid next.rest answer new next.fits next.did next.run next.leads
   cache_by left old h cache origin got mid steps answer new f led r l = absurd f
 
   metadata_by : (left : ℕ) → HasNotBegun first.opening → (got : Got) (mid : OpeningStage D) (steps : List (Want × Got)) (answer : Answer) (new : OpeningStage D) → Fits (Device (Sync Metadata)) got → Led first (Device (Sync Metadata)) got mid →
       IsRunOf (after (table (OpeningJob left)) got) steps answer → Leads Led mid steps new → HasSo answer new
   metadata_by left h Fault mid steps answer new f led r l = failed tells size contents faults first (OpeningJob left) Metadata mid steps answer new r l
   metadata_by left h Done mid steps answer new f led r l =
-      let next = taken tells size contents faults first (to_come left (Device (Sync Cache) ∷ Device (Sync Origin) ∷ (to_read left left).steps)) mid steps answer new tt r l in
+      let next = peel Led (to_come left (Device (Sync Cache) ∷ Device (Sync Origin) ∷ (to_read left left).steps)) answer steps mid new tt r l in
       let none : Goes (size first.devices.metadata) None (Sync Metadata) Done mid.opening.commit = subst (λ (c : Option RunningCommit). Goes (size first.devices.metadata) c (Sync Metadata) Done mid.opening.commit) h.commit led.4.1 in
       cache_by left mid (record {
         metadata = λ t. (led.4.2 t).0;
         begun = same_opening first.opening mid.opening h led.4.0 (none ∙ sym h.commit);
         geometry = led.2;
         mode = led.5;
-      }) led.0.0 led.0.1 next.got next.mid next.rest answer new next.fits next.led next.run next.leads
+      }) led.0.0 led.0.1 next.got next.mid next.rest answer new next.fits next.did next.run next.leads
   metadata_by left h got mid steps answer new f led r l = absurd f
 
   pub has_ended : (s : Plan) (left : ℕ) (steps : List (Want × Got)) (answer : Answer) (new : OpeningStage D) → s ≡ table (OpeningJob left) → HasNotBegun first.opening → IsRunOf s steps answer → Leads Led first steps new → OpeningHasEnded tells size contents first answer new
   has_ended s left steps answer new is h r l =
-      let next = taken tells size contents faults first (table (OpeningJob left)) first steps answer new tt (subst (λ (t : Plan). IsRunOf t steps answer) is r) l in
-      metadata_by left h next.got next.mid next.rest answer new next.fits next.led next.run next.leads
+      let next = peel Led (table (OpeningJob left)) answer steps first new tt (subst (λ (t : Plan). IsRunOf t steps answer) is r) l in
+      metadata_by left h next.got next.mid next.rest answer new next.fits next.did next.run next.leads

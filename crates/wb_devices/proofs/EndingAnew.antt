@@ -5,7 +5,7 @@ use Rattle.std.specs.declared.alloc.Global.{Global}
 use Rattle.wb_types.specs.declared.geometry.Geometry.{Geometry}
 use Rattle.wb_types.specs.declared.mode.Dev.TheVariants.{Metadata}
 use Rattle.wb_types.specs.declared.mode.Mode.TheVariants.{Passthrough}
-use Rattle.wb_disk.specs.Device.{History, newest, synced}
+use Rattle.wb_disk.specs.Device.{History, newest}
 use Rattle.wb_format.specs.declared.root.Root.{Root}
 use Rattle.wb_meta.specs.Reads.{FitsDevice}
 use Rattle.wb_meta.specs.States.{RepresentsState}
@@ -38,14 +38,12 @@ use Rattle.wb_devices.specs.OpeningLed.{LedOpening}
 use Rattle.wb_devices.specs.Outcomes.{IsOpen, DataIsDurable, OpeningHasEnded}
 use Rattle.wb_devices.specs.declared.opening_stage.OpeningStage.{OpeningStage}
 use Rattle.wb_devices.specs.declared.running.RunningCommit.{RunningCommit}
-use Rattle.wb_devices.proofs.EndingSteps.{ended, failed, put_done, taken, to_come}
+use Rattle.wb_tasks.proofs.Peeling.{peel}
+use Rattle.wb_devices.proofs.EndingSteps.{ended, failed, put_done, settled, to_come}
 
 module _ {D : Type 0} (tells : Type 0) (size : D → ℕ) (contents : D → List History) (faults : D → ℕ) (first : OpeningStage D) where
   abbrev Led : OpeningStage D → Want → Got → OpeningStage D → Type 0
   Led = LedOpening tells size contents faults
-
-  abbrev Settled : List History
-  Settled = synced (contents first.devices.metadata)
 
   abbrev HasSo : Answer → OpeningStage D → Type 0
   HasSo answer new = OpeningHasEnded tells size contents first answer new
@@ -63,8 +61,8 @@ module _ {D : Type 0} (tells : Type 0) (size : D → ℕ) (contents : D → List
     pub image_is : next.image ≡ image
     pub steps_are : next.steps ≡ steps
     pub converted : IsConverted first.opening.geometry old image state
-    pub represents : tells → RepresentsState (map newest Settled) old.root old.tree old.dirty old.used.items
-    pub come : tells → CommitHasCome image Settled steps (contents stage.devices.metadata)
+    pub represents : tells → RepresentsState (map newest (settled contents first)) old.root old.tree old.dirty old.used.items
+    pub come : tells → CommitHasCome image (settled contents first) steps (contents stage.devices.metadata)
     pub copies : tells → DataIsDurable contents first.devices stage.devices
     pub clean : first.mode ≡ Passthrough → IsLeftClean state
 
@@ -102,7 +100,7 @@ module _ {D : Type 0} (tells : Type 0) (size : D → ℕ) (contents : D → List
           steps_are = so.3 ∙ ap (λ (b : Bool). if b then steps_after running.image running.steps else running.steps) all_goes ∙ ap (λ (i : Image). steps_after i running.steps) w.image_is ∙ ap (λ (s : CommitSteps). steps_after image s) w.steps_are;
           converted = w.converted;
           represents = w.represents;
-          come = λ t. commit_goes_on image first.opening.geometry.meta_sectors Settled (contents old.devices.metadata) (contents mid.devices.metadata) steps w.converted.placed (w.come t) (does t);
+          come = λ t. commit_goes_on image first.opening.geometry.meta_sectors (settled contents first) (contents old.devices.metadata) (contents mid.devices.metadata) steps w.converted.placed (w.come t) (does t);
           copies = λ t. (ap contents cache ∙ (w.copies t).0, ap contents origin ∙ (w.copies t).1);
           clean = w.clean;
         }
@@ -121,8 +119,8 @@ module _ {D : Type 0} (tells : Type 0) (size : D → ℕ) (contents : D → List
 
   sync_anew : (left : ℕ) (image : Image) (steps : CommitSteps) (rest : List Want) → is_coming image steps (Sync Metadata) ≡ true → Leads_on left image (steps_after image steps) rest → Leads_on left image steps (Device (Sync Metadata) ∷ rest)
   sync_anew left image steps rest comes on old w run answer new r l =
-      let next = taken tells size contents faults first (to_come left (Device (Sync Metadata) ∷ rest)) old run answer new tt r l in
-      sync_anew_by left image steps rest comes on old w next.got next.mid next.rest answer new next.fits next.led next.run next.leads
+      let next = peel Led (to_come left (Device (Sync Metadata) ∷ rest)) answer run old new tt r l in
+      sync_anew_by left image steps rest comes on old w next.got next.mid next.rest answer new next.fits next.did next.run next.leads
 
   root_anew_by : (left : ℕ) (image : Image) (rest : List Want) → Leads_on left image RootWritten rest → (old : OpeningStage D) → Anew old image NodesSynced
       → (got : Got) (mid : OpeningStage D) (taken : List (Want × Got)) (answer : Answer) (new : OpeningStage D) → Fits (Device WriteRoot) got → Led old (Device WriteRoot) got mid
@@ -136,8 +134,8 @@ module _ {D : Type 0} (tells : Type 0) (size : D → ℕ) (contents : D → List
 
   root_anew : (left : ℕ) (image : Image) (rest : List Want) → Leads_on left image RootWritten rest → Leads_on left image NodesSynced (Device WriteRoot ∷ rest)
   root_anew left image rest on old w run answer new r l =
-      let next = taken tells size contents faults first (to_come left (Device WriteRoot ∷ rest)) old run answer new tt r l in
-      root_anew_by left image rest on old w next.got next.mid next.rest answer new next.fits next.led next.run next.leads
+      let next = peel Led (to_come left (Device WriteRoot ∷ rest)) answer run old new tt r l in
+      root_anew_by left image rest on old w next.got next.mid next.rest answer new next.fits next.did next.run next.leads
 
   node_anew_by : (left : ℕ) (image : Image) (number : ℕ) (rest : List Want) → number < length image.nodes.items → Leads_on left image (NodesWritten (number + 1)) rest → (old : OpeningStage D) → Anew old image (NodesWritten number)
       → (got : Got) (mid : OpeningStage D) (taken : List (Want × Got)) (answer : Answer) (new : OpeningStage D) → Fits (Device (WriteNode number)) got → Led old (Device (WriteNode number)) got mid
@@ -153,8 +151,8 @@ module _ {D : Type 0} (tells : Type 0) (size : D → ℕ) (contents : D → List
 
   node_anew : (left : ℕ) (image : Image) (number : ℕ) (rest : List Want) → number < length image.nodes.items → Leads_on left image (NodesWritten (number + 1)) rest → Leads_on left image (NodesWritten number) (Device (WriteNode number) ∷ rest)
   node_anew left image number rest inside on old w run answer new r l =
-      let next = taken tells size contents faults first (to_come left (Device (WriteNode number) ∷ rest)) old run answer new tt r l in
-      node_anew_by left image number rest inside on old w next.got next.mid next.rest answer new next.fits next.led next.run next.leads
+      let next = peel Led (to_come left (Device (WriteNode number) ∷ rest)) answer run old new tt r l in
+      node_anew_by left image number rest inside on old w next.got next.mid next.rest answer new next.fits next.did next.run next.leads
 
   -- all of it is durable
   all_anew : (left : ℕ) (image : Image) → Leads_on left image Committed []
@@ -176,7 +174,7 @@ module _ {D : Type 0} (tells : Type 0) (size : D → ℕ) (contents : D → List
           represents = w.represents t;
           wants = subst (λ (g : Geometry). WantsConversion g (AllRead w.old) w.old) (sym w.geometry) w.wants;
           converted = subst (λ (g : Geometry). IsConverted g w.old w.next.image w.state) (sym w.geometry) (subst (λ (i : Image). IsConverted first.opening.geometry w.old i w.state) (sym w.image_is) w.converted);
-          wrote = subst (λ (i : Image). CommitHasCome i Settled Committed (contents mid.devices.metadata)) (sym w.image_is) (w.come t);
+          wrote = subst (λ (i : Image). CommitHasCome i (settled contents first) Committed (contents mid.devices.metadata)) (sym w.image_is) (w.come t);
         })),
         w.copies,
         w.clean,

@@ -5,7 +5,7 @@ use Rattle.wb_types.specs.declared.refusal.Refusal.TheVariants.{Io}
 use Rattle.wb_disk.specs.Device.{History, synced}
 use Rattle.wb_meta.specs.Steps.{DoesStep}
 use Rattle.wb_tasks.specs.Tables.{TaskJob, Opening as OpeningJob}
-use Rattle.wb_tasks.specs.Plan.{Plan, want, after, Fits, IsStep}
+use Rattle.wb_tasks.specs.Plan.{Plan, Fits}
 use Rattle.wb_tasks.specs.Run.{IsRunOf, Leads}
 use Rattle.wb_tasks.specs.declared.step.Answer.{Answer}
 use Rattle.wb_tasks.specs.declared.step.Answer.TheVariants.{Done as Finished, Refused as Refuses}
@@ -32,14 +32,14 @@ put_done size commit running step old faults new faults' is all did =
     let so : DidPut size (Some running) step Done old faults new faults' = subst (λ (c : Option RunningCommit). DidPut size c step Done old faults new faults') is did in
     (so.0 all).0
 
+-- what the metadata device holds once it is durable, from the stage before the first step
+abbrev pub settled : {D : Type 0} → (D → List History) → OpeningStage D → List History
+settled contents first = synced (contents first.devices.metadata)
+
 -- Every lemma from here on is about the same stages, from the one before the first step.
 module _ {D : Type 0} (tells : Type 0) (size : D → ℕ) (contents : D → List History) (faults : D → ℕ) (first : OpeningStage D) where
   abbrev pub Led : OpeningStage D → Want → Got → OpeningStage D → Type 0
   Led = LedOpening tells size contents faults
-
-  -- what the metadata device holds once it is durable
-  abbrev pub Settled : List History
-  Settled = synced (contents first.devices.metadata)
 
   abbrev pub HasSo : Answer → OpeningStage D → Type 0
   HasSo answer new = OpeningHasEnded tells size contents first answer new
@@ -56,25 +56,3 @@ module _ {D : Type 0} (tells : Type 0) (size : D → ℕ) (contents : D → List
   pub failed : (job : TaskJob) (device : Dev) (mid : OpeningStage D) (steps : List (Want × Got)) (answer : Answer) (new : OpeningStage D) →
       IsRunOf (record { job = job; steps = []; answer = Refuses (Io device) }) steps answer → Leads Led mid steps new → HasSo answer new
   failed job device mid steps answer new r l = ended job (Refuses (Io device)) mid steps answer new r l (λ other. absurd (other device refl))
-
-  -- a step that is to be taken is taken by a run
-  pub record Taken (s : Plan) (old : OpeningStage D) (answer : Answer) (new : OpeningStage D) : Type 0 where
-    pub got : Got
-    pub mid : OpeningStage D
-    pub rest : List (Want × Got)
-    pub fits : Fits (want s) got
-    pub led : Led old (want s) got mid
-    pub run : IsRunOf (after s got) rest answer
-    pub leads : Leads Led mid rest new
-
-  pub taken : (s : Plan) (old : OpeningStage D) (steps : List (Want × Got)) (answer : Answer) (new : OpeningStage D) → IsStep (want s) → IsRunOf s steps answer → Leads Led old steps new → Taken s old answer new
-  taken s old [] answer new is r l = absurd (subst IsStep r is)
-  taken s old (step ∷ steps) answer new is r l = record {
-    got = step.1;
-    mid = l.0;
-    rest = steps;
-    fits = subst (λ (w : Want). Fits w step.1) r.0 r.1;
-    led = subst (λ (w : Want). Led old w step.1 l.0) r.0 l.1;
-    run = r.2;
-    leads = l.2;
-  }

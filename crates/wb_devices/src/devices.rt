@@ -71,26 +71,26 @@ impl<D: Disk> Devices<D> {
         }
     }
 
-    /// Performs a step of a table, by what the buffer holds and the commit that runs; what is read stands in the buffer then. Of
-    /// metadata it reads nothing: who opens does.
+    /// Performs a step of a table, by the contents that it moves and the commit that runs; what is read stands in them then. Of metadata it
+    /// reads nothing: who opens does.
     pub fn perform(
         &mut self,
         commit: &mut Option<RunningCommit>,
         step: DeviceStep,
-        buffer: &mut [Content],
+        moved: &mut [Content],
     ) -> Got
         ensures kind { IsOutcome result }
         ensures others { OthersStay (device_of step) self.old self.new }
         ensures size { D.size (device_in (device_of step) self.new) ≡ D.size (device_in (device_of step) self.old) }
-        ensures buffer { BufferStays step buffer.old buffer.new }
-        ensures did { D.tells → DidStep commit.old step result (D.size (device_in (device_of step) self.old)) (D.contents (device_in (device_of step) self.old)) (D.faults (device_in (device_of step) self.old)) buffer.old buffer.new (D.contents (device_in (device_of step) self.new)) (D.faults (device_in (device_of step) self.new)) }
+        ensures buffer { BufferStays step moved.old moved.new }
+        ensures did { D.tells → DidStep commit.old step result (D.size (device_in (device_of step) self.old)) (D.contents (device_in (device_of step) self.old)) (D.faults (device_in (device_of step) self.old)) moved.old moved.new (D.contents (device_in (device_of step) self.new)) (D.faults (device_in (device_of step) self.new)) }
         ensures goes { CommitGoes (D.size self.old.metadata) commit.old step result commit.new }
         ensures fails { D.fails (device_in (device_of step) self.old) → result ≡ Fault }
-        ensures how { D.tells → StepFails (D.falters (device_in (device_of step) self.old)) commit.old step result (D.size (device_in (device_of step) self.old)) (D.contents (device_in (device_of step) self.old)) buffer.old (D.contents (device_in (device_of step) self.new)) }
+        ensures how { D.tells → StepFails (D.falters (device_in (device_of step) self.old)) commit.old step result (D.size (device_in (device_of step) self.old)) (D.contents (device_in (device_of step) self.old)) moved.old (D.contents (device_in (device_of step) self.new)) }
     {
         match step {
-            DeviceStep::Read(device, extent) => self.read(device, extent, buffer),
-            DeviceStep::Write(device, extent) => self.write(device, extent, buffer),
+            DeviceStep::Read(device, extent) => self.read(device, extent, moved),
+            DeviceStep::Write(device, extent) => self.write(device, extent, moved),
             DeviceStep::Sync(Dev::Metadata) => sync_metadata(commit, &mut self.metadata),
             DeviceStep::Sync(Dev::Cache) => self.sync(Dev::Cache),
             DeviceStep::Sync(Dev::Origin) => self.sync(Dev::Origin),

@@ -14,18 +14,16 @@ ghost use Rattle.wb_devices.specs.Openings.{MayGoOn, HasNotBegun};
 ghost use Rattle.wb_devices.specs.Outcomes.{IsOpen, OpeningHasEnded, opened_state};
 ghost use Rattle.wb_devices.specs.OpeningLed.{IsReadyToOpen, DidForOpening, LedOpening};
 
-use crate::committing::{put, sync_metadata};
 use crate::devices::Devices;
 use crate::opening_stage::OpeningStage;
 use std::alloc::Global;
 use wb_disk::Disk;
 use wb_meta::State;
 use wb_tasks::{Answer, DeviceStep, Got, Stage, Task, Want, drive};
-use wb_types::Dev;
 
 impl<D: Disk> OpeningStage<D> {
     /// A step on a device.
-    #[tactic(auto, using(crate::proofs::Going::outcome_fits))]
+    #[tactic(auto, using(crate::proofs::Going::outcome_fits, crate::proofs::Going::goes_there))]
     fn device_step(&mut self, step: DeviceStep) -> Got
         requires step { IsOpenings (OnDevice step) }
         requires goes_on { MayGoOn (D.size self.old.devices.metadata) self.old.opening }
@@ -37,15 +35,15 @@ impl<D: Disk> OpeningStage<D> {
         ensures mode { self.new.mode ≡ self.old.mode }
         ensures did { DidForOpening D.tells self.old.mode self.old.opening step result (D.size (device_in (device_of step) self.old.devices)) (D.contents (device_in (device_of step) self.old.devices)) (D.faults (device_in (device_of step) self.old.devices)) self.new.opening (D.contents (device_in (device_of step) self.new.devices)) (D.faults (device_in (device_of step) self.new.devices)) }
     {
-        let metadata = &mut self.devices.metadata;
         match step {
-            DeviceStep::ReadMetadata(left) => self.opening.read(self.mode, metadata, left),
-            DeviceStep::WriteNode(_) | DeviceStep::WriteRoot => {
-                put(&mut self.opening.commit, metadata, step)
+            DeviceStep::ReadMetadata(left) => {
+                self.opening
+                    .read(self.mode, &mut self.devices.metadata, left)
             }
-            DeviceStep::Sync(Dev::Metadata) => sync_metadata(&mut self.opening.commit, metadata),
-            DeviceStep::Sync(Dev::Cache) => self.devices.sync(Dev::Cache),
-            DeviceStep::Sync(Dev::Origin) => self.devices.sync(Dev::Origin),
+            DeviceStep::Sync(_) | DeviceStep::WriteNode(_) | DeviceStep::WriteRoot => {
+                self.devices
+                    .perform(&mut self.opening.commit, step, &mut [])
+            }
             DeviceStep::Read(_, _) | DeviceStep::Write(_, _) => unreachable!(),
         }
     }

@@ -13,7 +13,6 @@ ghost use Rattle.wb_meta.specs.States.{IsOfReading};
 ghost use Rattle.wb_devices.specs.Openings.{MayGoOn};
 ghost use Rattle.wb_devices.specs.Opened.{HasCome, HasGeneration, ReadsOf, got_of_refusal};
 ghost use Rattle.wb_devices.specs.Clean.{DidOpenIn, DidTell};
-ghost use Rattle.wb_types.specs.declared.version.Version.TheVariants.{One, Two};
 ghost use Rattle.wb_meta.specs.Sizes.{AreSameSizes};
 ghost use Rattle.wb_meta.specs.declared.read_steps.ReadSteps.TheVariants.{Done as AllRead};
 
@@ -118,7 +117,8 @@ impl Opening {
         Got::More
     }
 
-    /// What becomes of a state, all of which was read.
+    /// What becomes of a state, all of which was read. One of the first version, where the second is asked for, is known as the second has
+    /// it, and the commit of its image is there.
     fn has_read(&mut self, state: State<Global>, left: u32) -> Got
         requires none { self.old.reading ≡ None }
         requires on { (sectors : ℕ) × AreStepsOn sectors (AllRead state) }
@@ -130,34 +130,16 @@ impl Opening {
         ensures generation { HasGeneration self.old.commit → HasGeneration self.new.commit }
         ensures more { result ≡ More → ⊥ }
     {
-        if !is_served_by(state.root.geometry, self.geometry) {
-            return self.converts(state, left);
+        if is_served_by(state.root.geometry, self.geometry) {
+            return match RunningCommit::opening(self.alloc, &state.root) {
+                Ok(commit) => {
+                    self.reading = Some(ReadSteps::Done(state));
+                    self.commit = Some(commit);
+                    Got::Done
+                }
+                Err(refusal) => Got::Refused(refusal),
+            };
         }
-        match RunningCommit::opening(self.alloc, &state.root) {
-            Ok(commit) => {
-                self.reading = Some(ReadSteps::Done(state));
-                self.commit = Some(commit);
-                Got::Done
-            }
-            Err(refusal) => Got::Refused(refusal),
-        }
-    }
-
-    /// What becomes of a state of the first version where the second is asked for: it is known as the second has it, and the commit of its
-    /// image is there.
-    fn converts(&mut self, state: State<Global>, left: u32) -> Got
-        requires none { self.old.reading ≡ None }
-        requires on { (sectors : ℕ) × AreStepsOn sectors (AllRead state) }
-        requires sizes { AreSameSizes state.root.geometry self.old.geometry }
-        requires first { state.root.geometry.version ≡ One }
-        requires second { self.old.geometry.version ≡ Two }
-        ensures kind { Fits (Device (ReadMetadata left)) result }
-        ensures geometry { self.new.geometry ≡ self.old.geometry }
-        ensures on { (sectors : ℕ) → AreStepsOn sectors (AllRead state) → IfSome self.new.reading (AreStepsOn sectors) }
-        ensures come { HasCome self.old.geometry left (AllRead state) self.old.commit result self.new.reading self.new.commit }
-        ensures generation { HasGeneration self.old.commit → HasGeneration self.new.commit }
-        ensures more { result ≡ More → ⊥ }
-    {
         if left < self.geometry.node_count() {
             return Got::Fault;
         }

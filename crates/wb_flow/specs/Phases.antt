@@ -1,16 +1,15 @@
 -- What is left of a flush, a suspend or an opening, by the phase that it is in.
 use Rattle.std.specs.Prelude.{◌++◌, ◌+◌, ◌<◌, ◌^◌, ℕ, List, [], ◌∷◌}
-use Rattle.wb_types.specs.declared.mode.Dev.TheVariants.{Metadata, Cache, Origin}
 use Rattle.wb_types.specs.declared.number.OBlock.{OBlock}
 use Rattle.wb_types.specs.declared.refusal.Refusal.TheVariants.{Io}
 use Rattle.wb_words.specs.declared.word.Word.TheVariants.{Fail}
 use Rattle.wb_words.specs.declared.step.CellStep.TheVariants.{Look, SetSuspended}
 use Rattle.wb_tasks.specs.Tables.{TaskJob, Flushing, Suspending, Opening}
-use Rattle.wb_tasks.specs.Plan.{Plan, failed_commit, node_writes, opening_root, seal_looks, release_orders}
-use Rattle.wb_tasks.specs.declared.step.DeviceStep.TheVariants.{Sync, ReadMetadata}
+use Rattle.wb_tasks.specs.Plan.{Plan, failed_commit, seal_looks, release_orders}
+use Rattle.wb_tasks.specs.Points.{OpenPoint, AtFirst, AtCache, AtOrigin, AtRead, AtNodes, AtRoot, AtRootSync, AtEnd, open_left}
 use Rattle.wb_tasks.specs.declared.step.DeskStep.TheVariants.{Arrive, Ask, BeginCommit, BreakCommit}
 use Rattle.wb_tasks.specs.declared.step.Want.{Want}
-use Rattle.wb_tasks.specs.declared.step.Want.TheVariants.{Cell, Device, Desk}
+use Rattle.wb_tasks.specs.declared.step.Want.TheVariants.{Cell, Desk}
 use Rattle.wb_tasks.specs.declared.step.Answer.{Answer}
 use Rattle.wb_tasks.specs.declared.step.Answer.TheVariants.{Done as Finished, Refused as Refuses}
 use Rattle.wb_flow.specs.declared.committing.Purpose.{Purpose}
@@ -62,16 +61,20 @@ abbrev pub IsPhaseInRange : CommitPhase → Type 0
 IsPhaseInRange (Commits commit) = IsInRange commit
 IsPhaseInRange phase = Unit {0}
 
+-- where an opening in a phase stands
+abbrev pub open_point : OpenPhase → OpenPoint
+open_point OpenSyncsMetadata = AtFirst
+open_point OpenSyncsCache = AtCache
+open_point OpenSyncsOrigin = AtOrigin
+open_point (Reads left) = AtRead left
+open_point (OpenWritesNodes node left) = AtNodes left node
+open_point OpenWritesRoot = AtRoot
+open_point OpenSyncsRoot = AtRootSync
+open_point (OpenEnded answer) = AtEnd
+
 -- The steps of an opening in a phase, that reads at most so many sectors after the first.
 abbrev pub opening_steps : ℕ → OpenPhase → List Want
-opening_steps more OpenSyncsMetadata = Device (Sync Metadata) ∷ Device (Sync Cache) ∷ Device (Sync Origin) ∷ Device (ReadMetadata more) ∷ opening_root
-opening_steps more OpenSyncsCache = Device (Sync Cache) ∷ Device (Sync Origin) ∷ Device (ReadMetadata more) ∷ opening_root
-opening_steps more OpenSyncsOrigin = Device (Sync Origin) ∷ Device (ReadMetadata more) ∷ opening_root
-opening_steps more (Reads left) = Device (ReadMetadata left) ∷ opening_root
-opening_steps more (OpenWritesNodes node left) = node_writes left node ++ Device (Sync Metadata) ∷ opening_root
-opening_steps more OpenWritesRoot = opening_root
-opening_steps more OpenSyncsRoot = Device (Sync Metadata) ∷ []
-opening_steps more (OpenEnded answer) = []
+opening_steps more phase = open_left more (open_point phase)
 
 abbrev pub opening_answer : OpenPhase → Answer
 opening_answer (OpenEnded answer) = answer

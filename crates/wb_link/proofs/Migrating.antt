@@ -24,14 +24,19 @@ pub record Wrote (size a : ℕ) (p : Order) (Knows : Shared → Volume → Type 
   pub elsewhere : (i : ℕ) → i ≢ q → target (after_act e act) i ≡ target e i
   pub same : (i : ℕ) → source (after_act e act) i ≡ source e i
 
--- What a copy asks of its task: what it knows of its block meanwhile, that others leave it so, and what its writes do.
-pub record Way (size a : ℕ) (job : Job) (p : Order) (from to : Option ℕ) (act : (ℕ → Content) → ℕ → Act) (Knows : Shared → Volume → Type 0) (source target : Volume → ℕ → Content) : Type 0 where
+-- What holds of a task that copies by this order, whichever way: it is of one block, nothing is promised of its steps, it writes what it read, and gives up the order with its block.
+pub record IsCopier (a : ℕ) (job : Job) (p : Order) : Type 0 where
   pub plain : IsPlain job
   pub right : (w : Want) (got : Got) (d e : Volume) → e.histories ≡ d.histories → Right a job w got d e
-  pub reads : (locations : Locations) (c : ℕ → Content) (os : List ℕ) (got : Got) → acts_of locations a job c (Read_all from p.block os) got ≡ []
-  pub writes : (locations : Locations) (c : ℕ → Content) (os : List ℕ) (got : Got) → acts_of locations a job c (Write_all to p.block os) got ≡ copy_acts (act c) p.block os got
   pub given : (c : ℕ → Content) (q : ℕ) → abstract_contents_for job c q ≡ c q
   pub releases : abstract_release job ≡ Disown p.block ∷ Give_up p ∷ []
+
+-- What a copy asks of its task: what it knows of its block meanwhile, that others leave it so, and what its writes do.
+pub record Way (size a : ℕ) (job : Job) (p : Order) (from to : Option ℕ) (act : (ℕ → Content) → ℕ → Act) (Knows : Shared → Volume → Type 0) (source target : Volume → ℕ → Content) : Type 0 where
+  pub copier : IsCopier a job p
+  open copier use *
+  pub reads : (locations : Locations) (c : ℕ → Content) (os : List ℕ) (got : Got) → acts_of locations a job c (Read_all from p.block os) got ≡ []
+  pub writes : (locations : Locations) (c : ℕ → Content) (os : List ℕ) (got : Got) → acts_of locations a job c (Write_all to p.block os) got ≡ copy_acts (act c) p.block os got
   pub rests : (s : Shared) (d : Volume) → Knows s d → RestsAt s d p.block
   pub on : (x : AbstractActor) (s t : Shared) (d e : Volume) → x.held ≡ Owns p.block → x.order ≡ Some p → Good size t e → Others a x s d t e → Knows s d → Knows t e × ((i : ℕ) → (target e i ≡ target d i) × (source e i ≡ source d i))
   pub latest : (t : Shared) (e : Volume) (q : ℕ) → Agrees t e → newest_at t from p.block q ≡ source e q

@@ -44,12 +44,9 @@ pub record Filling (p : Order) (s : Shared) (d : Volume) : Type 0 where
 
 way : (size a : ℕ) (p : Order) (os : List (List ℕ)) → Way size a (Promoting p os) p None (Some p.cache) (λ c q. Fill_cache p.cache q (c q)) (λ s d. Filling p s d) (λ d i. newest (d.origin p.block i)) (λ d i. newest (d.cache p.cache i))
 way size a p os = record {
-  plain = tt;
-  right = λ w got d e r. record { reads = tt; histories = r; flushes = tt };
+  copier = record { plain = tt; right = λ w got d e r. record { reads = tt; histories = r; flushes = tt }; given = λ c q. refl; releases = refl };
   reads = λ l c os got. refl;
   writes = λ l c os got. refl;
-  given = λ c q. refl;
-  releases = refl;
   rests = λ s d k. k.rests;
   on = λ x s t d e own under g o k. let now = granted_on a x p s t d e under o k.granted in let held = subst (λ (h : Held). Holds h p.block) (sym own) refl in (
     record { rests = rests_on a p.block x s t d e o held k.rests; granted = now; unused = unused size p t e g now.reserved; live = o.live ∙ k.live },

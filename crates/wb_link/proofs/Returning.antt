@@ -93,12 +93,9 @@ leaving n size a false p os c s d k copied = leaving_clean n size a p os c s d k
 
 way : (size a : ℕ) (leaves : Bool) (p : Order) (os : List (List ℕ)) → Way size a (Returning leaves p os) p (Some p.cache) None (λ c q. Copy_back p.block q) (λ s d. Placed p s d) (λ d i. newest (d.cache p.cache i)) (λ d i. newest (d.origin p.block i))
 way size a leaves p os = record {
-  plain = tt;
-  right = λ w got d e r. record { reads = tt; histories = r; flushes = tt };
+  copier = record { plain = tt; right = λ w got d e r. record { reads = tt; histories = r; flushes = tt }; given = λ c q. refl; releases = refl };
   reads = λ l c os got. refl;
   writes = λ l c os got. refl;
-  given = λ c q. refl;
-  releases = refl;
   rests = λ s d k. k.rests;
   on = λ x s t d e own under g o k. let now = placed_on a x p s t d e own under o k in let same = o.block p.block (subst (λ (h : Held). Holds h p.block) (sym own) refl) in (now, λ i. (ap (λ (w : BlockView). w.base i) same, cache_on p d e i k.mapped now.mapped same));
   latest = λ t e q g. ap (λ f. newest (f p.cache q)) g.told.cache;

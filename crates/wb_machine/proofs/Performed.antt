@@ -304,6 +304,27 @@ pub was_put_next : (old new : List History) (commit commit' : Option RunningComm
 was_put_next old new None commit' step faults faults' next goes did = absurd next
 was_put_next old new (Some running) commit' step faults faults' next goes did = (went_on old (Some running) commit' step next goes, (next.0, (did.0 next.0).0))
 
+-- what a step that was performed did, where it puts a node or root
+pub as_put : (old new : Devices Memory) (commit commit' : Option RunningCommit) (step : DeviceStep) (got : Got) (held held' : List Bytes) → IsPut step → OthersStay (device_of step) old new → CommitGoes (length old.metadata.contents) commit step got commit'
+    → DidStep commit step got (length (device_in (device_of step) old).contents) (device_in (device_of step) old).contents (device_in (device_of step) old).faults held held' (device_in (device_of step) new).contents (device_in (device_of step) new).faults
+    → StepFails (memory_falters (device_in (device_of step) old)) commit step got (length (device_in (device_of step) old).contents) (device_in (device_of step) old).contents held (device_in (device_of step) new).contents
+    → OthersStay Metadata old new × Goes (length old.metadata.contents) commit step got commit'
+    × DidPut (length old.metadata.contents) commit step got old.metadata.contents old.metadata.faults new.metadata.contents new.metadata.faults
+    × PutFails (memory_falters old.metadata) (length old.metadata.contents) commit step got old.metadata.contents new.metadata.contents
+as_put old new commit commit' (WriteNode number) got held held' put others goes did fails = (others, goes, did, fails)
+as_put old new commit commit' WriteRoot got held held' put others goes did fails = (others, goes, did, fails)
+as_put old new commit commit' step got held held' put others goes did fails = absurd put
+
+pub put_size : (old new : Devices Memory) (step : DeviceStep) → IsPut step → length (device_in (device_of step) new).contents ≡ length (device_in (device_of step) old).contents → length new.metadata.contents ≡ length old.metadata.contents
+put_size old new (WriteNode number) put same = same
+put_size old new WriteRoot put same = same
+put_size old new step put same = absurd put
+
+-- and it left the other devices
+pub put_beside : (old mid new : Devices Memory) → contents_of mid ≡ contents_of old → OthersStay Metadata mid new → contents_of new ≡ record (contents_of old) { metadata = new.metadata.contents }
+put_beside old mid new same others = rebuilt (contents_of mid) (contents_of new) Metadata new.metadata.contents (others_of Metadata mid new others) refl
+    ∙ ap (λ (d : Devices (List History)). record d { metadata = new.metadata.contents }) same
+
 -- there is room on the metadata device for the node or root that comes next
 pub room_there : (devices : Devices Memory) (commit : Option RunningCommit) (step : DeviceStep) → IsPut step → HasRoomAt devices commit step → IfSome commit (λ running. HasRoomFor devices.metadata (sector_put (coming_step running.image running.steps)) 1)
 room_there devices commit (WriteNode number) put room = room

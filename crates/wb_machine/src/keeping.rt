@@ -17,9 +17,11 @@ ghost use Rattle.wb_machine.specs.Keeping.{IsLeft};
 
 use std::alloc::Global;
 use wb_desk::Desk;
+use wb_orders::first_of;
 use wb_policy::{Order, Policy, Quiet};
 use wb_promise::Job;
 use wb_space::Holding;
+use wb_stage::asking::is_of;
 use wb_tasks::{Answer, DeskStep, Migration, Want};
 use wb_types::{CBlock, OBlock, Refusal};
 
@@ -238,28 +240,8 @@ fn copied(alloc: Global, orders: &[Order]) -> Result<Vec<Order>, Refusal>
     }
 }
 
-/// Whether an order is one of this block.
-fn is_of(block: OBlock, order: Order) -> bool
-    ensures { result ≡ is_of block order }
-{
-    match order {
-        Order::Replace(victim, new, _) => victim == block || new == block,
-        Order::Promote(named, _) | Order::Demote(named) | Order::Clean(named) => named == block,
-    }
-}
-
 fn is_replacement(order: Order) -> bool
     ensures { result ≡ is_replacement order }
 {
     matches!(order, Order::Replace(_, _, _))
-}
-
-/// The block that an order names first.
-fn first_of(order: Order) -> OBlock
-    ensures { result ≡ first_of order }
-{
-    match order {
-        Order::Promote(block, _) | Order::Replace(block, _, _) => block,
-        Order::Demote(block) | Order::Clean(block) => block,
-    }
 }

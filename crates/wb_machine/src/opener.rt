@@ -32,7 +32,7 @@ use crate::machine::ACTORS;
 use crate::making::{Made, make};
 use crate::moving::{device_of, falter, make_room, sectors_of};
 use std::alloc::Global;
-use wb_devices::{Devices, Opening, RunningCommit, put};
+use wb_devices::{Devices, Opening, RunningCommit};
 use wb_disk::{CrashChoice, Disk, MemDisk};
 use wb_flow::OpenTask;
 use wb_meta::ReadSteps;
@@ -310,7 +310,7 @@ fn put_next(
     ensures refusal { IfErr result (λ refusal. refusal ≡ Memory) }
 {
     make_room(devices, commit, step)?;
-    match put(commit, &mut devices.metadata, step) {
+    match devices.perform(commit, step, &mut []) {
         Got::Done => Ok(()),
         Got::Fault => Err(Refusal::Memory),
         _ => unreachable!(),

@@ -7,5 +7,5 @@
 mod live_order;
 mod live_orders;
 
-pub use live_order::LiveOrder;
+pub use live_order::{LiveOrder, first_of};
 pub use live_orders::LiveOrders;

@@ -21,14 +21,12 @@ pub struct LiveOrder {
 }
 
 /// The origin block that an order names first.
-pub(crate) fn first_of(order: Order) -> OBlock
+pub fn first_of(order: Order) -> OBlock
     ensures { result ≡ the_first order }
 {
     match order {
-        Order::Promote(b, _) => b,
-        Order::Replace(victim, _, _) => victim,
-        Order::Demote(b) => b,
-        Order::Clean(b) => b,
+        Order::Promote(block, _) | Order::Replace(block, _, _) => block,
+        Order::Demote(block) | Order::Clean(block) => block,
     }
 }
 
@@ -37,9 +35,7 @@ pub(crate) fn second_of(order: Order) -> OBlock
     ensures { result ≡ the_second order }
 {
     match order {
-        Order::Promote(b, _) => b,
-        Order::Replace(_, b, _) => b,
-        Order::Demote(b) => b,
-        Order::Clean(b) => b,
+        Order::Promote(block, _) | Order::Replace(_, block, _) => block,
+        Order::Demote(block) | Order::Clean(block) => block,
     }
 }

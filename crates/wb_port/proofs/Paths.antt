@@ -12,7 +12,7 @@ use Rattle.wb_words.specs.SharedWords.{place_in, dirty_in}
 use Rattle.wb_words.specs.declared.step.CellStep.{CellStep}
 use Rattle.wb_words.specs.declared.step.CellStep.TheVariants.{Look, Take, Release, Seal, Finish, Count}
 use Rattle.wb_tasks.specs.Tables.{BlockJob, OnBlock, range_of, access_of, work, taking}
-use Rattle.wb_tasks.specs.Plan.{Plan, table, want, after, after_look, answer_at, refused, may_take, is_worn, gives_back, Fits, IsStep}
+use Rattle.wb_tasks.specs.Plan.{Plan, table, after, after_look, answer_at, refused, may_take, is_worn, gives_back, Fits, IsStep}
 use Rattle.wb_tasks.specs.Run.{IsRunOf, Leads}
 use Rattle.wb_tasks.specs.declared.step.DeviceStep.TheVariants.{Read, Write}
 use Rattle.wb_tasks.specs.declared.step.Answer.{Answer}
@@ -21,6 +21,7 @@ use Rattle.wb_tasks.specs.declared.step.Want.{Want}
 use Rattle.wb_tasks.specs.declared.step.Want.TheVariants.{Cell, Device}
 use Rattle.wb_tasks.specs.declared.step.Got.{Got}
 use Rattle.wb_tasks.specs.declared.step.Got.TheVariants.{Done, Word, Lost, Fault}
+use Rattle.wb_tasks.proofs.Peeling.{peel}
 use Rattle.wb_tasks.proofs.Pieces.{first_piece}
 use Rattle.wb_port.specs.Requests.{IsReadOrWrite}
 use Rattle.wb_port.proofs.Letting.{not_done, lets_go_after}
@@ -32,29 +33,6 @@ going_to answer job ws = record { job = OnBlock job; steps = ws; answer = answer
 -- what is left of a job that is to be answered done
 abbrev pub going : BlockJob → List Want → Plan
 going job ws = going_to Finished job ws
-
--- What the next step gave, and the rest of a run that is answered so.
-pub record Peeled {S : Type 0} (led : S → Want → Got → S → Type 0) (s : Plan) (answer : Answer) (old new : S) : Type 0 where
-  pub got : Got
-  pub mid : S
-  pub rest : List (Want × Got)
-  pub fits : Fits (want s) got
-  pub did : led old (want s) got mid
-  pub run : IsRunOf (after s got) rest answer
-  pub leads : Leads led mid rest new
-
--- a step that is to be taken is taken by a run
-pub peel : {S : Type 0} (led : S → Want → Got → S → Type 0) (s : Plan) (answer : Answer) (steps : List (Want × Got)) (old new : S) → IsStep (want s) → IsRunOf s steps answer → Leads led old steps new → Peeled led s answer old new
-peel led s answer [] old new is r l = absurd (subst (λ (w : Want). IsStep w) r is)
-peel led s answer (step ∷ steps) old new is r l = record {
-  got = step.1;
-  mid = l.0;
-  rest = steps;
-  fits = subst (λ (w : Want). Fits w step.1) r.0 r.1;
-  did = subst (λ (w : Want). led old w step.1 l.0) r.0 l.1;
-  run = r.2;
-  leads = l.2;
-}
 
 -- A step that was done.
 pub record WasDone {S : Type 0} (led : S → Want → Got → S → Type 0) (job : BlockJob) (w : Want) (ws : List Want) (old new : S) : Type 0 where

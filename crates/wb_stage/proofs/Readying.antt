@@ -14,6 +14,14 @@ use Rattle.wb_tasks.proofs.Readiness.{begins_ready, flush_begins, job_stays}
 use Rattle.wb_stage.specs.Stages.{IsServed}
 use Rattle.wb_stage.specs.Jobs.{MayRun}
 
+-- no job on a block reads metadata, or begins a commit
+never_so : (job : BlockJob) (left most : ℕ) → (¬ IsOwnStep (OnBlock job) (Device (ReadMetadata left))) × (¬ IsOwnStep (OnBlock job) (Desk (BeginCommit most)))
+never_so (Reading part) left most = (λ o. o, λ o. o)
+never_so (Writing part) left most = (λ o. o, λ o. o)
+never_so (Displacing part) left most = (λ o. o, λ o. o)
+never_so (Invalidating part) left most = (λ o. o, λ o. o)
+never_so (Migrating migration part) left most = (λ o. o, λ o. o)
+
 -- a job on a block, or a flush, wants nothing that is not served
 on_block : (job : BlockJob) (w : Want) → IsOwnStep (OnBlock job) w → IsServed w
 on_block job (Cell step) o = tt
@@ -23,11 +31,7 @@ on_block job (Device (Write device e)) o = tt
 on_block job (Device (Sync device)) o = tt
 on_block job (Device (WriteNode number)) o = tt
 on_block job (Device WriteRoot) o = tt
-on_block (Reading part) (Device (ReadMetadata left)) o = o
-on_block (Writing part) (Device (ReadMetadata left)) o = o
-on_block (Displacing part) (Device (ReadMetadata left)) o = o
-on_block (Invalidating part) (Device (ReadMetadata left)) o = o
-on_block (Migrating migration part) (Device (ReadMetadata left)) o = o
+on_block job (Device (ReadMetadata left)) o = (never_so job left 0).0 o
 on_block job (Desk (Map block place)) o = tt
 on_block job (Desk (Unmap block)) o = tt
 on_block job (Desk (ReleaseOrder block)) o = tt
@@ -35,11 +39,7 @@ on_block job (Desk (Arrive most)) o = tt
 on_block job (Desk (Ask most)) o = tt
 on_block job (Desk EndCommit) o = tt
 on_block job (Desk BreakCommit) o = tt
-on_block (Reading part) (Desk (BeginCommit most)) o = o
-on_block (Writing part) (Desk (BeginCommit most)) o = o
-on_block (Displacing part) (Desk (BeginCommit most)) o = o
-on_block (Invalidating part) (Desk (BeginCommit most)) o = o
-on_block (Migrating migration part) (Desk (BeginCommit most)) o = o
+on_block job (Desk (BeginCommit most)) o = (never_so job 0 most).1 o
 
 in_flush : (serves : List _) (most : ℕ) (w : Want) → IsOwnStep (Flushing serves most) w → IsServed w
 in_flush serves most (Cell step) o = tt

@@ -11,12 +11,13 @@ ghost use Rattle.wb_meta.specs.declared.commit_steps.CommitSteps.TheVariants.{No
 ghost use Rattle.wb_devices.specs.declared.running.RunningCommit.{RunningCommit as RunningCommitTerm};
 ghost use Rattle.wb_stage.specs.Asking.{DidMap, DidUnmap, DidRelease, is_of, order_of, ended};
 ghost use Rattle.wb_stage.specs.Sharing.{ShareIsCovered, MustWait, MayAskNow, share_then};
+ghost use Rattle.wb_stage.specs.declared.share.Share.TheVariants.{Nothing, Waiting};
 ghost use Rattle.wb_stage.specs.Stages.{DidAsk, DidArrive, DidAskWith, DidBeginWith, EndsWith, IsServed, is_all_done};
 
 use crate::share::Share;
 use std::alloc::Global;
 use std::mem;
-use wb_desk::{Arrival, Asked, Desk};
+use wb_desk::{Arrival, Asked, Desk, Ticket};
 use wb_devices::RunningCommit;
 use wb_meta::Image;
 use wb_policy::{Order, Policy};
@@ -50,7 +51,10 @@ pub fn ask<P: Policy>(
             Got::Done
         }
         DeskStep::Arrive(most) => arrive(alloc, desk, commit, share, most),
-        DeskStep::Ask(most) => ask_again(alloc, desk, commit, share, most),
+        DeskStep::Ask(most) => match mem::replace(share, Share::Nothing) {
+            Share::Waiting(ticket) => ask_with(alloc, desk, ticket, commit, share, most),
+            Share::Nothing | Share::Covered(_) => arrive(alloc, desk, commit, share, most),
+        },
         // It is asked for with the dirty bits that were seen: see `begin_commit`.
         DeskStep::BeginCommit(_) => unreachable!(),
         DeskStep::EndCommit => {
@@ -110,23 +114,22 @@ fn arrive<P: Policy>(
     }
 }
 
-/// A flush that has not to wait asks with what it has: it gets a receipt where a commit has ended that covers it, else it leads one of at
+/// A flush that has not to wait asks with its ticket: it gets a receipt where a commit has ended that covers it, else it leads one of at
 /// most so many nodes. Refused as `arrive`.
-fn ask_again<P: Policy>(
+fn ask_with<P: Policy>(
     alloc: Global,
     desk: &mut Desk<P>,
+    ticket: Ticket,
     commit: &mut Option<RunningCommit>,
     share: &mut Share,
     most: u32,
 ) -> Got
-    requires goes_on { ¬ MustWait desk.old share.old }
+    requires goes_on { ¬ MustWait desk.old (Waiting ticket) }
+    requires given { share.old ≡ Nothing }
     ensures kind { Fits (AskDesk (Ask most)) result }
-    ensures did { DidAskWith share.old most result desk.old commit.old desk.new commit.new }
-    ensures share { share.new ≡ share_then desk.old share.old (Ask most) result }
+    ensures did { DidAskWith (Waiting ticket) most result desk.old commit.old desk.new commit.new }
+    ensures share { share.new ≡ share_then desk.old (Waiting ticket) (Ask most) result }
 {
-    let Share::Waiting(ticket) = mem::replace(share, Share::Nothing) else {
-        return arrive(alloc, desk, commit, share, most);
-    };
     if desk.most_nodes(false) > most {
         return Got::Refused(Refusal::Memory);
     }
@@ -248,7 +251,7 @@ fn order_of(held: &[Order], block: OBlock) -> Option<Order>
 }
 
 /// Whether an order is one of the block.
-fn is_of(block: OBlock, order: Order) -> bool
+pub fn is_of(block: OBlock, order: Order) -> bool
     ensures { result ≡ is_of block order }
 {
     match order {

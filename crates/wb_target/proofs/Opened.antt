@@ -33,7 +33,7 @@ use Rattle.wb_devices.specs.declared.devices.Devices.{Devices}
 use Rattle.wb_devices.specs.declared.opening_stage.OpeningStage.{OpeningStage}
 use Rattle.wb_devices.specs.declared.running.RunningCommit.{RunningCommit}
 use Rattle.wb_devices.proofs.Ending.{has_ended}
-use Rattle.wb_port.proofs.Paths.{peel}
+use Rattle.wb_tasks.proofs.Peeling.{peel}
 use Rattle.wb_target.specs.Making.{PolicyStarts, IsMadeOf, MakingGoesOn, WasOpened, is_due, writes_metadata}
 use Rattle.wb_target.specs.declared.office.Office.{Office}
 use Rattle.wb_target.specs.declared.making.MakingStage.{MakingStage}

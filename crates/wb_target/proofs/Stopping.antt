@@ -25,7 +25,7 @@ use Rattle.wb_devices.specs.declared.devices.Devices.{Devices}
 use Rattle.wb_devices.specs.declared.opening_stage.OpeningStage.{OpeningStage}
 use Rattle.wb_devices.proofs.Ending.{has_ended}
 use Rattle.wb_port.specs.Requests.{ComesTo}
-use Rattle.wb_port.proofs.Paths.{Peeled, peel}
+use Rattle.wb_tasks.proofs.Peeling.{Peeled, peel}
 use Rattle.wb_target.specs.Making.{PolicyStarts, MakingGoesOn, IsNotMadeFor, is_due, writes_metadata}
 use Rattle.wb_target.specs.NotOpened.{AreOnlySynced}
 use Rattle.wb_target.specs.declared.office.Office.{Office}

@@ -7,6 +7,7 @@ use Rattle.wb_types.specs.declared.mode.Dev.{Dev}
 use Rattle.wb_types.specs.declared.mode.Dev.TheVariants.{Metadata}
 use Rattle.wb_types.specs.declared.number.OBlock.{OBlock}
 use Rattle.wb_types.specs.declared.number.CBlock.{CBlock}
+use Rattle.wb_types.specs.declared.refusal.Refusal.{Refusal}
 use Rattle.wb_types.specs.declared.refusal.Refusal.TheVariants.{Busy, Failed, Memory, Worn, GenerationEnd, Io}
 use Rattle.wb_words.specs.declared.word.Access.{Access}
 use Rattle.wb_words.specs.declared.word.Access.TheVariants.{Shared, Owned}
@@ -24,7 +25,7 @@ use Rattle.wb_tasks.specs.Tables.{BlockJob, Reading, Writing, Displacing, Invali
 use Rattle.wb_tasks.proofs.Driving.{no_result}
 use Rattle.wb_tasks.proofs.Working.{Works, work_has}
 use Rattle.wb_tasks.specs.Ready.{MayTake, MayMake, block_of, HasBlock, KnowsNext, IsJobs, IsAsked, IsOwnStep, AreOwnSteps, IsParting, IsRest, Has, AreBelow, SuitsJob, Suits}
-use Rattle.wb_tasks.specs.Plan.{Plan, table, want, after, first_step, gives_back, gives_up, release_orders, node_writes, root_steps, opening_root, commit_steps, seal_looks, answer_at, lets_go, exchange, may_take, is_worn, Fits, got_of}
+use Rattle.wb_tasks.specs.Plan.{Plan, table, want, after, first_step, gives_back, gives_up, release_orders, node_writes, root_steps, opening_root, commit_steps, seal_looks, answer_at, lets_go, exchange, may_take, is_worn, Fits, got_of, after_look, after_fault, after_refusal, after_ticket, after_more}
 use Rattle.wb_tasks.specs.declared.step.Answer.{Answer}
 use Rattle.wb_tasks.specs.declared.step.Answer.TheVariants.{Refused as Refuses}
 use Rattle.wb_tasks.specs.declared.step.DeskStep.TheVariants.{Map, Unmap, ReleaseOrder, Arrive, Ask, BeginCommit, EndCommit, BreakCommit}
@@ -34,7 +35,7 @@ use Rattle.wb_tasks.specs.declared.step.Migration.TheVariants.{Promote, Demote, 
 use Rattle.wb_tasks.specs.declared.step.Want.{Want}
 use Rattle.wb_tasks.specs.declared.step.Want.TheVariants.{Cell, Device, Desk, End}
 use Rattle.wb_tasks.specs.declared.step.Got.{Got}
-use Rattle.wb_tasks.specs.declared.step.Got.TheVariants.{Begin, Done, Word, Lost, Fault, Refused, Began, Ticket, Served, More}
+use Rattle.wb_tasks.specs.declared.step.Got.TheVariants.{Done, Word, Fault, Refused, Began, Ticket, Served, More}
 
 -- the work of a job is of its own steps
 rest_work : (job : BlockJob) (place : Option CBlock) (dirty : Bool) → IsRest job true (work job place dirty)
@@ -531,64 +532,36 @@ by_either : (job : TaskJob) (b : Bool) (s t : Plan) → s.job ≡ job → t.job 
 by_either job true s t p q = p
 by_either job false s t p q = q
 
-job_stays_on : (job : TaskJob) (ws : List Want) (answer : Answer) (got : Got) → (after (record { job = job; steps = ws; answer = answer }) got).job ≡ job
-job_stays_on job ws answer Begin = refl
-job_stays_on job ws answer Done = refl
-job_stays_on job ws answer Lost = refl
-job_stays_on job ws answer (Began nodes) = refl
-job_stays_on job ws answer Served = refl
-job_stays_on job [] answer Ticket = refl
-job_stays_on job (Cell step ∷ ws) answer Ticket = refl
-job_stays_on job (Device step ∷ ws) answer Ticket = refl
-job_stays_on job (Desk (Map b place) ∷ ws) answer Ticket = refl
-job_stays_on job (Desk (Unmap b) ∷ ws) answer Ticket = refl
-job_stays_on job (Desk (ReleaseOrder b) ∷ ws) answer Ticket = refl
-job_stays_on job (Desk (Arrive most) ∷ ws) answer Ticket = refl
-job_stays_on job (Desk (Ask most) ∷ ws) answer Ticket = refl
-job_stays_on job (Desk (BeginCommit most) ∷ ws) answer Ticket = refl
-job_stays_on job (Desk EndCommit ∷ ws) answer Ticket = refl
-job_stays_on job (Desk BreakCommit ∷ ws) answer Ticket = refl
-job_stays_on job (End a ∷ ws) answer Ticket = refl
-job_stays_on job [] answer More = refl
-job_stays_on job (Cell step ∷ ws) answer More = refl
-job_stays_on job (Device (Read device e) ∷ ws) answer More = refl
-job_stays_on job (Device (Write device e) ∷ ws) answer More = refl
-job_stays_on job (Device (Sync device) ∷ ws) answer More = refl
-job_stays_on job (Device (ReadMetadata left) ∷ ws) answer More = refl
-job_stays_on job (Device (WriteNode number) ∷ ws) answer More = refl
-job_stays_on job (Device WriteRoot ∷ ws) answer More = refl
-job_stays_on job (Desk step ∷ ws) answer More = refl
-job_stays_on job (End a ∷ ws) answer More = refl
-job_stays_on job [] answer (Word value) = refl
-job_stays_on job (Cell (Look Fail) ∷ ws) answer (Word value) = by_either job (value == 0) _ _ refl refl
-job_stays_on job (Cell (Look (LockWord b)) ∷ ws) answer (Word value) = by_either job (may_take job value) _ _ refl refl
-job_stays_on job (Cell (Look (SealWord b)) ∷ ws) answer (Word value) = refl
-job_stays_on job (Cell (Look (Number b)) ∷ ws) answer (Word value) = by_either job (is_worn job value) _ _ refl refl
-job_stays_on job (Cell (Look (CountWord kind)) ∷ ws) answer (Word value) = refl
-job_stays_on job (Cell step ∷ ws) answer (Word value) = refl
-job_stays_on job (Device step ∷ ws) answer (Word value) = refl
-job_stays_on job (Desk step ∷ ws) answer (Word value) = refl
-job_stays_on job (End a ∷ ws) answer (Word value) = refl
-job_stays_on job [] answer Fault = refl
-job_stays_on job (Cell step ∷ ws) answer Fault = refl
-job_stays_on job (Device step ∷ ws) answer Fault = refl
-job_stays_on job (Desk step ∷ ws) answer Fault = refl
-job_stays_on job (End a ∷ ws) answer Fault = refl
-job_stays_on job [] answer (Refused refusal) = refl
-job_stays_on job (Cell step ∷ ws) answer (Refused refusal) = refl
-job_stays_on job (Device step ∷ ws) answer (Refused refusal) = refl
-job_stays_on job (Desk (Map b place) ∷ ws) answer (Refused refusal) = refl
-job_stays_on job (Desk (Unmap b) ∷ ws) answer (Refused refusal) = refl
-job_stays_on job (Desk (ReleaseOrder b) ∷ ws) answer (Refused refusal) = refl
-job_stays_on job (Desk (Arrive most) ∷ ws) answer (Refused refusal) = refl
-job_stays_on job (Desk (Ask most) ∷ ws) answer (Refused refusal) = refl
-job_stays_on job (Desk (BeginCommit most) ∷ ws) answer (Refused refusal) = refl
-job_stays_on job (Desk EndCommit ∷ ws) answer (Refused refusal) = refl
-job_stays_on job (Desk BreakCommit ∷ ws) answer (Refused refusal) = refl
-job_stays_on job (End a ∷ ws) answer (Refused refusal) = refl
+look_stays : (s : Plan) (w : Want) (word : ℕ) → (after_look s w word).job ≡ s.job
+look_stays s (Cell (Look Fail)) word = by_either s.job (word == 0) _ _ refl refl
+look_stays s (Cell (Look (LockWord block))) word = by_either s.job (may_take s.job word) _ _ refl refl
+look_stays s (Cell (Look (Number block))) word = by_either s.job (is_worn s.job word) _ _ refl refl
+look_stays s w word = refl
+
+fault_stays : (s : Plan) (w : Want) → (after_fault s w).job ≡ s.job
+fault_stays s (Device step) = refl
+fault_stays s w = refl
+
+refusal_stays : (s : Plan) (w : Want) (refusal : Refusal) → (after_refusal s w refusal).job ≡ s.job
+refusal_stays s (Desk (Arrive most)) refusal = refl
+refusal_stays s (Desk (Ask most)) refusal = refl
+refusal_stays s w refusal = refl
+
+ticket_stays : (s : Plan) (w : Want) → (after_ticket s w).job ≡ s.job
+ticket_stays s (Desk (Arrive most)) = refl
+ticket_stays s w = refl
+
+more_stays : (s : Plan) (w : Want) → (after_more s w).job ≡ s.job
+more_stays s (Device (ReadMetadata left)) = refl
+more_stays s w = refl
 
 pub job_stays : (s : Plan) (got : Got) → (after s got).job ≡ s.job
-job_stays s got = job_stays_on s.job s.steps s.answer got
+job_stays s (Word word) = look_stays s (want s) word
+job_stays s Fault = fault_stays s (want s)
+job_stays s (Refused refusal) = refusal_stays s (want s) refusal
+job_stays s Ticket = ticket_stays s (want s)
+job_stays s More = more_stays s (want s)
+job_stays s got = refl
 
 pub flush_begins : (blocks : ℕ) (serves : List OBlock) (most : ℕ) (card : Card) → card.hold ≡ Nothing → Suits blocks (table (Flushing serves most)) card
 flush_begins blocks serves most card h = (h, (tt, (refl, tt)))

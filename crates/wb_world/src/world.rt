@@ -4,7 +4,7 @@ ghost use Rattle.std.specs.Prelude.{◌≡◌, [], OnOk, OnErr, IfOk, IfErr, sli
 ghost use Rattle.wb_types.specs.declared.refusal.Refusal.TheVariants.{Memory};
 ghost use Rattle.wb_promise.specs.Headline.{shown};
 ghost use Rattle.wb_machine.specs.declared.machine.TheConstants.{ACTORS};
-ghost use Rattle.wb_machine.specs.Life.{GoesOn, IsReached, shape_of};
+ghost use Rattle.wb_machine.specs.Life.{GoesOn, IsReached, Life, shape_of};
 ghost use Rattle.wb_machine.specs.Showing.{opened_of};
 ghost use Rattle.wb_world.specs.Running.{IsRightRun, KeepsPromises, events_of};
 
@@ -24,8 +24,6 @@ pub struct World {
 }
 
 impl Model for World {
-    ghost use Rattle.wb_machine.specs.Life.{Life};
-
     ghost Value = { Life };
 
     ghost view = { λ w. w.machine };

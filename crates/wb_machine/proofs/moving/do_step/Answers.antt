@@ -20,7 +20,7 @@ returns-in-Done-clause-ok c =
     let can = subst (λ (d : Devices (List History)). IsDoable d commit job step) (sym same) c.requires in
     let moves = subst (λ (m : List Bytes). Moves job buffer step m) (sym c.as_mut_slice.ensures.value) c.in_ok-moved.ensures.ok in
     let fit = subst (λ (m : List Bytes). FittedTo m (contents_of mid) step c.fitted-there.result) (c.as_slice.ensures.value ∙ sym c.as_mut_slice.ensures.value) (subst (λ (d : Devices (List History)). FittedTo c.as_slice.result.now d step c.fitted-there.result) (sym same) c.fitted-there.ensures) in
-    let does = does_so mid c.perform.new.self commit c.perform.new.commit job buffer held c.perform.new.buffer step c.fitted-there.result can moves fit c.in-Done.ensures.buffer c.in-Done.ensures.others (c.in-Done.ensures.did tt) c.in-Done.ensures.goes in
-    let read_is = c.read_by.ensures ∙ ap (λ (m : List Bytes). read_by step m) (with_items_is c.in_ok-moved.moved c.perform.new.buffer (omega (arith, as_many c.fitted-there.result held c.perform.new.buffer c.in-Done.ensures.buffer, ap length c.as_mut_slice.ensures.value, c.in_ok-moved.moved.ok))) in
+    let does = does_so mid c.perform.new.self commit c.perform.new.commit job buffer held c.perform.new.moved step c.fitted-there.result can moves fit c.in-Done.ensures.buffer c.in-Done.ensures.others (c.in-Done.ensures.did tt) c.in-Done.ensures.goes in
+    let read_is = c.read_by.ensures ∙ ap (λ (m : List Bytes). read_by step m) (with_items_is c.in_ok-moved.moved c.perform.new.moved (omega (arith, as_many c.fitted-there.result held c.perform.new.moved c.in-Done.ensures.buffer, ap length c.as_mut_slice.ensures.value, c.in_ok-moved.moved.ok))) in
     subst (λ (d : Devices (List History)). DoesOn d commit job buffer step c.read_by.result.items (contents_of c.perform.new.self) c.perform.new.commit) same
     (subst (λ (read : List Bytes). DoesOn (contents_of mid) commit job buffer step read (contents_of c.perform.new.self) c.perform.new.commit) (sym read_is) does)
