@@ -210,10 +210,10 @@ fn serve_one_and_several<
 
 /// Has clients of a target do services beside one another.
 fn beside_one_another<
-    P: Policy + Send,
-    S: Service + Send + Drop,
-    D: Disk + Drop + Send,
     T: Threads + Wait + Sync,
+    D: Disk + Drop + Send,
+    S: Service + Send + Drop,
+    P: Policy + Send,
 >(
     waits: &T,
     alloc: Global,

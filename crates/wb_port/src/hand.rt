@@ -133,8 +133,8 @@ impl<D: Disk> Hand<D> {
     /// block that the pass owns, a sync, or a node or root of the commit once what it names is durable.
     pub fn perform(
         &mut self,
-        commit: &mut Option<RunningCommit>,
         step: DeviceStep,
+        commit: &mut Option<RunningCommit>,
         buffer: &mut [Content],
     ) -> Got
         requires may { MayPerform D.tells D.contents self.old.block_sectors self.old.pass.card self.old.devices commit.old step }

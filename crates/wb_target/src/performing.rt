@@ -103,7 +103,7 @@ impl<'a, R: Wait, D: Disk, P: Policy, G: Gate> WorkStage<'a, R, D, P, G> {
         ensures did { D.tells → DidStep self.old.commit.now step result (D.size (device_in (device_of step) self.old.hand.now.devices)) (D.contents (device_in (device_of step) self.old.hand.now.devices)) (D.faults (device_in (device_of step) self.old.hand.now.devices)) self.old.buffer.now self.new.buffer.now (D.contents (device_in (device_of step) self.new.hand.now.devices)) (D.faults (device_in (device_of step) self.new.hand.now.devices)) }
         ensures goes { CommitGoes (D.size self.old.hand.now.devices.metadata) self.old.commit.now step result self.new.commit.now }
     {
-        self.hand.perform(self.commit, step, self.buffer)
+        self.hand.perform(step, self.commit, self.buffer)
     }
 
     /// A step on the desk, under the lock.
