@@ -7,4 +7,11 @@ pub write_extent-tells : goal.write_extent-tells
 write_extent-tells c = search (rules, extent_how, c.ensures.room)
 
 pub write-tells : goal.write-tells
-write-tells c = search (rules, write_how, c.ensures.room)
+write-tells c = record {
+  size = c.ensures.size;
+  ok = λ _. c.ensures.ok;
+  no_fault = λ _. c.ensures.no_fault;
+  cause = λ _. c.ensures.cause;
+  how = λ _. write_how c.result c.args.self.now c.new.self.now.contents c.args.at c.args.from.now c.ensures.err c.ensures.room;
+  fails = λ h. absurd h;
+}
