@@ -89,7 +89,7 @@ child_read root here level index read word found =
     if word == 0 then Ok found
     else (if names_child root found.reached level index word then read index (record { 0 = word }) found else Err here)
 
--- a node is of a tree, as is said of it, of this level and index, and not newer than the root
+-- a node, of which it is said whether it is one of the tree that is read, has this level and index and is not newer than the root
 abbrev pub is_wanted : Bool → Root → ℕ → ℕ → Node → Bool
 is_wanted of_tree root level index node = of_tree && (node.level == level) && (node.index == index) && nat_le node.generation root.generation
 
