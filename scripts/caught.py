@@ -3,13 +3,12 @@
     caught.py [WORD ..]
 
 Each line of scripts/cases/caught.txt is an edit, a crate of tests, and one of its tests; or an edit, `wbcache`, and a script, a bar and what the right
-program prints for it, over files as scripts.txt has them (`LINE*N` is N such lines); or an edit, `wbnbd`, a bar and how the right one leaves these files where its client
+program prints for it, over files as scripts.txt has them; or an edit, `wbnbd`, a bar and how the right one leaves these files where its client
 says nothing: `clean`. The edit is made in a copy of the sources, which is compiled
 without a proof by `rt try`; that test has to fail there, or the program not to print that. With words, the lines that have one of them are tried. It prints for each which tests failed, or
 what was said where the copy was not compiled, and at the end 'N passed, N failed'. Each takes a minute and a half of processor time, so the gate does not call it.
 """
 import os
-import re
 import struct
 import subprocess
 import sys
@@ -58,7 +57,7 @@ def printed(folder, program, script):
     words = ["run"] if program == "wbcache" else []
     table = f"cache {folder}/metadata {folder}/cache {folder}/origin 64 0 tinylfu 0"
     with open(f"{folder}/script", "w+", encoding="utf-8") as lines:
-        lines.write(re.sub(r"([^\n]*)\*(\d+)\n", lambda it: f"{it[1]}\n" * int(it[2]), script))
+        lines.write(script)
         lines.seek(0)
         done = subprocess.run(["rt", "try", "--", *words, table], cwd=f"{folder}/crates/{program}", stdin=lines, stdout=subprocess.PIPE, stderr=subprocess.STDOUT, text=True)
     if "run=ended" not in done.stdout:
