@@ -11,7 +11,7 @@ use Rattle.wb_types.specs.declared.refusal.Refusal.TheVariants.{Busy, Defer, Fai
 use Rattle.wb_words.specs.SharedWords.{can_take}
 use Rattle.wb_words.specs.declared.word.Word.TheVariants.{Cell as LockWord, Number, Fail}
 use Rattle.wb_words.specs.declared.step.CellStep.TheVariants.{Look, Seal, SetFailed}
-use Rattle.wb_tasks.specs.Tables.{OnBlock, Reading, Writing, taking, work, dirtying, place_read, places_written, writes, writing, read_step, write_step, read_count}
+use Rattle.wb_tasks.specs.Tables.{OnBlock, Reading, Writing, taking, work, dirtying, is_deferred, place_read, places_written, writes, writing, read_step, write_step, read_count}
 use Rattle.wb_tasks.specs.declared.step.DeviceStep.TheVariants.{Read, Write}
 use Rattle.wb_tasks.specs.declared.step.Answer.TheVariants.{Done as Finished, Refused as Refuses}
 use Rattle.wb_tasks.specs.Ready.{StaysReady}
@@ -26,7 +26,7 @@ use Rattle.wb_tasks.proofs.Pieces.{first_piece}
 use Rattle.wb_port.specs.declared.moving.TheConstants.{LONGEST}
 use Rattle.wb_tasks.specs.Phases.{job_on_block}
 use Rattle.wb_port.specs.Requests.{ComesTo}
-use Rattle.wb_port.specs.Straight.{Continues, access_by, giving_back, is_deferred, job_by, left, part_at, range_in, straight_writing, straight_written, work_by}
+use Rattle.wb_port.specs.Straight.{Continues, access_by, giving_back, job_by, left, part_at, range_in, straight_writing, straight_written, work_by}
 use Rattle.wb_port.specs.declared.straight.Part.{Part}
 use Rattle.wb_port.specs.declared.straight.Way.{Way}
 use Rattle.wb_port.specs.declared.straight.Way.TheVariants.{Reads, Writes}
