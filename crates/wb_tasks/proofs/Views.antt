@@ -3,7 +3,6 @@ use Rattle.std.proofs.Common.{◌≡◌, ◌++◌, ℕ, Bool, true, false, if◌
 use Rattle.wb_types.specs.Extents.{pieces}
 use Rattle.wb_types.specs.declared.extent.Extent.{Extent}
 use Rattle.wb_types.specs.declared.mode.Mode.{Mode}
-use Rattle.wb_types.specs.declared.mode.Mode.TheVariants.{Writeback, Writethrough, Passthrough}
 use Rattle.wb_types.specs.declared.mode.Dev.{Dev}
 use Rattle.wb_types.specs.declared.mode.Dev.TheVariants.{Cache, Origin}
 use Rattle.wb_types.specs.declared.number.CBlock.{CBlock}
@@ -16,7 +15,7 @@ use Rattle.wb_words.specs.declared.grip.GripStage.TheVariants.{LookFail, LookLoc
 use Rattle.wb_tasks.specs.Tables.{BlockRange, BlockJob, OnBlock, Writing, access_of, is_write, device_at, cache_extent, places_written, dirtying, is_deferred, read_step, write_step, writes, writing}
 use Rattle.wb_tasks.specs.Plan.{Plan, want, after, after_look, first_step, later_steps, Fits, IsRare}
 use Rattle.wb_tasks.specs.Phases.{job_on_block, acquiring, after_seeing, write_end, writes_left, written_mode, steps_in, left_in, has_order}
-use Rattle.wb_tasks.proofs.Modes.{IsWriting, deferred_or_not}
+use Rattle.wb_tasks.proofs.Modes.{IsWriting, deferred_or_not, some_written}
 use Rattle.wb_tasks.specs.declared.acquire.Seen.{Seen}
 use Rattle.wb_tasks.specs.declared.acquire.Seen.TheVariants.{Holds}
 use Rattle.wb_tasks.specs.declared.block.BlockTask.TheInside.{Inside}
@@ -97,10 +96,7 @@ at_place part None e Q q = q Origin e
 at_place part (Some c) e Q q = q Cache (cache_extent part c e)
 
 at_first : (part : BlockRange) (mode : Mode) (place : Option CBlock) (e : Extent) (us ws : List Want) (Q : Want → Type 0) → ((device : Dev) (x : Extent) → Q (Device (Write device x))) → Q (first_step ((map (λ to. write_step part to e) (places_written mode place) ++ us) ++ ws) Finished)
-at_first part Writeback place e us ws Q q = at_place part place e Q q
-at_first part Writethrough None e us ws Q q = q Origin e
-at_first part Writethrough (Some c) e us ws Q q = q Origin e
-at_first part Passthrough place e us ws Q q = q Origin e
+at_first part mode place e us ws Q q = some_written mode place (λ (places : List (Option CBlock)). Q (first_step ((map (λ to. write_step part to e) places ++ us) ++ ws) Finished)) (λ first later. at_place part first e Q q)
 
 -- What a fault leaves of a job that reads at this place, and of one that writes there.
 after_failed_read : (work : Work) (part : BlockRange) (place : Option CBlock) (e : Extent) (ws : List Want) (extents : List Extent) →
