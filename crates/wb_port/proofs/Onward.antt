@@ -1,17 +1,15 @@
 -- A run is made of its first step and the run of what is left after it.
-use Rattle.std.proofs.Common.{◌≡◌, ◌≢◌, ◌^◌, ◌-◌, ◌≤◌, ℕ, min, Bool, true, false, List, [], ◌∷◌, ◌++◌, Option, Some, None, if◌then◌else◌, IfSome, IfNone, refl, sym, ap, ◌∙◌, subst, arith, append_assoc}
+use Rattle.std.proofs.Common.{◌≡◌, ◌≢◌, ◌^◌, ◌-◌, ◌≤◌, ℕ, min, Bool, true, false, List, [], ◌∷◌, ◌++◌, Option, Some, None, if◌then◌else◌, IfSome, IfNone, refl, sym, ap, ◌∙◌, subst, arith}
 use Rattle.std.proofs.lemmas.Bool.{ne_eqb}
 use Rattle.wb_types.specs.declared.extent.Extent.{Extent}
 use Rattle.wb_types.specs.Extents.{pieces}
-use Rattle.wb_types.specs.declared.mode.Mode.{Mode}
-use Rattle.wb_types.specs.declared.mode.Mode.TheVariants.{Writeback, Writethrough, Passthrough}
 use Rattle.wb_types.specs.declared.mode.Dev.{Dev}
 use Rattle.wb_types.specs.declared.number.CBlock.{CBlock}
 use Rattle.wb_types.specs.declared.refusal.Refusal.TheVariants.{Busy, Defer, Failed, Worn, Io}
 use Rattle.wb_words.specs.SharedWords.{can_take}
 use Rattle.wb_words.specs.declared.word.Word.TheVariants.{Cell as LockWord, Number, Fail}
 use Rattle.wb_words.specs.declared.step.CellStep.TheVariants.{Look, Seal, SetFailed}
-use Rattle.wb_tasks.specs.Tables.{OnBlock, Reading, Writing, taking, work, dirtying, place_read, places_written, writes, writing, read_step, write_step, read_count}
+use Rattle.wb_tasks.specs.Tables.{OnBlock, Reading, Writing, taking, work, dirtying, is_deferred, place_read, places_written, writes, writing, read_step, write_step, read_count}
 use Rattle.wb_tasks.specs.declared.step.DeviceStep.TheVariants.{Read, Write}
 use Rattle.wb_tasks.specs.declared.step.Answer.TheVariants.{Done as Finished, Refused as Refuses}
 use Rattle.wb_tasks.specs.Ready.{StaysReady}
@@ -22,11 +20,12 @@ use Rattle.wb_tasks.specs.declared.step.Want.{Want}
 use Rattle.wb_tasks.specs.declared.step.Want.TheVariants.{Cell, Device, End}
 use Rattle.wb_tasks.specs.declared.step.Got.{Got}
 use Rattle.wb_tasks.specs.declared.step.Got.TheVariants.{Word, Fault}
+use Rattle.wb_tasks.proofs.Modes.{IsWriting, deferred_or_not}
 use Rattle.wb_tasks.proofs.Pieces.{first_piece}
 use Rattle.wb_port.specs.declared.moving.TheConstants.{LONGEST}
 use Rattle.wb_tasks.specs.Phases.{job_on_block}
 use Rattle.wb_port.specs.Requests.{ComesTo}
-use Rattle.wb_port.specs.Straight.{Continues, access_by, giving_back, is_deferred, job_by, left, part_at, range_in, straight_writing, straight_written, work_by}
+use Rattle.wb_port.specs.Straight.{Continues, access_by, giving_back, job_by, left, part_at, range_in, straight_writing, straight_written, work_by}
 use Rattle.wb_port.specs.declared.straight.Part.{Part}
 use Rattle.wb_port.specs.declared.straight.Way.{Way}
 use Rattle.wb_port.specs.declared.straight.Way.TheVariants.{Reads, Writes}
@@ -94,10 +93,19 @@ written_so : (part : Part) (places : List (Option CBlock)) (place : Option CBloc
 written_so part [] place = refl
 written_so part (to ∷ places) place = ap (λ (ws : List Want). write_step (range_in part) to part.sectors ∷ ws) (written_so part places place)
 
-writing_is : (part : Part) (mode : Mode) (place : Option CBlock) (dirty : Bool) → dirtying mode part.block place dirty ++ writes (range_in part) (places_written mode place) (part.sectors ∷ []) ++ straight_written part place
-    ≡ dirtying mode part.block place dirty ++ straight_writing part (places_written mode place) place
-writing_is part mode place dirty = append_assoc (dirtying mode part.block place dirty) (writes (range_in part) (places_written mode place) (part.sectors ∷ [])) (straight_written part place)
-    ∙ ap (λ (ws : List Want). dirtying mode part.block place dirty ++ ws) (written_so part (places_written mode place) place)
+-- once its block and number were seen: it goes on, or gives its block back
+goes_so : (part : Part) (place : Option CBlock) (dirty : Bool) → is_deferred part.mode place ≡ false
+    → left (Writing (range_in part)) (writing part.mode (range_in part) place dirty) (deferring part.mode place Finished) ≡ left (Writing (range_in part)) (dirtying part.mode part.block place dirty ++ straight_writing part (places_written part.mode place) place) Finished
+goes_so part place dirty goes =
+    let does : IsWriting false part.mode (range_in part) place dirty = subst (λ (b : Bool). IsWriting b part.mode (range_in part) place dirty) goes (deferred_or_not part.mode (range_in part) place dirty) in
+    let steps = does.0 ∙ ap (λ (ws : List Want). dirtying part.mode part.block place dirty ++ ws) (written_so part (places_written part.mode place) place) in
+    λ i. left (Writing (range_in part)) (steps i) (does.1 i)
+
+waits_so : (part : Part) (place : Option CBlock) (dirty : Bool) → is_deferred part.mode place ≡ true
+    → left (Writing (range_in part)) (writing part.mode (range_in part) place dirty) (deferring part.mode place Finished) ≡ left (Writing (range_in part)) (giving_back Writes part) (Refuses Defer)
+waits_so part place dirty waits =
+    let does : IsWriting true part.mode (range_in part) place dirty = subst (λ (b : Bool). IsWriting b part.mode (range_in part) place dirty) waits (deferred_or_not part.mode (range_in part) place dirty) in
+    λ i. left (Writing (range_in part)) (does.0 i) (does.1 i)
 
 -- a number, where the block is to be read; it answers done then, wherever the block stands
 pub after_number_read : (way : Way) (part : Part) (place place' : Option CBlock) (dirty : Bool) (number : ℕ) → way ≡ Reads → place' ≡ place_read part.mode place
@@ -110,25 +118,12 @@ pub after_number_write : (way : Way) (part : Part) (place place' : Option CBlock
     → after (left (job_by way part) (Cell (Look (Number part.block)) ∷ work (job_by way part) place dirty) (answer_at (job_by way part) place Finished)) (Word number)
     ≡ left (Writing (range_in part)) (dirtying part.mode part.block place' dirty' ++ straight_writing part (places_written part.mode place') place') Finished
 after_number_write Reads part place place' dirty dirty' number e p d ne u = absurd (cc)
-after_number_write Writes part place place' dirty dirty' number e p d ne u = rw (p, d, ne_eqb number (2 ^ 64 - 1) ne) (by_mode part.mode place (subst (λ (x : Option CBlock). is_deferred part.mode x ≡ false) p u))
-  where
-    by_mode : (mode : Mode) (place : Option CBlock) → is_deferred mode place ≡ false
-        → left (Writing (range_in part)) (writing mode (range_in part) place dirty) (deferring mode place Finished) ≡ left (Writing (range_in part)) (dirtying mode part.block place dirty ++ straight_writing part (places_written mode place) place) Finished
-    by_mode Writeback place u = ap (λ (ws : List Want). left (Writing (range_in part)) ws Finished) (writing_is part Writeback place dirty)
-    by_mode Writethrough place u = ap (λ (ws : List Want). left (Writing (range_in part)) ws Finished) (writing_is part Writethrough place dirty)
-    by_mode Passthrough None u = ap (λ (ws : List Want). left (Writing (range_in part)) ws Finished) (writing_is part Passthrough None dirty)
-    by_mode Passthrough (Some c) u = absurd (cc)
+after_number_write Writes part place place' dirty dirty' number e p d ne u = rw (p, d, ne_eqb number (2 ^ 64 - 1) ne) (goes_so part place dirty (subst (λ (x : Option CBlock). is_deferred part.mode x ≡ false) p u))
 
 pub after_deferred : (way : Way) (part : Part) (place place' : Option CBlock) (dirty : Bool) (number : ℕ) → way ≡ Writes → place' ≡ place → number ≢ 2 ^ 64 - 1 → is_deferred part.mode place' ≡ true
     → after (left (job_by way part) (Cell (Look (Number part.block)) ∷ work (job_by way part) place dirty) (answer_at (job_by way part) place Finished)) (Word number) ≡ left (Writing (range_in part)) (giving_back Writes part) (Refuses Defer)
 after_deferred Reads part place place' dirty number e p ne u = absurd (cc)
-after_deferred Writes part place place' dirty number e p ne u = rw (ne_eqb number (2 ^ 64 - 1) ne) (by_mode part.mode place (subst (λ (x : Option CBlock). is_deferred part.mode x ≡ true) p u))
-  where
-    by_mode : (mode : Mode) (place : Option CBlock) → is_deferred mode place ≡ true → left (Writing (range_in part)) (writing mode (range_in part) place dirty) (deferring mode place Finished) ≡ left (Writing (range_in part)) (giving_back Writes part) (Refuses Defer)
-    by_mode Writeback place u = absurd (cc)
-    by_mode Writethrough place u = absurd (cc)
-    by_mode Passthrough None u = absurd (cc)
-    by_mode Passthrough (Some c) u = refl
+after_deferred Writes part place place' dirty number e p ne u = rw (ne_eqb number (2 ^ 64 - 1) ne) (waits_so part place dirty (subst (λ (x : Option CBlock). is_deferred part.mode x ≡ true) p u))
 
 -- and the last
 pub after_last : (way : Way) (part : Part) (place : Option CBlock) (dirty : Bool) (number : ℕ) → way ≡ Writes → number ≡ 2 ^ 64 - 1

@@ -1,5 +1,5 @@
 -- What a request that was answered done has done to a client's hand.
-use Rattle.std.proofs.Common.{◌≡◌, ◌≤◌, ◌<◌, ◌+◌, ◌%◌, ℕ, Bool, true, false, List, [], ◌∷◌, ◌++◌, Option, Some, None, length, refl, sym, ap, ◌∙◌, subst, arith, append_assoc}
+use Rattle.std.proofs.Common.{◌≡◌, ◌≤◌, ◌+◌, ◌%◌, ℕ, Bool, true, false, List, [], ◌∷◌, ◌++◌, Option, Some, None, length, refl, sym, ap, ◌∙◌, subst, arith}
 use Rattle.std.proofs.lemmas.List.{take_all}
 use Rattle.wb_types.specs.declared.extent.Extent.{Extent}
 use Rattle.wb_types.specs.Extents.{pieces}
@@ -17,14 +17,15 @@ use Rattle.wb_words.specs.SharedWords.{place_in, dirty_in, seal_word}
 use Rattle.wb_words.specs.Cards.{holding, sealing, finishing, counting}
 use Rattle.wb_words.specs.declared.step.CellStep.TheVariants.{Release, Seal, Finish, Count}
 use Rattle.wb_cells.specs.Passes.{PassState}
-use Rattle.wb_tasks.specs.Tables.{BlockRange, BlockJob, OnBlock, Reading, Writing, device_at, read_step, write_step, place_read, places_written, read_count, write_count, writes, writing, dirtying}
-use Rattle.wb_tasks.specs.Plan.{table, deferring, IsStep}
+use Rattle.wb_tasks.specs.Tables.{BlockRange, BlockJob, OnBlock, Reading, Writing, device_at, read_step, write_step, place_read, places_written, read_count, write_count, writes, writing, dirtying, is_deferred}
+use Rattle.wb_tasks.specs.Plan.{Plan, table, deferring, IsStep}
 use Rattle.wb_tasks.specs.Run.{IsRunOf, Leads}
 use Rattle.wb_tasks.specs.declared.step.Answer.TheVariants.{Done as Finished}
 use Rattle.wb_tasks.specs.declared.step.Want.{Want}
 use Rattle.wb_tasks.specs.declared.step.Want.TheVariants.{Cell}
 use Rattle.wb_tasks.specs.declared.step.Got.{Got}
 use Rattle.wb_tasks.specs.declared.step.Got.TheVariants.{Done}
+use Rattle.wb_tasks.proofs.Modes.{writes_out, IsWriting, deferred_or_not}
 use Rattle.wb_devices.specs.Moving.{OthersStay, device_in}
 use Rattle.wb_devices.specs.declared.devices.Devices.{Devices}
 use Rattle.wb_port.specs.declared.moving.TheConstants.{LONGEST}
@@ -198,25 +199,14 @@ module _ {D : Type 0} (tells : Type 0) (size : D → ℕ) (contents : D → List
   dirties Writethrough place dirty ws steps old new r l = undirtied Writethrough place dirty ws steps old new refl r l
   dirties Passthrough place dirty ws steps old new r l = undirtied Passthrough place dirty ws steps old new refl r l
 
-  -- what a write ends with
-  abbrev written_tail : Option CBlock → List Want
-  written_tail place = Cell (Finish block) ∷ write_count place ∷ Cell (Release Owned block) ∷ []
-
   -- a write that is answered done was not deferred
   undeferred : (mode : Mode) (place : Option CBlock) (dirty : Bool) (rest : List (Want × Got)) → IsRunOf (going_to (deferring mode place Finished) (Writing (part mode)) (writing mode (part mode) place dirty)) rest Finished
       → IsRunOf (going (Writing (part mode)) (dirtying mode block place dirty ++ (writes (part mode) (places_written mode place) (part mode).extents ++ Cell (Finish block) ∷ write_count place ∷ Cell (Release Owned block) ∷ []))) rest Finished
-  undeferred mode place dirty rest r = by_mode mode place r
+  undeferred mode place dirty rest r = by_deferral (is_deferred mode place) (deferred_or_not mode (part mode) place dirty)
     where
-      on : (mode : Mode) (place : Option CBlock) → IsRunOf (going (Writing (part mode)) (dirtying mode block place dirty ++ writes (part mode) (places_written mode place) (part mode).extents ++ written_tail place)) rest Finished
-          → IsRunOf (going (Writing (part mode)) (dirtying mode block place dirty ++ (writes (part mode) (places_written mode place) (part mode).extents ++ written_tail place))) rest Finished
-      on mode place r = subst (λ (ws : List Want). IsRunOf (going (Writing (part mode)) ws) rest Finished) (append_assoc (dirtying mode block place dirty) (writes (part mode) (places_written mode place) (part mode).extents) (written_tail place)) r
-
-      by_mode : (mode : Mode) (place : Option CBlock) → IsRunOf (going_to (deferring mode place Finished) (Writing (part mode)) (writing mode (part mode) place dirty)) rest Finished
-          → IsRunOf (going (Writing (part mode)) (dirtying mode block place dirty ++ (writes (part mode) (places_written mode place) (part mode).extents ++ written_tail place))) rest Finished
-      by_mode Writeback place r = on Writeback place r
-      by_mode Writethrough place r = on Writethrough place r
-      by_mode Passthrough None r = on Passthrough None r
-      by_mode Passthrough (Some c) r = absurd (not_done (going (Writing (part Passthrough)) []) (Cell (Release Owned block) ∷ []) Defer tt rest r)
+      by_deferral : (waits : Bool) → IsWriting waits mode (part mode) place dirty → IsRunOf (going (Writing (part mode)) (dirtying mode block place dirty ++ writes_out (part mode) (places_written mode place) place)) rest Finished
+      by_deferral false is = subst (λ (s : Plan). IsRunOf s rest Finished) (λ i. going_to (is.1 i) (Writing (part mode)) (is.0 i)) r
+      by_deferral true is = absurd (not_done (going (Writing (part mode)) []) (Cell (Release Owned block) ∷ []) Defer tt rest (subst (λ (s : Plan). IsRunOf s rest Finished) (λ i. going_to (is.1 i) (Writing (part mode)) (is.0 i)) r))
 
   -- The sectors were written at each of these places.
   record AllWritten (mode : Mode) (places : List (Option CBlock)) (ws : List Want) (old new : WriteStage D) : Type 0 where

@@ -1,7 +1,5 @@
 -- What is left of a read or a write whose sectors are one extent, at each step of its table.
-use Rattle.std.specs.Prelude.{Bool, true, false, List, [], ◌∷◌, Option, Some}
-use Rattle.wb_types.specs.declared.mode.Mode.{Mode}
-use Rattle.wb_types.specs.declared.mode.Mode.TheVariants.{Passthrough}
+use Rattle.std.specs.Prelude.{List, [], ◌∷◌, Option}
 use Rattle.wb_types.specs.declared.number.CBlock.{CBlock}
 use Rattle.wb_words.specs.declared.word.Access.{Access}
 use Rattle.wb_words.specs.declared.word.Access.TheVariants.{Shared, Owned}
@@ -56,11 +54,6 @@ straight_written part place = Cell (Finish part.block) ∷ write_count place ∷
 abbrev pub straight_writing : Part → List (Option CBlock) → Option CBlock → List Want
 straight_writing part [] place = straight_written part place
 straight_writing part (to ∷ places) place = write_step (range_in part) to part.sectors ∷ straight_writing part places place
-
--- in passthrough a write of a mapped block gives it back, since the desk is needed first
-abbrev pub is_deferred : Mode → Option CBlock → Bool
-is_deferred Passthrough (Some c) = true
-is_deferred mode place = false
 
 -- A stage that stood at a state with some steps left stands at another with others left, and may go on from there: it is ready for what is
 -- left, and however a run of that ends, a run from the first state may end so.

@@ -3,21 +3,21 @@
 //! `drive` asks a task for each next step; here what comes next is where the code stands. So such a request
 //! costs a fraction of the instructions.
 
-ghost use Rattle.std.specs.Prelude.{◌≡◌, ◌<◌, [], ◌∷◌, ◌++◌, Some, true, if◌then◌else◌, IfSome, IfNone};
+ghost use Rattle.std.specs.Prelude.{◌≡◌, ◌<◌, [], ◌∷◌, ◌++◌, IfSome, IfNone};
 ghost use Rattle.wb_types.specs.declared.refusal.Refusal.TheVariants.{Io};
 ghost use Rattle.wb_words.specs.SharedWords.{place_in as place_of_seal, dirty_in};
 ghost use Rattle.wb_words.specs.declared.word.Word.TheVariants.{Cell as LockWord, Seal as SealWord, Number};
-ghost use Rattle.wb_words.specs.declared.step.CellStep.TheVariants.{Look, Count as Counting, SetFailed, Seal as Sealing};
+ghost use Rattle.wb_words.specs.declared.step.CellStep.TheVariants.{Look, Count as Counting, SetFailed};
 ghost use Rattle.wb_tasks.specs.Ready.{StaysReady};
-ghost use Rattle.wb_tasks.specs.Tables.{OnBlock, Reading, Writing, taking, work, dirtying, place_read, places_written, read_step, write_step, read_count, write_count};
+ghost use Rattle.wb_tasks.specs.Tables.{OnBlock, Reading, Writing, taking, work, dirtying, places_written, read_step, read_count, write_count};
 ghost use Rattle.wb_tasks.specs.Plan.{table, answer_at};
 ghost use Rattle.wb_tasks.specs.declared.step.Answer.TheVariants.{Done as Finished, Refused as Refuses};
-ghost use Rattle.wb_tasks.specs.declared.step.Want.TheVariants.{Cell, Device};
-ghost use Rattle.wb_tasks.specs.declared.step.DeviceStep.TheVariants.{Read, Write};
+ghost use Rattle.wb_tasks.specs.declared.step.Want.TheVariants.{Cell};
 ghost use Rattle.wb_port.specs.Requests.{ComesTo};
-ghost use Rattle.wb_port.specs.Straight.{Continues, access_by, giving_back, is_deferred, job_by, left, range_in, straight_writing, straight_written};
+ghost use Rattle.wb_port.specs.Straight.{Continues, access_by, giving_back, job_by, left, range_in, straight_writing, straight_written};
 
 use crate::stepping::{change, look, take, transfer};
+use wb_tasks::route::{is_deferred, is_due, place_read, route, written};
 use wb_tasks::{Answer, CellStep, DeviceStep, Stage};
 use wb_types::{CBlock, Dev, Extent, Mode, OBlock, Refusal};
 use wb_words::{Access, Kind, Word, can_take, is_dirty, place_in};
@@ -119,7 +119,7 @@ fn read<S: Stage>(stage: &mut S, part: Part, place: Option<CBlock>) -> Answer
     requires stays { StaysReady S.ready S.led (left (Reading (range_in part)) (read_step (range_in part) place part.sectors ∷ read_count place ∷ giving_back Way.Reads part) Finished) stage.old }
     ensures { ComesTo S.led (left (Reading (range_in part)) (read_step (range_in part) place part.sectors ∷ read_count place ∷ giving_back Way.Reads part) Finished) stage.old result stage.new }
 {
-    let (device, extent) = route(part, place);
+    let (device, extent) = route(part.block_sectors, place, part.sectors);
     if !transfer(stage, DeviceStep::Read(device, extent)) {
         return give_back(
             stage,
@@ -180,7 +180,7 @@ fn put<S: Stage>(stage: &mut S, part: Part, place: Option<CBlock>) -> Option<Dev
     ensures failed { IfSome result (λ device. Continues S.ready S.led (left (Writing (range_in part)) (straight_writing part (places_written part.mode place) place) Finished) stage.old (left (Writing (range_in part)) (Cell SetFailed ∷ []) (Refuses (Io device))) stage.new) }
 {
     let (first, again) = written(part.mode, place);
-    let (device, extent) = route(part, first);
+    let (device, extent) = route(part.block_sectors, first, part.sectors);
     if !transfer(stage, DeviceStep::Write(device, extent)) {
         return Some(device);
     }
@@ -198,7 +198,7 @@ fn mirror<S: Stage>(stage: &mut S, part: Part, place: Option<CBlock>) -> Option<
     ensures done { IfNone result (Continues S.ready S.led (left (Writing (range_in part)) (straight_writing part (place ∷ []) place) Finished) stage.old (left (Writing (range_in part)) (straight_written part place) Finished) stage.new) }
     ensures failed { IfSome result (λ device. Continues S.ready S.led (left (Writing (range_in part)) (straight_writing part (place ∷ []) place) Finished) stage.old (left (Writing (range_in part)) (Cell SetFailed ∷ []) (Refuses (Io device))) stage.new) }
 {
-    let (device, extent) = route(part, place);
+    let (device, extent) = route(part.block_sectors, place, part.sectors);
     if !transfer(stage, DeviceStep::Write(device, extent)) {
         return Some(device);
     }
@@ -277,70 +277,5 @@ fn write_kind(place: Option<CBlock>) -> Kind
     match place {
         None => Kind::WriteMiss,
         Some(_) => Kind::WriteHit,
-    }
-}
-
-/// Where a read takes the sectors of a block at this place from.
-#[inline(always)]
-fn place_read(mode: Mode, place: Option<CBlock>) -> Option<CBlock>
-    ensures { result ≡ place_read mode place }
-{
-    match mode {
-        Mode::Passthrough => None,
-        Mode::Writeback | Mode::Writethrough => place,
-    }
-}
-
-/// Whether a write of a block at this place needs the desk first.
-#[inline(always)]
-fn is_deferred(mode: Mode, place: Option<CBlock>) -> bool
-    ensures { result ≡ is_deferred mode place }
-{
-    match mode {
-        Mode::Passthrough => place.is_some(),
-        Mode::Writeback | Mode::Writethrough => false,
-    }
-}
-
-/// Whether a mapped block is sealed dirty before it is written.
-#[inline(always)]
-fn is_due(mode: Mode, dirty: bool) -> bool
-    ensures { (block : _) (c : _) → dirtying mode block (Some c) dirty ≡ (if result then Cell (Sealing block (Some c) true) ∷ [] else []) }
-{
-    match mode {
-        Mode::Writeback => !dirty,
-        Mode::Writethrough | Mode::Passthrough => false,
-    }
-}
-
-/// Where a write puts the sectors of a block at this place first, and whether it puts them at that place then.
-#[inline(always)]
-fn written(mode: Mode, place: Option<CBlock>) -> (Option<CBlock>, bool)
-    ensures { places_written mode place ≡ result.0 ∷ (if result.1 then place ∷ [] else []) }
-{
-    match mode {
-        Mode::Writeback => (place, false),
-        Mode::Writethrough => (None, place.is_some()),
-        Mode::Passthrough => (None, false),
-    }
-}
-
-/// The device and the extent of it that hold the sectors of a block at this place.
-#[inline(always)]
-fn route(part: Part, place: Option<CBlock>) -> (Dev, Extent)
-    requires { 0 < part.block_sectors }
-    ensures read { Device (Read result.0 result.1) ≡ read_step (range_in part) place part.sectors }
-    ensures write { Device (Write result.0 result.1) ≡ write_step (range_in part) place part.sectors }
-{
-    match place {
-        None => (Dev::Origin, part.sectors),
-        Some(CBlock(c)) => {
-            let size = u64::from(part.block_sectors);
-            let there = Extent {
-                first: u64::from(c) * size + part.sectors.first % size,
-                count: part.sectors.count,
-            };
-            (Dev::Cache, there)
-        }
     }
 }

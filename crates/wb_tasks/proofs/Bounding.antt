@@ -3,20 +3,14 @@ use Rattle.std.proofs.Common.{◌≡◌, ◌+◌, ◌*◌, ◌≤◌, ◌++◌, 
 use Rattle.wb_tasks.specs.declared.step.DeskStep.TheVariants.{BeginCommit}
 use Rattle.wb_tasks.specs.declared.step.Want.{Want}
 use Rattle.wb_tasks.specs.declared.step.Want.TheVariants.{Desk}
-use Rattle.wb_types.specs.declared.mode.Mode.{Mode}
-use Rattle.wb_types.specs.declared.mode.Mode.TheVariants.{Writeback, Writethrough, Passthrough}
 use Rattle.wb_types.specs.declared.extent.Extent.{Extent}
 use Rattle.wb_types.specs.Extents.{IsCutInto}
 use Rattle.wb_types.proofs.Cutting.{cut_short}
 use Rattle.wb_tasks.specs.Tables.{BlockJob, Reading, Writing, Displacing, Invalidating, Migrating, OnBlock, Flushing, Suspending, Opening, range_of}
 use Rattle.wb_types.specs.declared.number.OBlock.{OBlock}
 use Rattle.wb_tasks.specs.Plan.{table, release_orders, seal_looks}
-use Rattle.wb_tasks.specs.Length.{most_written, longest_of, longest}
-
-at_most_twice : (mode : Mode) (n : ℕ) → most_written mode * n ≤ 2 * n
-at_most_twice Writeback n = omega arith
-at_most_twice Writethrough n = omega arith
-at_most_twice Passthrough n = omega arith
+use Rattle.wb_tasks.specs.Length.{longest_of, longest}
+use Rattle.wb_tasks.proofs.Modes.{at_most_twice}
 
 -- by the number of extents
 pub longest_is : (job : BlockJob) → longest (table (OnBlock job)) ≤ 2 * length (range_of job).extents + 11

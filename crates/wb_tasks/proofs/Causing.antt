@@ -1,8 +1,6 @@
 -- A task refuses for a cause alone.
 use Rattle.std.proofs.Common.{◌≡◌, ◌≢◌, ◌==◌, ◌+◌, ◌⊎◌, inl, inr, ℕ, zero, suc, Bool, true, false, List, [], ◌∷◌, ◌++◌, Option, Some, None, if◌then◌else◌, refl, sym, subst}
 use Rattle.std.proofs.lemmas.Bool.{eq-eqb}
-use Rattle.wb_types.specs.declared.mode.Mode.{Mode}
-use Rattle.wb_types.specs.declared.mode.Mode.TheVariants.{Writeback, Writethrough, Passthrough}
 use Rattle.wb_types.specs.declared.mode.Dev.TheVariants.{Metadata}
 use Rattle.wb_types.specs.declared.number.OBlock.{OBlock}
 use Rattle.wb_types.specs.declared.number.CBlock.{CBlock}
@@ -12,7 +10,8 @@ use Rattle.wb_words.specs.declared.word.Word.TheVariants.{Cell as LockWord, Seal
 use Rattle.wb_words.specs.SharedWords.{place_in, dirty_in}
 use Rattle.wb_types.specs.declared.extent.Extent.{Extent}
 use Rattle.wb_words.specs.declared.word.Access.TheVariants.{Shared, Owned}
-use Rattle.wb_tasks.specs.Tables.{BlockJob, Reading, Writing, Displacing, Invalidating, Migrating, TaskJob, OnBlock, Flushing, Suspending, Opening, place_read, read_step, read_count, write_count, writing, work}
+use Rattle.wb_tasks.specs.Tables.{BlockJob, Reading, Writing, Displacing, Invalidating, Migrating, TaskJob, OnBlock, Flushing, Suspending, Opening, is_deferred, place_read, read_step, read_count, write_count, writing, work}
+use Rattle.wb_tasks.proofs.Modes.{IsWriting, deferred_or_not}
 use Rattle.wb_tasks.proofs.Working.{Works, work_has, parting_has}
 use Rattle.wb_tasks.specs.Plan.{Plan, after, table, first_step, refused, gives_back, gives_up, release_orders, node_writes, root_steps, opening_root, begun_steps, seal_looks, steps_seeing, deferring, answer_seeing, lets_go, after_fault_of, exchange, may_take, is_worn, Fits}
 use Rattle.wb_tasks.specs.Run.{IsRunOf}
@@ -212,19 +211,15 @@ defers job block b (step ∷ steps) r h =
     ]
 
 by_seal : (job : TaskJob) (block : OBlock) (ws : List Want) (value : ℕ) → AreOwn ws → Outcome job (Cell (Look (SealWord block))) (Word value) (record { job = job; steps = steps_seeing job block value ws; answer = answer_seeing job value Finished })
-by_seal (OnBlock (Writing part)) block ws value own = by_mode part.mode refl (place_in value) refl
+by_seal (OnBlock (Writing part)) block ws value own = by_deferral (is_deferred part.mode (place_in value)) (deferred_or_not part.mode part (place_in value) (dirty_in value))
   where
-    Seen : Mode → Option CBlock → Type 0
-    Seen mode place = Outcome (OnBlock (Writing part)) (Cell (Look (SealWord block))) (Word value) (record { job = OnBlock (Writing part); steps = Cell (Look (Number block)) ∷ writing mode part place (dirty_in value); answer = deferring mode place Finished })
+    does : List Want
+    does = writing part.mode part (place_in value) (dirty_in value)
 
-    works : (mode : Mode) → part.mode ≡ mode → (place : Option CBlock) → place_in value ≡ place → AreOwn (writing mode part place (dirty_in value))
-    works mode is place at = subst (λ (m : Mode). AreOwn (writing m part place (dirty_in value))) is (subst (λ (p : Option CBlock). AreOwn (writing part.mode part p (dirty_in value))) at (own_work (Writing part) (place_in value) (dirty_in value)))
-
-    by_mode : (mode : Mode) → part.mode ≡ mode → (place : Option CBlock) → place_in value ≡ place → Seen mode place
-    by_mode Writeback is place at = inr (_, works Writeback is place at, refl)
-    by_mode Writethrough is place at = inr (_, works Writethrough is place at, refl)
-    by_mode Passthrough is None at = inr (_, works Passthrough is None at, refl)
-    by_mode Passthrough is (Some c) at = inl (Defer, (λ i. deferring (is i) (at i) Finished), defers (OnBlock (Writing part)) block part.block)
+    by_deferral : (waits : Bool) → IsWriting waits part.mode part (place_in value) (dirty_in value)
+        → Outcome (OnBlock (Writing part)) (Cell (Look (SealWord block))) (Word value) (record { job = OnBlock (Writing part); steps = Cell (Look (Number block)) ∷ does; answer = deferring part.mode (place_in value) Finished })
+    by_deferral false is = inr (Cell (Look (Number block)) ∷ does, own_work (Writing part) (place_in value) (dirty_in value), λ i. record { job = OnBlock (Writing part); steps = Cell (Look (Number block)) ∷ does; answer = is.1 i })
+    by_deferral true is = inl (Defer, is.1, subst (Refusing (OnBlock (Writing part)) Defer) (λ i. record { job = OnBlock (Writing part); steps = Cell (Look (Number block)) ∷ sym is.0 i; answer = sym is.1 i }) (defers (OnBlock (Writing part)) block part.block))
 by_seal (OnBlock (Reading part)) block ws value own = inr (_, own_work (Reading part) (place_in value) (dirty_in value), refl)
 by_seal (OnBlock (Displacing part)) block ws value own = inr (_, own_work (Displacing part) (place_in value) (dirty_in value), refl)
 by_seal (OnBlock (Invalidating part)) block ws value own = inr (_, own_work (Invalidating part) (place_in value) (dirty_in value), refl)

@@ -1,7 +1,5 @@
 -- A run of a task, step by step, and how long it can be.
-use Rattle.std.proofs.Common.{◌≡◌, ◌≢◌, ◌+◌, ◌*◌, ◌<◌, ◌≤◌, ℕ, zero, suc, Bool, true, false, List, [], ◌∷◌, ◌++◌, Option, Some, None, length, map, max, ◌==◌, if◌then◌else◌, refl, sym, subst, arith, append_assoc}
-use Rattle.wb_types.specs.declared.mode.Mode.{Mode}
-use Rattle.wb_types.specs.declared.mode.Mode.TheVariants.{Writeback, Writethrough, Passthrough}
+use Rattle.std.proofs.Common.{◌≡◌, ◌≢◌, ◌+◌, ◌*◌, ◌<◌, ◌≤◌, ℕ, zero, suc, Bool, true, false, List, [], ◌∷◌, ◌++◌, Option, Some, None, length, map, max, ◌==◌, if◌then◌else◌, refl, sym, ap, subst, arith, append_assoc}
 use Rattle.wb_types.specs.declared.mode.Dev.TheVariants.{Metadata}
 use Rattle.wb_types.specs.declared.number.CBlock.{CBlock}
 use Rattle.wb_words.specs.declared.word.Access.TheVariants.{Shared, Owned}
@@ -11,11 +9,12 @@ use Rattle.wb_words.specs.declared.word.Word.{Word as WordName}
 use Rattle.wb_words.specs.declared.word.Word.TheVariants.{Cell as LockWord, Seal as SealWord, Number, Count as CountWord, Fail}
 use Rattle.wb_words.specs.SharedWords.{place_in, dirty_in}
 use Rattle.wb_types.specs.declared.extent.Extent.{Extent}
-use Rattle.wb_tasks.specs.Tables.{BlockRange, BlockJob, TaskJob, OnBlock, Flushing, Suspending, Opening, Reading, Writing, Displacing, Invalidating, Migrating, work, copies, ending, place_read, writes, writing, read_step, read_count, write_count}
+use Rattle.wb_tasks.specs.Tables.{BlockRange, BlockJob, TaskJob, OnBlock, Flushing, Suspending, Opening, Reading, Writing, Displacing, Invalidating, Migrating, work, copies, ending, place_read, writes, read_step, read_count, write_count}
 use Rattle.wb_tasks.specs.Plan.{Plan, want, after, after_look, gives_back, gives_up, release_orders, lets_go, after_fault_of, exchange, may_take, node_writes, root_steps, opening_root, begun_steps, Fits, IsStep, first_step, is_worn}
 use Rattle.wb_tasks.specs.Ready.{AreFirst, left_by}
 use Rattle.wb_tasks.specs.Run.{IsRunOf, Leads}
 use Rattle.wb_tasks.specs.Length.{most_written, longest_work, longest_failing, longest_begun, longest_of, longest}
+use Rattle.wb_tasks.proofs.Modes.{writes_out, SealsDirty, WritesCopy, WritesHome, at_least_once, in_some_way}
 use Rattle.wb_words.specs.declared.step.CellStep.TheVariants.{Look, Take, Release, Seal, Finish, Count, SetFailed, SetSuspended}
 use Rattle.wb_tasks.specs.declared.step.DeviceStep.{DeviceStep}
 use Rattle.wb_tasks.specs.declared.step.DeviceStep.TheVariants.{Read, Write, Sync, ReadMetadata, WriteNode, WriteRoot}
@@ -110,19 +109,28 @@ longest_of-work (Reading part) place dirty = by_place (place_read part.mode plac
     by_place : (from : Option CBlock) → longest_of (OnBlock (Reading part)) (map (read_step part from) part.extents ++ read_count from ∷ Cell (Release Shared part.block) ∷ []) ≤ longest_work (Reading part)
     by_place None = omega (arith, longest_of-reads (Reading part) part None part.extents (read_count None ∷ Cell (Release Shared part.block) ∷ []) (omega arith))
     by_place (Some c) = omega (arith, longest_of-reads (Reading part) part (Some c) part.extents (read_count (Some c) ∷ Cell (Release Shared part.block) ∷ []) (omega arith))
-longest_of-work (Writing part) place dirty = by_mode part.mode place dirty
+longest_of-work (Writing part) place dirty = in_some_way Few part.mode part (record { home = home; cached = cached; sealed = sealed; both = both; deferred = λ c dirty back. omega arith }) place dirty
   where
+    Few : Option CBlock → Bool → List Want → Type 0
+    Few place dirty ws = longest_of (OnBlock (Writing part)) ws ≤ longest_work (Writing part)
+
     ends : Option CBlock → List Want
     ends place = Cell (Finish part.block) ∷ write_count place ∷ Cell (Release Owned part.block) ∷ []
 
-    by_mode : (mode : Mode) (place : Option CBlock) (dirty : Bool) → longest_of (OnBlock (Writing part)) (writing mode part place dirty) ≤ most_written mode * length part.extents + 5
-    by_mode Writeback None dirty = omega (arith, longest_of-writes (Writing part) part None part.extents (ends None) (omega arith))
-    by_mode Writeback (Some c) true = omega (arith, longest_of-writes (Writing part) part (Some c) part.extents (ends (Some c)) (omega arith))
-    by_mode Writeback (Some c) false = omega (arith, longest_of-writes (Writing part) part (Some c) part.extents (ends (Some c)) (omega arith))
-    by_mode Writethrough None dirty = omega (arith, longest_of-writes (Writing part) part None part.extents (ends None) (omega arith))
-    by_mode Writethrough (Some c) dirty = omega (arith, longest_of-writes_through (Writing part) part c part.extents (ends (Some c)) (omega arith))
-    by_mode Passthrough None dirty = omega (arith, longest_of-writes (Writing part) part None part.extents (ends None) (omega arith))
-    by_mode Passthrough (Some c) dirty = omega arith
+    once : length part.extents ≤ most_written part.mode * length part.extents
+    once = at_least_once part.mode (length part.extents)
+
+    home : (dirty : Bool) → Few None dirty (writes_out part (None ∷ []) None)
+    home dirty = omega (arith, once, longest_of-writes (Writing part) part None part.extents (ends None) (omega arith))
+
+    cached : (c : CBlock) → WritesCopy part.mode true → Few (Some c) true (writes_out part (Some c ∷ []) (Some c))
+    cached c copy = omega (arith, once, longest_of-writes (Writing part) part (Some c) part.extents (ends (Some c)) (omega arith))
+
+    sealed : (c : CBlock) → SealsDirty part.mode → WritesCopy part.mode true → Few (Some c) false (Cell (Seal part.block (Some c) true) ∷ writes_out part (Some c ∷ []) (Some c))
+    sealed c seals copy = omega (arith, once, longest_of-writes (Writing part) part (Some c) part.extents (ends (Some c)) (omega arith))
+
+    both : (c : CBlock) (dirty : Bool) → most_written part.mode ≡ 2 → WritesHome part.mode → WritesCopy part.mode dirty → Few (Some c) dirty (writes_out part (None ∷ Some c ∷ []) (Some c))
+    both c dirty twice other copy = omega (arith, ap (λ (k : ℕ). k * length part.extents) twice, longest_of-writes_through (Writing part) part c part.extents (ends (Some c)) (omega arith))
 longest_of-work (Displacing part) place dirty = by_place place
   where
     ends : Option CBlock → List Want

@@ -4,6 +4,7 @@ pub mod Causing
 pub mod Readiness
 pub mod Placed
 pub mod Bounding
+pub mod Modes
 pub mod Peeling
 pub mod Pieces
 pub mod Seals

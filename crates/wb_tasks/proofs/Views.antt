@@ -1,20 +1,21 @@
 -- From the fields of a task to what its contract says.
-use Rattle.std.proofs.Common.{◌≡◌, ◌++◌, ℕ, Bool, if◌then◌else◌, List, [], ◌∷◌, Option, Some, None, map, refl, sym, ap, subst, ◌∙◌}
+use Rattle.std.proofs.Common.{◌≡◌, ◌++◌, ℕ, Bool, true, false, if◌then◌else◌, List, [], ◌∷◌, Option, Some, None, map, refl, sym, ap, subst, ◌∙◌}
 use Rattle.wb_types.specs.Extents.{pieces}
 use Rattle.wb_types.specs.declared.extent.Extent.{Extent}
 use Rattle.wb_types.specs.declared.mode.Mode.{Mode}
-use Rattle.wb_types.specs.declared.mode.Mode.TheVariants.{Writeback, Writethrough, Passthrough}
 use Rattle.wb_types.specs.declared.mode.Dev.{Dev}
 use Rattle.wb_types.specs.declared.mode.Dev.TheVariants.{Cache, Origin}
 use Rattle.wb_types.specs.declared.number.CBlock.{CBlock}
 use Rattle.wb_types.specs.declared.refusal.Refusal.{Refusal}
 use Rattle.wb_types.specs.declared.refusal.Refusal.TheVariants.{Busy, Io}
 use Rattle.wb_words.specs.declared.word.Access.{Access}
+use Rattle.wb_words.specs.declared.step.CellStep.TheVariants.{Seal}
 use Rattle.wb_words.specs.declared.grip.GripStage.{GripStage}
 use Rattle.wb_words.specs.declared.grip.GripStage.TheVariants.{LookFail, LookLock, Exchange, LookSeal, LookNumber}
-use Rattle.wb_tasks.specs.Tables.{BlockRange, BlockJob, OnBlock, access_of, is_write, device_at, cache_extent, places_written, read_step, write_step, writes}
+use Rattle.wb_tasks.specs.Tables.{BlockRange, BlockJob, OnBlock, Writing, access_of, is_write, device_at, cache_extent, places_written, dirtying, is_deferred, read_step, write_step, writes, writing}
 use Rattle.wb_tasks.specs.Plan.{Plan, want, after, after_look, first_step, later_steps, Fits, IsRare}
-use Rattle.wb_tasks.specs.Phases.{job_on_block, acquiring, after_seeing, write_end, written_mode, steps_in, left_in, has_order}
+use Rattle.wb_tasks.specs.Phases.{job_on_block, acquiring, after_seeing, write_end, writes_left, written_mode, steps_in, left_in, has_order}
+use Rattle.wb_tasks.proofs.Modes.{IsWriting, deferred_or_not, some_written}
 use Rattle.wb_tasks.specs.declared.acquire.Seen.{Seen}
 use Rattle.wb_tasks.specs.declared.acquire.Seen.TheVariants.{Holds}
 use Rattle.wb_tasks.specs.declared.block.BlockTask.TheInside.{Inside}
@@ -26,7 +27,7 @@ use Rattle.wb_tasks.specs.declared.step.Migration.TheVariants.{Promote, Demote, 
 use Rattle.wb_tasks.specs.declared.step.DeskStep.TheVariants.{Arrive, Ask, BeginCommit}
 use Rattle.wb_tasks.specs.declared.step.DeviceStep.TheVariants.{Write, ReadMetadata}
 use Rattle.wb_tasks.specs.declared.step.Want.{Want}
-use Rattle.wb_tasks.specs.declared.step.Want.TheVariants.{Device, Desk}
+use Rattle.wb_tasks.specs.declared.step.Want.TheVariants.{Cell, Device, Desk}
 use Rattle.wb_tasks.specs.declared.step.Answer.TheVariants.{Done as Finished, Refused as Refuses}
 use Rattle.wb_tasks.specs.declared.step.Got.{Got}
 use Rattle.wb_tasks.specs.declared.step.Got.TheVariants.{Word, Lost, Fault, Refused, Began, Ticket, Served, More}
@@ -58,6 +59,29 @@ left_by_holding {old} {stage} {seen} t kind left word acquires is fits saw takes
     left_by_look t.work part t.phase left stage (pieces t.longest t.left) old word seen acquires is fits (saw (job_on_block t.work part) (sym (takes part)) (sym (wants part)))
     (ap (λ (w : Work). left_in w part left part.extents) does ∙ goes ∙ (λ i. after_seeing (job_on_block (sym does i) part) (sym holds i)))
 
+-- a write of a mapped block that is not deferred stands where the copy is sealed dirty, or where its sectors are written
+abbrev marks_first : BlockRange → CBlock → Bool → List Want
+marks_first part c due = if due then (Cell (Seal part.block (Some c) true) ∷ []) else []
+
+writing_at : (part : BlockRange) (c : CBlock) (dirty due : Bool) → is_deferred part.mode (Some c) ≡ false → dirtying part.mode part.block (Some c) dirty ≡ marks_first part c due →
+    left_in ToWrite part (if due then Dirties c else Writes (Some c)) part.extents ≡ after_seeing (Writing part) (Holds (Some c) dirty)
+writing_at part c dirty due goes marks = by_due due marks
+  where
+    does : IsWriting false part.mode part (Some c) dirty
+    does = subst (λ (b : Bool). IsWriting b part.mode part (Some c) dirty) goes (deferred_or_not part.mode part (Some c) dirty)
+
+    steps : (first : List Want) → dirtying part.mode part.block (Some c) dirty ≡ first → first ++ writes_left ToWrite part (Some c) part.extents ≡ writing part.mode part (Some c) dirty
+    steps first marks = sym (does.0 ∙ ap (λ (ws : List Want). ws ++ writes_left ToWrite part (Some c) part.extents) marks)
+
+    by_due : (due : Bool) → dirtying part.mode part.block (Some c) dirty ≡ marks_first part c due → left_in ToWrite part (if due then Dirties c else Writes (Some c)) part.extents ≡ after_seeing (Writing part) (Holds (Some c) dirty)
+    by_due true marks = λ i. record { job = OnBlock (Writing part); steps = steps _ marks i; answer = sym does.1 i }
+    by_due false marks = λ i. record { job = OnBlock (Writing part); steps = steps _ marks i; answer = sym does.1 i }
+
+pub left_by_writing : (part : BlockRange) (mode : Mode) (place : Option CBlock) (c : CBlock) (dirty due : Bool) → part.mode ≡ mode → place ≡ Some c → is_deferred mode place ≡ false → dirtying mode part.block (Some c) dirty ≡ marks_first part c due →
+    left_in ToWrite part (if due then Dirties c else Writes (Some c)) part.extents ≡ after_seeing (Writing part) (Holds place dirty)
+left_by_writing part mode place c dirty due same at goes marks =
+    rw at (writing_at part c dirty due (ap (λ (m : Mode). is_deferred m (Some c)) same ∙ ap (is_deferred mode) (sym at) ∙ goes) (ap (λ (m : Mode). dirtying m part.block (Some c) dirty) same ∙ marks))
+
 -- where a write puts an extent of a block at this place first, and that it puts it at that place then
 abbrev pub IsWritten : Work → BlockRange → Option CBlock → Option CBlock → Bool → Type 0
 IsWritten work part place to again = places_written (written_mode work part.mode) place ≡ to ∷ (if again then place ∷ [] else [])
@@ -72,10 +96,7 @@ at_place part None e Q q = q Origin e
 at_place part (Some c) e Q q = q Cache (cache_extent part c e)
 
 at_first : (part : BlockRange) (mode : Mode) (place : Option CBlock) (e : Extent) (us ws : List Want) (Q : Want → Type 0) → ((device : Dev) (x : Extent) → Q (Device (Write device x))) → Q (first_step ((map (λ to. write_step part to e) (places_written mode place) ++ us) ++ ws) Finished)
-at_first part Writeback place e us ws Q q = at_place part place e Q q
-at_first part Writethrough None e us ws Q q = q Origin e
-at_first part Writethrough (Some c) e us ws Q q = q Origin e
-at_first part Passthrough place e us ws Q q = q Origin e
+at_first part mode place e us ws Q q = some_written mode place (λ (places : List (Option CBlock)). Q (first_step ((map (λ to. write_step part to e) places ++ us) ++ ws) Finished)) (λ first later. at_place part first e Q q)
 
 -- What a fault leaves of a job that reads at this place, and of one that writes there.
 after_failed_read : (work : Work) (part : BlockRange) (place : Option CBlock) (e : Extent) (ws : List Want) (extents : List Extent) →

@@ -1,15 +1,15 @@
 -- What holds of all that a job does once it has seen its block's seal, shown of each of its steps once.
-use Rattle.std.proofs.Common.{◌≡◌, ◌≢◌, ◌∙◌, ◌++◌, Bool, true, false, List, [], ◌∷◌, map, Option, Some, None, Contains, refl, sym, subst, append_assoc}
+use Rattle.std.proofs.Common.{◌≡◌, ◌++◌, Bool, true, false, List, [], ◌∷◌, map, Option, Some, None, Contains, sym, subst, append_assoc}
 use Rattle.wb_types.proofs.Lists.{Contains-first, Contains-behind}
 use Rattle.wb_types.specs.declared.extent.Extent.{Extent}
-use Rattle.wb_types.specs.declared.mode.Mode.{Mode}
-use Rattle.wb_types.specs.declared.mode.Mode.TheVariants.{Writeback, Writethrough, Passthrough}
 use Rattle.wb_types.specs.declared.number.CBlock.{CBlock}
 use Rattle.wb_types.specs.declared.number.OBlock.{OBlock}
 use Rattle.wb_words.specs.declared.word.Access.TheVariants.{Shared, Owned}
 use Rattle.wb_words.specs.declared.step.CellStep.TheVariants.{Release, Seal, Finish}
-use Rattle.wb_tasks.specs.Tables.{BlockRange, BlockJob, Reading, Writing, Displacing, Invalidating, Migrating, place_read, read_step, write_step, read_count, write_count, writes, writing, copies, ending, work}
+use Rattle.wb_tasks.specs.Tables.{BlockRange, BlockJob, Reading, Writing, Displacing, Invalidating, Migrating, place_read, read_step, write_step, read_count, write_count, writes, copies, ending, work}
 use Rattle.wb_tasks.specs.Plan.{gives_up}
+use Rattle.wb_tasks.specs.Length.{most_written}
+use Rattle.wb_tasks.proofs.Modes.{writes_out, SealsDirty, WritesCopy, WritesHome, GivesBack, in_some_way}
 use Rattle.wb_tasks.specs.declared.step.DeskStep.TheVariants.{Unmap, ReleaseOrder}
 use Rattle.wb_tasks.specs.declared.step.Migration.{Migration}
 use Rattle.wb_tasks.specs.declared.step.Migration.TheVariants.{Promote, Demote, Clean}
@@ -28,11 +28,11 @@ pub record Reads (R : OfSteps) (part : BlockRange) : Type 0 where
   pub last : (place : Option CBlock) (dirty : Bool) → R place dirty (read_count (place_read part.mode place) ∷ Cell (Release Shared part.block) ∷ [])
 
 pub record Writes (R : OfSteps) (part : BlockRange) : Type 0 where
-  pub seal : (c : CBlock) (ws : List Want) → part.mode ≡ Writeback → R (Some c) true ws → R (Some c) false (Cell (Seal part.block (Some c) true) ∷ ws)
+  pub seal : (c : CBlock) (ws : List Want) → SealsDirty part.mode → R (Some c) true ws → R (Some c) false (Cell (Seal part.block (Some c) true) ∷ ws)
   pub home : (dirty : Bool) (e : Extent) (ws : List Want) → Contains part.extents e → R None dirty ws → R None dirty (write_step part None e ∷ ws)
-  pub cached : (c : CBlock) (dirty : Bool) (e : Extent) (ws : List Want) → (part.mode ≢ Passthrough) × (part.mode ≡ Writeback → dirty ≡ true) → Contains part.extents e → R (Some c) dirty ws → R (Some c) dirty (write_step part (Some c) e ∷ ws)
-  pub through : (c : CBlock) (dirty : Bool) (e : Extent) (ws : List Want) → part.mode ≢ Writeback → Contains part.extents e → R (Some c) dirty ws → R (Some c) dirty (write_step part None e ∷ ws)
-  pub defers : (c : CBlock) (dirty : Bool) → part.mode ≡ Passthrough → R (Some c) dirty (Cell (Release Owned part.block) ∷ [])
+  pub cached : (c : CBlock) (dirty : Bool) (e : Extent) (ws : List Want) → WritesCopy part.mode dirty → Contains part.extents e → R (Some c) dirty ws → R (Some c) dirty (write_step part (Some c) e ∷ ws)
+  pub through : (c : CBlock) (dirty : Bool) (e : Extent) (ws : List Want) → WritesHome part.mode → Contains part.extents e → R (Some c) dirty ws → R (Some c) dirty (write_step part None e ∷ ws)
+  pub defers : (c : CBlock) (dirty : Bool) → GivesBack part.mode → R (Some c) dirty (Cell (Release Owned part.block) ∷ [])
   pub last : (place : Option CBlock) (dirty : Bool) → R place dirty (Cell (Finish part.block) ∷ write_count place ∷ Cell (Release Owned part.block) ∷ [])
 
 -- and of what comes after a mapped block was taken out of the cache, and so with that before: a write on the origin, which counts by
@@ -84,27 +84,20 @@ module _ (R : List Want → Type 0) (extents : List Extent) where
 
 pub work_has : (R : OfSteps) (job : BlockJob) → Works R job → (place : Option CBlock) (dirty : Bool) → R place dirty (work job place dirty)
 work_has R (Reading part) w place dirty = mapped_on (R place dirty) part.extents (read_step part (place_read part.mode place)) part.extents _ (λ e m. m) (w.each place dirty) (w.last place dirty)
-work_has R (Writing part) w place dirty = by_mode part.mode refl place dirty
+work_has R (Writing part) w place dirty = in_some_way R part.mode part (record { home = home; cached = cached; sealed = sealed; both = both; deferred = w.defers }) place dirty
   where
-    other : (mode : Mode) → part.mode ≡ mode → mode ≢ Writeback → part.mode ≢ Writeback
-    other mode is n back = n (sym is ∙ back)
+    home : (dirty : Bool) → R None dirty (writes_out part (None ∷ []) None)
+    home dirty = written_on (R None dirty) part.extents part (None ∷ []) part.extents _ (λ e m. m) (w.home dirty) (w.last None dirty)
 
-    unlike : (mode : Mode) → part.mode ≡ mode → mode ≢ Passthrough → part.mode ≢ Passthrough
-    unlike mode is n pass = n (sym is ∙ pass)
+    cached : (c : CBlock) → WritesCopy part.mode true → R (Some c) true (writes_out part (Some c ∷ []) (Some c))
+    cached c copy = written_on (R (Some c) true) part.extents part (Some c ∷ []) part.extents _ (λ e m. m) (λ e us m r. w.cached c true e us copy m r) (w.last (Some c) true)
 
-    -- in write-back where the newest copy stands
-    back : part.mode ≡ Writeback → (c : CBlock) → R (Some c) true (writes part (Some c ∷ []) part.extents ++ Cell (Finish part.block) ∷ write_count (Some c) ∷ Cell (Release Owned part.block) ∷ [])
-    back is c = written_on (R (Some c) true) part.extents part (Some c ∷ []) part.extents _ (λ e m. m) (λ e us m r. w.cached c true e us (unlike Writeback is (λ q. cc), λ _. refl) m r) (w.last (Some c) true)
+    sealed : (c : CBlock) → SealsDirty part.mode → WritesCopy part.mode true → R (Some c) false (Cell (Seal part.block (Some c) true) ∷ writes_out part (Some c ∷ []) (Some c))
+    sealed c seals copy = w.seal c _ seals (cached c copy)
 
-    by_mode : (mode : Mode) → part.mode ≡ mode → (place : Option CBlock) (dirty : Bool) → R place dirty (writing mode part place dirty)
-    by_mode Writeback is None dirty = written_on (R None dirty) part.extents part (None ∷ []) part.extents _ (λ e m. m) (w.home dirty) (w.last None dirty)
-    by_mode Writeback is (Some c) true = back is c
-    by_mode Writeback is (Some c) false = w.seal c _ is (back is c)
-    by_mode Writethrough is None dirty = written_on (R None dirty) part.extents part (None ∷ []) part.extents _ (λ e m. m) (w.home dirty) (w.last None dirty)
-    by_mode Writethrough is (Some c) dirty = written_on (R (Some c) dirty) part.extents part (None ∷ Some c ∷ []) part.extents _ (λ e m. m)
-        (λ e us m r. w.through c dirty e _ (other Writethrough is (λ q. cc)) m (w.cached c dirty e us (unlike Writethrough is (λ q. cc), λ q. absurd (other Writethrough is (λ z. cc) q)) m r)) (w.last (Some c) dirty)
-    by_mode Passthrough is None dirty = written_on (R None dirty) part.extents part (None ∷ []) part.extents _ (λ e m. m) (w.home dirty) (w.last None dirty)
-    by_mode Passthrough is (Some c) dirty = w.defers c dirty is
+    both : (c : CBlock) (dirty : Bool) → most_written part.mode ≡ 2 → WritesHome part.mode → WritesCopy part.mode dirty → R (Some c) dirty (writes_out part (None ∷ Some c ∷ []) (Some c))
+    both c dirty twice other copy = written_on (R (Some c) dirty) part.extents part (None ∷ Some c ∷ []) part.extents _ (λ e m. m)
+        (λ e us m r. w.through c dirty e _ other m (w.cached c dirty e us copy m r)) (w.last (Some c) dirty)
 work_has R (Displacing part) w place dirty = by_place place
   where
     -- on the origin

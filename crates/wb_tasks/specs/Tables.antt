@@ -108,6 +108,11 @@ abbrev pub dirtying : Mode → OBlock → Option CBlock → Bool → List Want
 dirtying Writeback block (Some c) false = Cell (Seal block (Some c) true) ∷ []
 dirtying mode block place dirty = []
 
+-- In passthrough a write of a mapped block gives it back, since the desk is needed first.
+abbrev pub is_deferred : Mode → Option CBlock → Bool
+is_deferred Passthrough (Some c) = true
+is_deferred mode place = false
+
 -- A read counts as a hit where it takes its extents from the cache: so none does in passthrough.
 abbrev pub read_count : Option CBlock → Want
 read_count None = Cell (Count ReadMiss)

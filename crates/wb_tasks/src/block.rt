@@ -26,7 +26,7 @@ ghost use Rattle.wb_tasks.specs.Phases.{job_on_block, has_order, written_mode, l
 
 use crate::acquire::{self, Seen};
 use crate::cut::split;
-use crate::route::{device_at, place_read, route, written};
+use crate::route::{device_at, is_deferred, is_due, place_read, route, written};
 use crate::step::{Answer, DeskStep, DeviceStep, Got, Migration, Want};
 use crate::task::Steps;
 use std::marker::Model;
@@ -380,9 +380,11 @@ fn written_by(work: Work, mode: Mode, place: Option<CBlock>) -> (Option<CBlock>,
 fn writing(mode: Mode, place: Option<CBlock>, dirty: bool) -> Phase
     ensures { (part : BlockRange) → part.mode ≡ mode → left_in Work.Write part result part.extents ≡ after_seeing (Writing part) (Seen.Holds place dirty) }
 {
-    match (mode, place) {
-        (Mode::Writeback, Some(c)) if !dirty => Phase::Dirties(c),
-        (Mode::Passthrough, Some(_)) => Phase::Releases(false, Answer::Refused(Refusal::Defer)),
+    if is_deferred(mode, place) {
+        return Phase::Releases(false, Answer::Refused(Refusal::Defer));
+    }
+    match place {
+        Some(c) if is_due(mode, dirty) => Phase::Dirties(c),
         _ => Phase::Writes(place),
     }
 }

@@ -8,7 +8,7 @@ mod acquire;
 mod block;
 mod cut;
 mod law;
-mod route;
+pub mod route;
 mod stage;
 mod step;
 mod task;
