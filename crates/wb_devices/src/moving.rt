@@ -67,8 +67,7 @@ pub fn sync<D: Disk>(disk: &mut D) -> Got
 fn can_move<D: Disk>(disk: &D, extent: Extent, room: usize) -> bool
     ensures { IsTrue result ↔ CanMove (D.size disk.now) room extent }
 {
-    let sectors = disk.sectors();
-    extent.count <= room as u64 && extent.count <= sectors && extent.first <= sectors - extent.count
+    extent.count <= room as u64 && extent.is_within(disk.sectors())
 }
 
 /// Reads an extent that the disk has, and for which there is room.

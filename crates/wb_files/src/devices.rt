@@ -1,11 +1,10 @@
 //! The devices of a target, as files.
 
-ghost use Rattle.std.specs.Prelude.{◌≡◌, ◌<◌, ◌*◌, ◌^◌, ℕ, IfOk, IfErr};
-ghost use Rattle.wb_types.specs.Limits.{HasRoom, IsWithinLimits};
+ghost use Rattle.std.specs.Prelude.{◌≡◌, IfOk};
 ghost use Rattle.wb_types.specs.Versions.{version_asked};
 
 use crate::patience::Patience;
-use crate::sizes::{find_size_fault, number_asked};
+use crate::sizes::find_size_fault;
 use crate::unopened::{Trouble, Unopened};
 use crate::watched::{Watch, Watched, WatchedDisk};
 use std::fs::{File, OpenOptions, TryLockError};
@@ -13,7 +12,7 @@ use std::io;
 use std::rt::Files;
 use wb_disk::{Disk, FileDisk};
 use wb_table::{Table, find_table_fault, read_table};
-use wb_types::{Dev, Geometry, Refusal};
+use wb_types::{Dev, Geometry};
 
 /// The three devices of a target.
 #[derive(Drop)]
@@ -74,7 +73,7 @@ pub fn open_table<'a, 'w, R: Files<File = File>, P: Patience, N: Watch>(
         disks.cache.sectors(),
         disks.origin.sectors(),
     );
-    match measure(table.block, metadata, cache, origin, table.metadata2) {
+    match Geometry::of_devices(table.block, metadata, cache, origin, table.metadata2) {
         Ok(geometry) => Ok((table, disks, geometry)),
         Err(_) => Err(Unopened::Size(find_size_fault(
             table.block,
@@ -170,35 +169,4 @@ fn lock<P: Patience>(file: &File, patience: &mut P) -> Result<(), Trouble> {
         }
     }
     Err(Trouble::Locked)
-}
-
-/// The geometry of a target over devices of these sizes in sectors, with metadata of version 2 or of the first; `Geometry` where
-/// they lie outside the limits, give that version too little room, or the cache or the origin is not of whole blocks.
-pub fn measure(
-    block: u64,
-    metadata: u64,
-    cache: u64,
-    origin: u64,
-    metadata2: bool,
-) -> Result<Geometry, Refusal>
-    requires { 0 < block }
-    ensures block { IfOk result (λ geometry. geometry.block ≡ block) }
-    ensures metadata { IfOk result (λ geometry. geometry.meta_sectors ≡ metadata) }
-    ensures cache { IfOk result (λ geometry. geometry.cache_blocks * block ≡ cache) }
-    ensures origin { IfOk result (λ geometry. geometry.origin_blocks * block ≡ origin) }
-    ensures version { IfOk result (λ geometry. geometry.version ≡ version_asked metadata2) }
-    ensures refused { IfErr result (λ refusal. refusal ≡ Refusal.Geometry) }
-    ensures outside { IfErr result (λ _. (cache_blocks origin_blocks : ℕ) → cache_blocks * block ≡ cache
-        → origin_blocks * block ≡ origin → IsWithinLimits block cache_blocks origin_blocks metadata → ¬ HasRoom (version_asked metadata2) cache_blocks metadata) }
-{
-    if cache % block != 0 || origin % block != 0 {
-        return Err(Refusal::Geometry);
-    }
-    Geometry::with_version(
-        block,
-        cache / block,
-        origin / block,
-        metadata,
-        number_asked(metadata2),
-    )
 }

@@ -14,7 +14,7 @@ mod watched;
 
 pub use alarm::Alarm;
 pub use awaited::Awaited;
-pub use devices::{Disks, measure, open_table};
+pub use devices::{Disks, open_table};
 pub use patience::{Hurry, Patience, Patient};
 pub use records::{DeviceCounts, OwnRecord, SharedRecord, SyncCounts};
 pub use sizes::{SizeFault, find_size_fault};

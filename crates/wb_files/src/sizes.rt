@@ -1,11 +1,10 @@
 //! Which size of a target is outside its limits.
 
-ghost use Rattle.std.specs.Prelude.{◌≡◌, ◌<◌};
-ghost use Rattle.wb_types.specs.Versions.{version_asked, version_number};
+ghost use Rattle.std.specs.Prelude.{◌<◌};
 
 use std::fmt;
 use std::fmt::{Display, Formatter};
-use wb_types::{Dev, Geometry};
+use wb_types::{Dev, Geometry, Version};
 
 /// The most sectors of a metadata device.
 const MOST_METADATA: u64 = 4_294_967_295;
@@ -70,18 +69,11 @@ pub fn find_size_fault(
 
 /// The least sectors of metadata of this version for so many cache blocks.
 fn least_metadata(block: u64, cache_blocks: u64, metadata2: bool) -> u64 {
-    let version = number_asked(metadata2);
+    let version = Version::asked(metadata2).number();
     match Geometry::with_version(block, cache_blocks, 1, MOST_METADATA, version) {
         Ok(geometry) => 2 + u64::from(geometry.node_count()) + u64::from(geometry.most_nodes(true)),
         Err(_) => 4 + u64::from(metadata2),
     }
-}
-
-/// The number of the version that is asked for.
-pub(crate) fn number_asked(metadata2: bool) -> u32
-    ensures { result ≡ version_number (version_asked metadata2) }
-{
-    if metadata2 { 2 } else { 1 }
 }
 
 impl Display for SizeFault {

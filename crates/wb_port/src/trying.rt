@@ -83,14 +83,17 @@ impl<D: Disk> Port<D> {
         ensures refused { IfErr result (λ refusal. IsTryRefused self.now.geometry (length self.now.accesses.items) sectors.first sectors.count refusal) }
     {
         let Extent { first, count } = sectors;
-        let all = self.geometry.origin_sectors();
-        if count == 0 || first >= all || count > all - first {
+        if !sectors.is_some_within(self.geometry.origin_sectors()) {
             return Err(Refusal::Range);
         }
         let size = u64::from(self.geometry.block);
         // Both by one division.
         let (block, inside) = (first / size, first % size);
-        if inside + count > size {
+        let in_block = Extent {
+            first: inside,
+            count,
+        };
+        if !in_block.is_within(size) {
             return Err(Refusal::Crosses);
         }
         if self.accesses.len() >= UNSETTLED {

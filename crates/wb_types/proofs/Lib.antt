@@ -1,3 +1,4 @@
+pub mod Blocks
 pub mod Cutting
 pub mod Counting
 pub mod Levels

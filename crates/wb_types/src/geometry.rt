@@ -4,7 +4,7 @@ ghost use Rattle.std.specs.Bool.{OnTrue, OnFalse};
 ghost use Rattle.std.specs.Prelude.{◌≡◌, ◌≤◌, ◌+◌, ◌*◌, ◌^◌, ℕ, IfOk, IfErr};
 ghost use Rattle.wb_types.specs.declared.version.Version.TheVariants.{One};
 ghost use Rattle.wb_types.specs.Limits.{IsWithinLimits, HasRoom, IsDepth, depth_of, dirty_depth_of, dirty_node_count, dirty_nodes, most_nodes, node_count, nodes_up_to};
-ghost use Rattle.wb_types.specs.Versions.{version_number};
+ghost use Rattle.wb_types.specs.Versions.{version_asked, version_number};
 
 use crate::{Refusal, Version};
 
@@ -97,6 +97,38 @@ impl Geometry {
             meta_sectors,
             version,
         })
+    }
+
+    /// The geometry of a cache over devices of these sizes in sectors, with metadata of version 2 or of the first; `Geometry`
+    /// exactly where they lie outside the limits, give that version too little room, or the cache or the origin is not of
+    /// whole blocks.
+    pub fn of_devices(
+        block: u64,
+        metadata: u64,
+        cache: u64,
+        origin: u64,
+        metadata2: bool,
+    ) -> Result<Geometry, Refusal>
+        ensures block { IfOk result (λ g. g.block ≡ block) }
+        ensures metadata { IfOk result (λ g. g.meta_sectors ≡ metadata) }
+        ensures cache { IfOk result (λ g. g.cache_blocks * block ≡ cache) }
+        ensures origin { IfOk result (λ g. g.origin_blocks * block ≡ origin) }
+        ensures version { IfOk result (λ g. g.version ≡ version_asked metadata2) }
+        ensures refused { IfErr result (λ r. r ≡ Refusal.Geometry) }
+        ensures outside { IfErr result (λ _. (cache_blocks origin_blocks : ℕ) → cache_blocks * block ≡ cache →
+            origin_blocks * block ≡ origin → IsWithinLimits block cache_blocks origin_blocks metadata →
+            ¬ HasRoom (version_asked metadata2) cache_blocks metadata) }
+    {
+        if block == 0 || cache % block != 0 || origin % block != 0 {
+            return Err(Refusal::Geometry);
+        }
+        Geometry::with_version(
+            block,
+            cache / block,
+            origin / block,
+            metadata,
+            Version::asked(metadata2).number(),
+        )
     }
 
     /// Whether the metadata device has room for metadata of this version.

@@ -12,7 +12,18 @@ pub enum Version {
 }
 
 impl Version {
-    ghost use Rattle.wb_types.specs.Versions.{version_number};
+    ghost use Rattle.wb_types.specs.Versions.{version_asked, version_number};
+
+    /// The version that is asked for, by whether it is the second.
+    pub fn asked(metadata2: bool) -> Version
+        ensures { result ≡ version_asked metadata2 }
+    {
+        if metadata2 {
+            Version::Two
+        } else {
+            Version::One
+        }
+    }
 
     /// Its number in a root.
     pub fn number(&self) -> u32
