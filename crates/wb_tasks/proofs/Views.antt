@@ -59,10 +59,11 @@ left_by_holding {old} {stage} {seen} t kind left word acquires is fits saw takes
     left_by_look t.work part t.phase left stage (pieces t.longest t.left) old word seen acquires is fits (saw (job_on_block t.work part) (sym (takes part)) (sym (wants part)))
     (ap (λ (w : Work). left_in w part left part.extents) does ∙ goes ∙ (λ i. after_seeing (job_on_block (sym does i) part) (sym holds i)))
 
--- a write of a mapped block that is not deferred stands where the copy is sealed dirty, or where its sectors are written
+-- a copy in the cache is sealed dirty first, where that is due
 abbrev marks_first : BlockRange → CBlock → Bool → List Want
 marks_first part c due = if due then (Cell (Seal part.block (Some c) true) ∷ []) else []
 
+-- a write of a mapped block that is not deferred stands where its copy is sealed dirty, or where its sectors are written
 writing_at : (part : BlockRange) (c : CBlock) (dirty due : Bool) → is_deferred part.mode (Some c) ≡ false → dirtying part.mode part.block (Some c) dirty ≡ marks_first part c due →
     left_in ToWrite part (if due then Dirties c else Writes (Some c)) part.extents ≡ after_seeing (Writing part) (Holds (Some c) dirty)
 writing_at part c dirty due goes marks = by_due due marks
