@@ -9,7 +9,7 @@ use crate::errno::Errno;
 use crate::export::Export;
 use crate::job::{Job, Task};
 use std::alloc::Global;
-use wb_types::{Content, SECTOR_BYTES, Sector};
+use wb_types::{Content, Extent, SECTOR_BYTES, Sector};
 
 /// How many sectors of zeros are written by one call: 1 MiB.
 const ZEROS_AT_ONCE: u64 = 2048;
@@ -43,7 +43,7 @@ fn fits(size: u64, task: &Task) -> bool
         Task::Zeroes(Sector(first), count, _) => (*first, *count),
         Task::Flush | Task::Refuse(_) => return true,
     };
-    first <= size && count <= size - first
+    Extent { first, count }.is_within(size)
 }
 
 fn perform_task<E: Export>(

@@ -10,7 +10,7 @@ use std::sync::Wait;
 use std::thread;
 use wb_disk::Disk;
 use wb_policy::Policy;
-use wb_types::{Content, Refusal, Sector};
+use wb_types::{Content, Extent, Refusal, Sector};
 
 /// Why a request ended early, and how many of its blocks were finished.
 #[derive(Clone, Copy, Debug, PartialEq, Eq)]
@@ -92,8 +92,8 @@ impl<'t, D: Disk + Drop, P: Policy> Client<'t, D, P> {
         ensures refused { IfErr result (λ stopped. (stopped.done ≡ 0) × (stopped.refusal ≡ Refusal.Range) × IsOutside self.now.port.geometry at.0 count) }
     {
         let Sector(first) = at;
-        let all = self.port.geometry.origin_sectors();
-        if count == 0 || first >= all || count > all - first {
+        let asked = Extent { first, count };
+        if !asked.is_some_within(self.port.geometry.origin_sectors()) {
             return Err(Stopped {
                 done: 0,
                 refusal: Refusal::Range,

@@ -75,17 +75,12 @@ fn measure<D: Disk>(devices: &Devices<D>, block: u64, metadata2: bool) -> Result
     ensures refused { IfErr result (λ refusal. refusal ≡ Refusal.Geometry) }
     ensures no_sizes { IfErr result (λ _. AreNoSizes D.size devices.now block metadata2) }
 {
-    let (cache, origin) = (devices.cache.sectors(), devices.origin.sectors());
-    if block == 0 || cache % block != 0 || origin % block != 0 {
-        return Err(Refusal::Geometry);
-    }
-    Geometry::with_version(
-        block,
-        cache / block,
-        origin / block,
+    let (metadata, cache, origin) = (
         devices.metadata.sectors(),
-        if metadata2 { 2 } else { 1 },
-    )
+        devices.cache.sectors(),
+        devices.origin.sectors(),
+    );
+    Geometry::of_devices(block, metadata, cache, origin, metadata2)
 }
 
 /// What lies under the lock of a target over what was read, by the root that is to be written.
