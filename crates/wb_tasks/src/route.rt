@@ -1,4 +1,4 @@
-//! Where an extent of a block stands, and where it is read and written in each mode: the one place where steps go by the mode.
+//! Where an extent of a block stands, and where it is read and written in each mode: who walks a table asks here what its mode does.
 
 ghost use Rattle.std.specs.Prelude.{◌≡◌, ◌<◌, Some, true, if◌then◌else◌, [], ◌∷◌};
 ghost use Rattle.wb_words.specs.declared.step.CellStep.TheVariants.{Seal};
