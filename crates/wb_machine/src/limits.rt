@@ -22,13 +22,12 @@ pub(crate) fn geometry_asked(geometry: &Geometry, second: bool) -> Option<Geomet
     ensures asked { IfSome result (λ asked. IsGeometryAsked geometry.now second asked) }
     ensures room { is_some result ≡ has_room_for second geometry.now }
 {
-    let version = if second { Version::Two } else { Version::One };
     match Geometry::with_version(
         u64::from(geometry.block),
         u64::from(geometry.cache_blocks),
         u64::from(geometry.origin_blocks),
         u64::from(geometry.meta_sectors),
-        version.number(),
+        Version::asked(second).number(),
     ) {
         Ok(asked) => Some(asked),
         Err(_) => None,

@@ -244,8 +244,7 @@ fn room_on(disk: &mut MemDisk, extent: Extent) -> Result<(), Refusal>
     ensures contents { disk.new.contents ≡ disk.old.contents }
     ensures refusal { IfErr result (λ refusal. refusal ≡ Memory) }
 {
-    let sectors = disk.sectors();
-    if extent.count > sectors || extent.first > sectors - extent.count {
+    if !extent.is_within(disk.sectors()) {
         return Err(Refusal::Memory);
     }
     wb_disk::make_room(disk, extent.first, extent.count)

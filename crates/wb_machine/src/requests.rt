@@ -44,15 +44,12 @@ pub(crate) fn refusal_of(geometry: &Geometry, job: &Job) -> Option<Refusal>
 fn extent_refusal(geometry: &Geometry, extent: Extent) -> Option<Refusal>
     ensures { result ≡ extent_refusal (shape_of geometry.now ACTORS) extent }
 {
-    let first = extent.first;
-    let Some(end) = first.checked_add(extent.count) else {
-        return Some(Refusal::Range);
-    };
-    if extent.count == 0 || end > geometry.origin_sectors() {
+    if !extent.is_some_within(geometry.origin_sectors()) {
         return Some(Refusal::Range);
     }
+    let Extent { first, count } = extent;
     let block = u64::from(geometry.block);
-    if first / block == (end - 1) / block {
+    if first / block == (first + count - 1) / block {
         None
     } else {
         Some(Refusal::Crosses)

@@ -7,7 +7,7 @@ use wb_disk::{Base, CrashChoice};
 use wb_lines::{ACTORS, Line, Setup, Task};
 use wb_promise::{Event, Job, What};
 use wb_tasks::{Answer, DeviceStep, Migration, Want};
-use wb_types::{CBlock, Extent, Geometry, Mode, OBlock, Refusal, SECTOR_BYTES, Sector};
+use wb_types::{CBlock, Extent, Geometry, Mode, OBlock, Refusal, SECTOR_BYTES, Sector, Version};
 use wb_world::World;
 
 /// A world that is played, and what its actors were told.
@@ -28,7 +28,7 @@ impl Player {
             setup.cache_blocks,
             setup.origin_blocks,
             setup.metadata_sectors,
-            if setup.metadata2 { 2 } else { 1 },
+            Version::asked(setup.metadata2).number(),
         )?;
         let actors = actors_of(alloc, ACTORS)?;
         let world = World::new(alloc, geometry)?;
@@ -207,7 +207,8 @@ impl Player {
     fn view(&mut self, at: Sector, count: u64, text: &mut String) -> Result<(), Refusal> {
         let Sector(first) = at;
         let all = self.geometry.origin_sectors();
-        if self.world.opened().is_none() || first >= all || count > all - first {
+        let asked = Extent { first, count };
+        if self.world.opened().is_none() || first >= all || !asked.is_within(all) {
             return tell_skipped(text);
         }
         for sector in first..first + count {

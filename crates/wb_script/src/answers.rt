@@ -27,7 +27,7 @@ use std::sync::Wait;
 use wb_opened::Served;
 use wb_policy::Order;
 use wb_table::read_message;
-use wb_types::{CBlock, Geometry, OBlock, Refusal, Sector};
+use wb_types::{CBlock, Extent, Geometry, OBlock, Refusal, Sector};
 
 /// Does what a client is asked, and adds what is answered to the text. After a refusal the text may have what was read so far;
 /// finished blocks of a write stay.
@@ -287,8 +287,8 @@ fn end_of(geometry: &Geometry, at: Sector, count: u64) -> Result<u64, Refusal>
     ensures outside { OnErr result (¬ IsInside at.0 count (geometry.now.block * geometry.now.origin_blocks)) }
 {
     let Sector(first) = at;
-    let sectors = geometry.origin_sectors();
-    if count == 0 || first >= sectors || count > sectors - first {
+    let asked = Extent { first, count };
+    if !asked.is_some_within(geometry.origin_sectors()) {
         return Err(Refusal::Range);
     }
     Ok(first + count)
@@ -304,7 +304,11 @@ fn in_one_block(geometry: &Geometry, at: Sector, count: u64) -> Result<(), Refus
     end_of(geometry, at, count)?;
     let Sector(first) = at;
     let size = u64::from(geometry.block);
-    if first % size + count > size {
+    let in_block = Extent {
+        first: first % size,
+        count,
+    };
+    if !in_block.is_within(size) {
         return Err(Refusal::Crosses);
     }
     Ok(())

@@ -3,9 +3,8 @@ use Rattle.std.proofs.Common.{◌≡◌, ◌∙◌, ◌*◌, ℕ, Bool, sym, sub
 use Rattle.wb_types.specs.Limits.{IsWithinLimits, HasRoom}
 use Rattle.wb_types.specs.Versions.{version_asked}
 use Rattle.wb_types.specs.declared.version.Version.{Version}
-use Rattle.wb_types.specs.declared.geometry.Geometry.{Geometry}
 use Rattle.wb_devices.specs.declared.devices.Devices.{Devices}
-use Rattle.wb_target.specs.NotOpened.{IsOfSizes, AreNoSizes}
+use Rattle.wb_target.specs.NotOpened.{AreNoSizes}
 
 -- no geometry has these sizes, where no numbers of blocks are within the limits and have room
 pub outside : {D : Type 0} (size : D → ℕ) (devices : Devices D) (block : ℕ) (metadata2 : Bool) (metadata cache origin : ℕ) → metadata ≡ size devices.metadata → cache ≡ size devices.cache → origin ≡ size devices.origin

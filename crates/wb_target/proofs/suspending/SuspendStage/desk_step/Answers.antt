@@ -1,4 +1,4 @@
-use Rattle.std.proofs.Common.{List, Bool, inl, inr, refl, subst}
+use Rattle.std.proofs.Common.{List, Bool, refl, subst}
 use Rattle.wb_stage.specs.Stages.{DidBeginWith}
 use Rattle.wb_target.proofs.Suspends.{begun_works, ended_works}
 use Rattle.wb_target.proofs.suspending.SuspendStage.desk_step.Goals as goal
