@@ -109,11 +109,11 @@ impl Geometry {
         origin: u64,
         metadata2: bool,
     ) -> Result<Geometry, Refusal>
+        ensures version { IfOk result (λ g. g.version ≡ version_asked metadata2) }
         ensures block { IfOk result (λ g. g.block ≡ block) }
         ensures metadata { IfOk result (λ g. g.meta_sectors ≡ metadata) }
         ensures cache { IfOk result (λ g. g.cache_blocks * block ≡ cache) }
         ensures origin { IfOk result (λ g. g.origin_blocks * block ≡ origin) }
-        ensures version { IfOk result (λ g. g.version ≡ version_asked metadata2) }
         ensures refused { IfErr result (λ r. r ≡ Refusal.Geometry) }
         ensures outside { IfErr result (λ _. (cache_blocks origin_blocks : ℕ) → cache_blocks * block ≡ cache →
             origin_blocks * block ≡ origin → IsWithinLimits block cache_blocks origin_blocks metadata →

@@ -14,17 +14,6 @@ pub enum Version {
 impl Version {
     ghost use Rattle.wb_types.specs.Versions.{version_asked, version_number};
 
-    /// The version that is asked for, by whether it is the second.
-    pub fn asked(metadata2: bool) -> Version
-        ensures { result ≡ version_asked metadata2 }
-    {
-        if metadata2 {
-            Version::Two
-        } else {
-            Version::One
-        }
-    }
-
     /// Its number in a root.
     pub fn number(&self) -> u32
         ensures { result ≡ version_number self.now }
@@ -44,6 +33,17 @@ impl Version {
             1 => Some(Version::One),
             2 => Some(Version::Two),
             _ => None,
+        }
+    }
+
+    /// The version that is asked for, by whether it is the second.
+    pub fn asked(metadata2: bool) -> Version
+        ensures { result ≡ version_asked metadata2 }
+    {
+        if metadata2 {
+            Version::Two
+        } else {
+            Version::One
         }
     }
 }
