@@ -369,13 +369,10 @@ impl<P: Policy> Desk<P> {
         ensures other { IfNone result ((c : CBlock) → ¬ MayReserve self.now c order) }
         ensures desk { DeskInvariant P.knows self.now }
     {
-        let is_allowed = match self.mode {
-            Mode::Passthrough => false,
-            Mode::Writeback | Mode::Writethrough => true,
-        };
+        let passes_by = matches!(self.mode, Mode::Passthrough);
         let c = self.cache_block(order)?;
         let sectors = self.sectors(order);
-        if !is_allowed {
+        if passes_by {
             return None;
         }
         if !self.orders.may_give(c, order, sectors, self.threshold) {

@@ -19,8 +19,7 @@ pub fn may_invalidate(ranges: &[CBlockRange], cache_blocks: u32, mode: Mode) -> 
     }
     match mode {
         Mode::Passthrough => Ok(()),
-        Mode::Writeback => Err(Refusal::WrongMode),
-        Mode::Writethrough => Err(Refusal::WrongMode),
+        _ => Err(Refusal::WrongMode),
     }
 }
 

@@ -1,8 +1,8 @@
 -- What TinyLfu orders keeps the law.
-use Rattle.std.proofs.Common.{◌≡◌, ◌≢◌, ℕ, Bool, true, false, cond, not, ◌&&◌, nat_eq, Option, Some, None, IfSome, refl}
+use Rattle.std.proofs.Common.{◌≡◌, ◌≢◌, ℕ, Bool, true, false, cond, not, ◌&&◌, nat_eq, Option, Some, None, IfSome, refl, sym, ap, ◌∙◌}
 use Rattle.std.specs.Prelude.{nat_le}
 use Rattle.wb_types.specs.declared.mode.Mode.{Mode}
-use Rattle.wb_types.specs.declared.mode.Mode.TheVariants.{Writeback, Writethrough, Passthrough}
+use Rattle.wb_types.specs.declared.mode.Mode.TheVariants.{Passthrough}
 use Rattle.wb_types.specs.declared.number.CBlock.{CBlock}
 use Rattle.wb_policy.specs.declared.order.Order.{Order}
 use Rattle.wb_policy.specs.declared.order.Order.TheVariants.{Clean}
@@ -20,9 +20,7 @@ not_so true h = cc
 not_so false h = refl
 
 pub not_passthrough : (mode : Mode) → not (is_passthrough mode) ≡ true → mode ≢ Passthrough
-not_passthrough Writeback h e = cc
-not_passthrough Writethrough h e = cc
-not_passthrough Passthrough h e = cc
+not_passthrough mode h e = let bad : false ≡ true = sym (ap (λ (m : Mode). not (is_passthrough m)) e) ∙ h in cc
 
 if_true : (m : Holdings) (a : Settled) (b : Bool) (o : Order) → (b ≡ true → IsLawful a.mode m a.least_free a.busy.now o) → IfSome (cond b (Some o) None) (IsLawful a.mode m a.least_free a.busy.now)
 if_true m a true o h = h refl

@@ -32,10 +32,7 @@ impl Cleaner {
     fn choose(&self, tick: &Tick<'_>) -> Option<(CBlock, OBlock)>
         ensures { result ≡ chosen self.now tick.now }
     {
-        let passes_by = match tick.mode {
-            Mode::Passthrough => true,
-            Mode::Writeback | Mode::Writethrough => false,
-        };
+        let passes_by = matches!(tick.mode, Mode::Passthrough);
         if passes_by || u64::from(self.block_sectors) > tick.room {
             return None;
         }

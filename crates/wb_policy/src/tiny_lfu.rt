@@ -71,10 +71,7 @@ impl TinyLfu {
     fn may_come_in(&self, access: &Settled<'_>) -> bool
         ensures { result ≡ may_come_in self.now access.now }
     {
-        let passes_by = match access.mode {
-            Mode::Passthrough => true,
-            Mode::Writeback | Mode::Writethrough => false,
-        };
+        let passes_by = matches!(access.mode, Mode::Passthrough);
         !passes_by
             && !is_busy(access.busy, access.block)
             && self.promote_min <= self.sketch.estimate(access.block)
@@ -102,10 +99,7 @@ impl TinyLfu {
     fn clean(&self, tick: &Tick<'_>, given: u32) -> Option<Order>
         ensures { result ≡ cleaned self.now tick.now given }
     {
-        let passes_by = match tick.mode {
-            Mode::Passthrough => true,
-            Mode::Writeback | Mode::Writethrough => false,
-        };
+        let passes_by = matches!(tick.mode, Mode::Passthrough);
         if passes_by || given != 0 {
             return None;
         }
