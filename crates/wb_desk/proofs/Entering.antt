@@ -1,5 +1,5 @@
 -- What holds of every desk holds after an entry came.
-use Rattle.std.proofs.Common.{◌≡◌, ◌≢◌, ◌<◌, ◌+◌, ◌%◌, ◌^◌, inl, inr, ℕ, suc, Bool, true, false, cond, is_some, List, Option, Some, None, length, get_or, set, slice_get, refl, sym, ap, subst, ◌∙◌, arith, get_or-set_same, get_or-set_other}
+use Rattle.std.proofs.Common.{◌≡◌, ◌≢◌, ◌<◌, ◌+◌, ◌%◌, ◌^◌, inl, inr, ℕ, suc, Bool, true, false, cond, is_some, List, [], ◌∷◌, Option, Some, None, IfSome, length, get_or, set, slice_get, refl, sym, ap, subst, ◌∙◌, arith, get_or-set_same, get_or-set_other}
 use Rattle.std.specs.List.{count_by}
 use Rattle.std.specs.Option.{option_map}
 use Rattle.std.proofs.Math.Nat.{add-mod-mod, suc-mod}
@@ -26,8 +26,8 @@ use Rattle.wb_space.specs.Places.{HaveLeft, PlacesInUse, noted_known}
 use Rattle.wb_space.proofs.Changing.{more_left}
 use Rattle.wb_space.specs.Blocks.{state}
 use Rattle.wb_orders.specs.declared.live_order.LiveOrder.{LiveOrder}
-use Rattle.wb_orders.specs.Named.{IsNamed}
-use Rattle.wb_orders.specs.Orders.{AreOrders, order_at}
+use Rattle.wb_orders.specs.Named.{IsNamed, first_of, second_of}
+use Rattle.wb_orders.specs.Orders.{AreOrders, next_of, order_at}
 use Rattle.wb_orders.proofs.Kept.{within_of}
 use Rattle.wb_desk.specs.InUse.{PlacesInvariant}
 use Rattle.wb_desk.specs.Desks.{DeskState, DeskInvariant, IsRight, NamesWhatIs, Names, holdings, is_mapped, mapped_now}
@@ -243,6 +243,21 @@ module _ {P : Type 0} (knows : P → Holdings → Type 0) where
   -- the block that an order names is one of the origin's
   pub named_inside : (d : DeskState P) (c b : ℕ) (o : LiveOrder) → DeskInvariant knows d → AreOrders d.orders → order_at d.orders.slots c ≡ Some o → IsNamed o.order b → b < d.geometry.origin_blocks
   named_inside d c b o i orders there named = omega (arith, busy_inside d.orders.busy b (orders.marks c b o there named), i.busy)
+
+  -- and so those of the one that waits longest
+  abbrev pub AreInside : DeskState P → Order → Type 0
+  AreInside d order = ((first_of order).0 < d.geometry.origin_blocks) × ((second_of order).0 < d.geometry.origin_blocks)
+
+  pub next_inside : (d : DeskState P) → DeskInvariant knows d → AreOrders d.orders → IfSome (option_map (λ o. o.order) (next_of d.orders.slots d.orders.waiting)) (AreInside d)
+  next_inside d i orders = by_queue d.orders.waiting
+    where
+      at : (c : ℕ) (o : Option LiveOrder) → order_at d.orders.slots c ≡ o → IfSome (option_map (λ o. o.order) o) (AreInside d)
+      at c None is = tt
+      at c (Some live) is = (named_inside d c (first_of live.order).0 live i orders is (inl refl), named_inside d c (second_of live.order).0 live i orders is (inr refl))
+
+      by_queue : (waiting : List CBlock) → IfSome (option_map (λ o. o.order) (next_of d.orders.slots waiting)) (AreInside d)
+      by_queue [] = tt
+      by_queue (c ∷ cs) = at c.0 (order_at d.orders.slots c.0) refl
 
   pub count_after : (d : DeskState P) (b : OBlock) (c : CBlock) (tree : Mapping) → DeskInvariant knows d → MayMap d b c → IsChangedAt d.tree tree c.0 (Some (entry_of b))
       → count_by is_some tree.entries ≡ mapped_now d + 1

@@ -8,6 +8,7 @@ ghost use Rattle.wb_space.specs.Blocks.{shown_holding as holding_of, state, rele
 ghost use Rattle.wb_policy.specs.Law.{origins, IsMappedAt, IsUnmapped};
 ghost use Rattle.wb_tree.specs.Mapping.{entry_at};
 ghost use Rattle.wb_meta.specs.Reads.{FitsDevice};
+ghost use Rattle.wb_orders.specs.Named.{first_of, second_of};
 ghost use Rattle.wb_orders.specs.Orders.{next_of, cost_of, AreOrders};
 ghost use Rattle.wb_desk.specs.Desks.{DeskInvariant, MayReserve, IsLive, IsGivenLawfully, IsFreeFor, Takes, holdings, mapped_now, sectors_asked};
 ghost use Rattle.wb_desk.specs.Opening.{opened, threshold_of, last_value as value_of, IsSet, IsBad};
@@ -268,9 +269,10 @@ impl<P: Policy> Desk<P> {
         self.threshold.saturating_sub(self.orders.cost())
     }
 
-    /// Takes the order that waits longest, if any.
+    /// Takes the order that waits longest, if any: one of blocks of the origin.
     pub fn next_order(&mut self) -> Option<Order>
         ensures order { result ≡ option_map (λ o. o.order) (next_of self.old.orders.slots self.old.orders.waiting) }
+        ensures there { IfSome result (λ order. ((first_of order).0 < self.old.geometry.origin_blocks) × ((second_of order).0 < self.old.geometry.origin_blocks)) }
         ensures state { self.new ≡ next_order_taken self.old }
     {
         self.orders.take()

@@ -149,6 +149,7 @@ impl LiveOrders {
     pub fn take(&mut self) -> Option<Order>
         ensures order { result ≡ option_map (λ o. o.order) (next_of self.old.slots self.old.waiting) }
         ensures state { self.new ≡ next_taken self.old }
+        ensures orders { AreOrders self.old }
     {
         let CBlock(at) = self.waiting.pop_front()?;
         let slot = at as usize;

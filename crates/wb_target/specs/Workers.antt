@@ -3,7 +3,7 @@ use Rattle.std.specs.Prelude.{◌≡◌, ◌≢◌, ◌≤◌, ◌<◌, ◌⊎�
 use Rattle.wb_types.specs.declared.geometry.Geometry.{Geometry}
 use Rattle.wb_types.specs.declared.mode.Dev.{Dev}
 use Rattle.wb_types.specs.declared.refusal.Refusal.{Refusal}
-use Rattle.wb_types.specs.declared.refusal.Refusal.TheVariants.{Io, Failed, Busy, Memory, Range}
+use Rattle.wb_types.specs.declared.refusal.Refusal.TheVariants.{Io, Failed, Busy, Memory}
 use Rattle.wb_policy.specs.declared.order.Order.{Order as CacheOrder}
 use Rattle.wb_tasks.specs.Tables.{TaskJob, Flushing}
 use Rattle.wb_tasks.specs.declared.step.Answer.{Answer}
@@ -13,7 +13,7 @@ use Rattle.wb_target.specs.declared.gate.Point.TheVariants.{Order, Idle}
 use Rattle.wb_port.specs.declared.moving.TheConstants.{LONGEST}
 use Rattle.wb_target.specs.Tries.{Tried, EndedAfter}
 use Rattle.wb_target.specs.Works.{WorkState}
-use Rattle.wb_target.specs.Carried.{looked_at_fail, HasBegun, WasDone, WereDone, flush_of, jobs_of, BlocksAreThere}
+use Rattle.wb_target.specs.Carried.{looked_at_fail, HasBegun, WasDone, WereDone, flush_of, jobs_of}
 
 -- the gate said no before an order, or where none waited
 abbrev pub IsEndedBy : {G : Type 0} → (G → Point → Bool → Type 0) → G → Type 0
@@ -49,16 +49,16 @@ pub record HasBuffer {D : Type 0} (old new : WorkState D) : Type 0 where
   pub kept : 0 < length old.buffer → new.buffer ≡ old.buffer
   pub holds : LONGEST ≤ length new.buffer
 
--- an order cannot be begun: there is no buffer, nor memory for one, or its blocks are not there
-abbrev pub IsNotReady : {D : Type 0} → Geometry → CacheOrder → WorkState D → WorkState D → Type 0
-IsNotReady geometry order old new = ((length old.buffer ≡ 0) × (new ≡ old)) ⊎ (HasBuffer old new × ¬ BlocksAreThere geometry order)
+-- an order cannot be begun: there is no buffer, nor memory for one
+abbrev pub IsNotReady : {D : Type 0} → WorkState D → WorkState D → Type 0
+IsNotReady old new = (length old.buffer ≡ 0) × (new ≡ old)
 
 -- The order that waited longest was taken, and each job of it was done; or one was given up, and the fail word was looked at then, and clear; or it was given back
 -- as it was.
 pub data Took {D : Type 0} (runs : List CacheOrder → TaskJob → WorkState D → Answer → WorkState D → Type 0) (next : Option CacheOrder → Type 0) (geometry : Geometry) (old new : WorkState D) : Type 0 where
   Carried : (order : CacheOrder) → next (Some order) → (begun : WorkState D) → HasBuffer old begun → WereDone (runs (order ∷ [])) (jobs_of geometry order) begun new → Took runs next geometry old new
   GaveUp : (order : CacheOrder) → next (Some order) → (refusal : Refusal) → (begun mid : WorkState D) → HasBuffer old begun → GaveUpAmong (runs (order ∷ [])) (jobs_of geometry order) refusal begun mid → new ≡ looked_at_fail 0 mid → Took runs next geometry old new
-  GaveBack : (order : CacheOrder) → next (Some order) → IsNotReady geometry order old new → Took runs next geometry old new
+  GaveBack : (order : CacheOrder) → next (Some order) → IsNotReady old new → Took runs next geometry old new
 
 -- A turn begins with a look at the fail word, which is clear, and a yes of the gate before an order. Then one was taken; or none waited, and
 -- the gate said yes again.
@@ -114,11 +114,9 @@ FlushRefused runs geometry refusal old new = WasRefused (runs []) (flush_of geom
 abbrev pub TickRefused : {D : Type 0} → (List CacheOrder → TaskJob → WorkState D → Answer → WorkState D → Type 0) → Geometry → Refusal → WorkState D → WorkState D → Type 0
 TickRefused runs geometry refusal old new = FoundFailed refusal old new ⊎ ((refusal ≡ Memory) × (new ≡ looked_at_fail 0 old)) ⊎ FlushRefused runs geometry refusal (looked_at_fail 0 old) new
 
--- An order: the target had failed; or there was no buffer, and no memory for one; or the one that waited longest was taken whose blocks are not there, or of which a job
--- was given up.
+-- An order: the target had failed; or there was no buffer, and no memory for one; or the one that waited longest was taken, and a job of it was given up.
 abbrev pub OrderRefused : {D : Type 0} → (List CacheOrder → TaskJob → WorkState D → Answer → WorkState D → Type 0) → (Option CacheOrder → Type 0) → Geometry → Refusal → WorkState D → WorkState D → Type 0
 OrderRefused {D} runs next geometry refusal old new =
     FoundFailed refusal old new
     ⊎ ((refusal ≡ Memory) × (length old.buffer ≡ 0) × (new ≡ looked_at_fail 0 old))
-    ⊎ ((order : CacheOrder) × next (Some order) × (refusal ≡ Range) × (¬ BlocksAreThere geometry order) × HasBegun old new)
     ⊎ ((order : CacheOrder) × next (Some order) × ((begun : WorkState D) × HasBegun old begun × GaveUpAmong (runs (order ∷ [])) (jobs_of geometry order) refusal begun new))

@@ -1,7 +1,6 @@
 //! Orders carried out, and flushes, by a client on its own thread.
 
 ghost use Rattle.std.specs.Prelude.{◌≡◌, ◌≢◌, ◌≤◌, ◌<◌, ◌⊎◌, [], ◌∷◌, ℕ, OnOk, OnErr, IfOk, IfErr, IfSome, IfNone, Some, None, length};
-ghost use Rattle.std.specs.Bool.{OnTrue, OnFalse};
 ghost use Rattle.wb_types.specs.declared.geometry.Geometry.{Geometry as GeometryValue};
 ghost use Rattle.wb_types.specs.declared.number.CBlock.{CBlock as CBlockValue};
 ghost use Rattle.wb_types.specs.declared.number.OBlock.{OBlock as OBlockValue};
@@ -29,7 +28,7 @@ use wb_policy::{Order, Policy};
 use wb_port::{LONGEST, Port};
 use wb_stage::Share;
 use wb_tasks::{Answer, BlockTask, Migration, Task};
-use wb_types::{Geometry, OBlock, Refusal, SECTOR_BYTES};
+use wb_types::{OBlock, Refusal, SECTOR_BYTES};
 
 /// How a flush was answered done.
 #[derive(Debug, Drop)]
@@ -233,27 +232,12 @@ fn single(order: Order) -> (Migration, OBlock)
     }
 }
 
-/// Whether an order's blocks are there. All are; the lock cannot say of which cache the desk under it is.
-pub(crate) fn is_there(geometry: &Geometry, order: Order) -> bool
-    ensures there { OnTrue result (BlocksAreThere geometry.now order) }
-    ensures absent { OnFalse result (¬ BlocksAreThere geometry.now order) }
-{
-    match order {
-        Order::Promote(block, _) | Order::Demote(block) | Order::Clean(block) => {
-            block.0 < geometry.origin_blocks
-        }
-        Order::Replace(victim, block, _) => {
-            victim.0 < geometry.origin_blocks && block.0 < geometry.origin_blocks
-        }
-    }
-}
-
 impl<'t, D: Disk + Drop, P: Policy> Client<'t, D, P> {
     /// Carries out the order that waits longest, if any, and says which: its block is copied and mapped, or copied home, each
     /// task again while its block is busy.
     ///
     /// `Failed` where the target has failed; `Memory` where there is none; `Io` where a step failed; `GenerationEnd` where a
-    /// replacement's commit has no next generation; `Range` for an order of blocks that are not there, of which none is given.
+    /// replacement's commit has no next generation.
     pub fn work_one<R: Wait>(&mut self, rt: &R) -> Result<Option<Order>, Refusal>
         ensures carried { IfOk result (λ told. IfSome told (λ order. (begun : _) × HasBegun (client_state self.old.port) begun × WereDone (Runs D.tells D.size D.contents D.faults (AskedSharing P.with_entry P.without_entry) self.old.port.geometry.origin_blocks (order ∷ [])) (jobs_of self.old.port.geometry order) begun (client_state self.new.port))) }
         ensures next { IfOk result (WasNext P) }
@@ -267,12 +251,9 @@ impl<'t, D: Disk + Drop, P: Policy> Client<'t, D, P> {
         }
         let target = self.target;
         take_buffer(target.alloc, &mut self.port)?;
-        let Some(order) = target.take_order(rt) else {
+        let Some(order) = target.take_order(rt, self.port.geometry) else {
             return Ok(None);
         };
-        if !is_there(&self.port.geometry, order) {
-            return Err(Refusal::Range);
-        }
         carry_out(rt, target, &OpenGate, &mut self.port, order)?;
         Ok(Some(order))
     }

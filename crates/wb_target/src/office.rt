@@ -6,6 +6,8 @@ ghost use Rattle.wb_types.specs.declared.number.OBlock.{OBlock as OBlockValue};
 ghost use Rattle.wb_desk.specs.Desks.{holdings};
 ghost use Rattle.wb_desk.specs.Messages.{MessageIsTold, IsRefused};
 ghost use Rattle.wb_desk.specs.Settling.{IsTicked};
+ghost use Rattle.wb_target.specs.Carried.{BlocksAreThere};
+ghost use Rattle.wb_target.specs.Told.{WasNext};
 ghost use Rattle.wb_target.specs.Shown.{AreShown, SawDirty, TellsFailed, WereLooked, seals_latest_first};
 ghost use Rattle.wb_target.specs.Suspends.{block_within};
 ghost use Rattle.wb_tree.specs.Mapping.{entry_at};
@@ -15,10 +17,10 @@ ghost use Rattle.wb_policy.specs.Law.{IsMappedAt};
 
 use std::alloc::{AllocError, Global};
 use wb_desk::Desk;
-use wb_policy::Policy;
+use wb_policy::{Order, Policy};
 use wb_port::Seat;
 use wb_table::Fields;
-use wb_types::{CBlock, Key, Message, OBlock, Refusal, Version};
+use wb_types::{CBlock, Geometry, Key, Message, OBlock, Refusal, Version};
 use wb_words::{Kind, Word, is_dirty};
 
 /// The desk, the seats that no client has, and the one by which the office itself looks at the words.
@@ -46,6 +48,18 @@ impl<P: Policy> Office<P> {
         if self.seats.len() < self.seats.capacity() {
             self.seats.push_reserved(seat);
         }
+    }
+
+    /// The order that waits longest, if any. A desk of an origin of another size has none for a client of this one; the desk under a target's
+    /// lock has its clients' sizes, which the lock cannot say.
+    pub(crate) fn take_order(&mut self, sizes: Geometry) -> Option<Order>
+        ensures next { WasNext P result }
+        ensures there { IfSome result (BlocksAreThere sizes) }
+    {
+        if self.desk.geometry().origin_blocks != sizes.origin_blocks {
+            return None;
+        }
+        self.desk.next_order()
     }
 
     /// What the status line tells, as the words and the desk are now; whether the target has failed is looked at last.

@@ -6,7 +6,7 @@ ghost use Rattle.wb_table.specs.Status.{status_line};
 ghost use Rattle.wb_table.specs.declared.status.Fields.{Fields as Told};
 ghost use Rattle.wb_desk.specs.Desks.{DeskState, mapped_now};
 ghost use Rattle.wb_meta.specs.Sizes.{AreSameSizes};
-ghost use Rattle.wb_target.specs.Carried.{AreSynced};
+ghost use Rattle.wb_target.specs.Carried.{AreSynced, BlocksAreThere};
 ghost use Rattle.wb_target.specs.Clients.{HaveSizes, IsNoClientFor};
 ghost use Rattle.wb_target.specs.Suspends.{WasSuspended, SuspendRefused};
 ghost use Rattle.wb_target.specs.Told.{WereSettled, HadTick, WasNext, WasSet, WasNotSet};
@@ -208,11 +208,12 @@ impl<P: Policy> Target<P> {
         true
     }
 
-    /// The order that waits longest, if any.
-    pub(crate) fn take_order<R: Wait>(&self, rt: &R) -> Option<Order>
-        ensures { WasNext P result }
+    /// The order that waits longest, if any: one of blocks that are there in a cache of these sizes, which are the target's own.
+    pub(crate) fn take_order<R: Wait>(&self, rt: &R, sizes: Geometry) -> Option<Order>
+        ensures next { WasNext P result }
+        ensures there { IfSome result (BlocksAreThere sizes) }
     {
-        self.office.lock(rt).desk.next_order()
+        self.office.lock(rt).take_order(sizes)
     }
 
     /// A port's seat goes back to the office.

@@ -3,12 +3,12 @@
 ghost use Rattle.std.specs.Prelude.{◌≡◌, OnOk, IfOk, IfErr, None, true, false};
 ghost use Rattle.std.specs.Bool.{OnTrue, OnFalse};
 ghost use Rattle.wb_target.specs.declared.gate.Point.TheVariants.{Order as BeforeOrder};
-ghost use Rattle.wb_target.specs.Carried.{client_state, Runs, BlocksAreThere};
+ghost use Rattle.wb_target.specs.Carried.{client_state, Runs};
 ghost use Rattle.wb_target.specs.Works.{AskedSharing};
 ghost use Rattle.wb_target.specs.Told.{WasNext};
 ghost use Rattle.wb_target.specs.Workers.{IsFailure, IsNotReady, HasBuffer, EndedBy, FailedAfter, Took, StoppedAt};
 
-use crate::carrying::{carry_out, is_there, take_buffer};
+use crate::carrying::{carry_out, take_buffer};
 use crate::client::Client;
 use crate::gate::{Gate, Point};
 use crate::target::Target;
@@ -84,10 +84,10 @@ fn take_turn<R: Wait, D: Disk + Drop, P: Policy, G: Gate>(
     ensures stopped { IfErr result (λ refusal. StoppedAt (Runs D.tells D.size D.contents D.faults (AskedSharing P.with_entry P.without_entry) port.old.geometry.origin_blocks) (WasNext P) port.old.geometry (client_state port.old) (client_state port.new)) }
     ensures geometry { port.new.geometry ≡ port.old.geometry }
 {
-    let Some(order) = target.take_order(rt) else {
+    let Some(order) = target.take_order(rt, port.geometry) else {
         return Ok(false);
     };
-    if !is_ready(target.alloc, port, order) {
+    if !is_ready(target.alloc, port) {
         target.release(rt, &[order], block_of(order));
         return Ok(true);
     }
@@ -99,17 +99,13 @@ fn take_turn<R: Wait, D: Disk + Drop, P: Policy, G: Gate>(
     }
 }
 
-/// Whether an order that was taken can be begun: there is a buffer, its own or a new one, and its blocks are there.
-fn is_ready<D>(alloc: Global, port: &mut Port<D>, order: Order) -> bool
+/// Whether an order that was taken can be begun: there is a buffer, its own or a new one.
+fn is_ready<D>(alloc: Global, port: &mut Port<D>) -> bool
     ensures buffer { OnTrue result (HasBuffer (client_state port.old) (client_state port.new)) }
-    ensures there { OnTrue result (BlocksAreThere port.new.geometry order) }
-    ensures not { OnFalse result (IsNotReady port.old.geometry order (client_state port.old) (client_state port.new)) }
+    ensures not { OnFalse result (IsNotReady (client_state port.old) (client_state port.new)) }
     ensures geometry { port.new.geometry ≡ port.old.geometry }
 {
-    match take_buffer(alloc, port) {
-        Ok(()) => is_there(&port.geometry, order),
-        Err(_) => false,
-    }
+    take_buffer(alloc, port).is_ok()
 }
 
 /// A block of an order, by which it is told from others that live.
