@@ -7,7 +7,6 @@ mod difference;
 mod lanes;
 mod opening;
 mod play;
-mod policies;
 mod served;
 mod serving;
 mod unserved;

@@ -1,7 +1,8 @@
 //! Opening a target over the files of a table.
 
 ghost use Rattle.std.specs.Prelude.{◌≡◌, IfOk, IfErr};
-ghost use Rattle.wb_opened.specs.Tables.{policy_name, Lists};
+ghost use Rattle.wb_table.specs.Policies.{policy_name};
+ghost use Rattle.wb_opened.specs.Tables.{Lists};
 
 use crate::difference::find_difference;
 use crate::unserved::Unserved;

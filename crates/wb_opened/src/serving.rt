@@ -1,12 +1,11 @@
 //! Serving the target of a table.
 
 ghost use Rattle.std.specs.Prelude.{◌≡◌, ◌≢◌, IfOk, map, vec_len};
-ghost use Rattle.wb_opened.specs.Tables.{policy_name};
+ghost use Rattle.wb_table.specs.Policies.{policy_name};
 
 use crate::lanes::{Again, Hall};
 use crate::opening::{open_devices, open_named, open_target, open_unlocked};
 use crate::play::{Lanes, Play};
-use crate::policies::by_policy;
 use crate::served::{Served, Service};
 use crate::unserved::Unserved;
 use std::alloc::{AllocError, Global};
@@ -18,7 +17,7 @@ use wb_devices::Devices;
 use wb_disk::Disk;
 use wb_files::{Hurry, Patience, Unwatched, Watch, WatchedDisk};
 use wb_policy::Policy;
-use wb_table::Table;
+use wb_table::{Table, by_policy};
 use wb_target::{Client, Errand, Returned, Sent, Target};
 use wb_types::Refusal;
 

@@ -4,7 +4,7 @@ use Rattle.wb_types.specs.declared.message.Key.{Key}
 use Rattle.wb_table.specs.Numbers.{SpellsNumber}
 use Rattle.wb_table.specs.Table.{SpellsArguments, NamesKey, GivesKeys, no_keys, with_key}
 use Rattle.wb_table.specs.declared.table.Keys.{Keys}
-use Rattle.wb_table.specs.declared.table.PolicyName.{PolicyName}
+use Rattle.wb_table.specs.declared.policy.PolicyName.{PolicyName}
 
 -- a word spells one number at most
 pub same_number : (word : List ℕ) (a b : ℕ) → SpellsNumber word a → SpellsNumber word b → a ≡ b

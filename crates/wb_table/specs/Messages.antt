@@ -6,8 +6,7 @@ use Rattle.wb_types.specs.declared.message.Key.{Key}
 use Rattle.wb_types.specs.declared.message.Message.{Message}
 use Rattle.wb_types.specs.declared.message.Message.TheVariants.{Set, InvalidateCblocks}
 use Rattle.wb_table.specs.Numbers.{SpellsNumber}
-use Rattle.wb_table.specs.Table.{NamesKey}
-use Rattle.wb_table.specs.declared.table.PolicyName.TheVariants.{TinyLfu}
+use Rattle.wb_table.specs.Table.{SpellsKey}
 
 abbrev pub is_dash : ℕ → Bool
 is_dash byte = byte == 45
@@ -42,12 +41,12 @@ NameRanges [] ranges = ranges ≡ []
 NameRanges (word ∷ words) [] = ⊥
 NameRanges (word ∷ words) (range ∷ ranges) = NamesCBlocks word range × NameRanges words ranges
 
--- Words are a key and its value: one that some policy has, for which has it is not known here.
+-- Words are a key and its value; whether the target's policy has it is not known here.
 pub record IsSetting (words : List (List ℕ)) (key : Key) (value : ℕ) : Type 0 where
   pub name : List ℕ
   pub number : List ℕ
   pub spelled : words ≡ name ∷ number ∷ []
-  pub named : NamesKey TinyLfu name key
+  pub named : SpellsKey name key
   pub valued : SpellsNumber number value
 
 -- Words are a message: `migration_threshold <n>`, `promote_min <n>`, or `invalidate_cblocks [<cblock>|<begin>-<end>]*`.

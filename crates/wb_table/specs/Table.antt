@@ -1,15 +1,15 @@
 -- The grammar of a constructor line.
-use Rattle.std.specs.Prelude.{◌≡◌, ◌≤◌, ◌%◌, ◌++◌, ◌⊎◌, ℕ, Bool, true, false, List, [], ◌∷◌, Some, None, length, codes}
+use Rattle.std.specs.Prelude.{◌≡◌, ◌≤◌, ◌%◌, ◌++◌, ◌⊎◌, ℕ, Bool, true, false, List, [], ◌∷◌, Some, None, IsTrue, length, codes}
 use Rattle.wb_types.specs.declared.message.Key.{Key}
 use Rattle.wb_types.specs.declared.message.Key.TheVariants.{MigrationThreshold, PromoteMin}
 use Rattle.wb_types.specs.declared.mode.Mode.{Mode}
 use Rattle.wb_types.specs.declared.mode.Mode.TheVariants.{Writeback}
 use Rattle.wb_table.specs.Numbers.{SpellsNumber}
+use Rattle.wb_table.specs.Policies.{NamesPolicy, has_key}
 use Rattle.wb_table.specs.Status.{mode_name}
 use Rattle.wb_table.specs.declared.table.Table.{Table}
 use Rattle.wb_table.specs.declared.table.Keys.{Keys}
-use Rattle.wb_table.specs.declared.table.PolicyName.{PolicyName}
-use Rattle.wb_table.specs.declared.table.PolicyName.TheVariants.{TinyLfu, Cleaner}
+use Rattle.wb_table.specs.declared.policy.PolicyName.{PolicyName}
 
 -- A word spells the size of a block: 64 to 2,097,152 sectors, a multiple of 64.
 pub record IsBlockSize (word : List ℕ) (block : ℕ) : Type 0 where
@@ -41,16 +41,14 @@ abbrev pub SpellsFeatures : List (List ℕ) → Mode → Bool → Type 0
 SpellsFeatures [] mode metadata2 = ⊥
 SpellsFeatures (number ∷ features) mode metadata2 = SpellsNumber number (length features) × Chooses features mode metadata2
 
--- A word names a policy; `default` names TinyLFU, too.
-abbrev pub NamesPolicy : List ℕ → PolicyName → Type 0
-NamesPolicy word TinyLfu = (word ≡ codes "tinylfu") ⊎ (word ≡ codes "default")
-NamesPolicy word Cleaner = word ≡ codes "cleaner"
+-- A word names a key.
+abbrev pub SpellsKey : List ℕ → Key → Type 0
+SpellsKey word MigrationThreshold = word ≡ codes "migration_threshold"
+SpellsKey word PromoteMin = word ≡ codes "promote_min"
 
--- A word names a key that can be given under a policy: the threshold under each, the least estimate under TinyLFU alone.
+-- A word names a key that can be given under a policy.
 abbrev pub NamesKey : PolicyName → List ℕ → Key → Type 0
-NamesKey policy word MigrationThreshold = word ≡ codes "migration_threshold"
-NamesKey TinyLfu word PromoteMin = word ≡ codes "promote_min"
-NamesKey Cleaner word PromoteMin = ⊥
+NamesKey policy word key = SpellsKey word key × IsTrue (has_key policy key)
 
 -- no key is given
 abbrev pub no_keys : Keys

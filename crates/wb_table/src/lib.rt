@@ -4,6 +4,7 @@
 mod comment;
 mod message;
 mod number;
+mod policy;
 mod sectors;
 mod status;
 mod table;
@@ -13,8 +14,9 @@ mod words;
 pub use comment::is_comment;
 pub use message::read_message;
 pub use number::{read_byte, read_number};
+pub use policy::PolicyName;
 pub use sectors::{read_fill, read_sectors};
 pub use status::{Fields, status_text};
-pub use table::{Keys, PolicyName, Table, read_mode, read_table};
+pub use table::{Keys, Table, read_mode, read_table};
 pub use table_fault::{TableFault, find_table_fault};
 pub use words::SplitSpaces;

@@ -8,7 +8,7 @@ ghost use Rattle.wb_table.specs.Messages.{IsMessage, IsSetting, NameRanges, Name
 ghost use Rattle.wb_table.specs.Words.{words_of};
 
 use crate::number::read_number;
-use crate::table::{PolicyName, read_key};
+use crate::table::read_key;
 use crate::words::SplitSpaces;
 use std::alloc::Global;
 use wb_types::{CBlock, CBlockRange, CBlockRanges, Key, Message, Refusal};
@@ -40,7 +40,7 @@ fn read_setting(mut words: SplitSpaces<'_>) -> Option<(Key, u64)>
     ensures found { IfSome result (λ set. IsSetting (words_of words.entry.0.now) set.0 set.1) }
     ensures none { IfNone result ((key : KeyName) (value : ℕ) → ¬ IsSetting (words_of words.entry.0.now) key value) }
 {
-    let key = read_key(words.next()?, PolicyName::TinyLfu)?;
+    let key = read_key(words.next()?)?;
     let value = read_number(words.next()?)?;
     words.expect_end()?;
     Some((key, value))

@@ -3,14 +3,14 @@
 ghost use Rattle.std.specs.Prelude.{◌≡◌, ◌++◌, ℕ, Bool, List, IfOk, IfErr, IfSome, IfNone};
 ghost use Rattle.wb_types.specs.declared.message.Key.{Key as KeyName};
 ghost use Rattle.wb_types.specs.declared.mode.Mode.{Mode as ModeTerm};
-ghost use Rattle.wb_table.specs.Table.{IsTable, IsBlockSize, IsChosenByOne, IsChosenByTwo, SpellsFeatures, SpellsArguments, NamesPolicy, NamesKey, no_keys, with_key};
+ghost use Rattle.wb_table.specs.Table.{IsTable, IsBlockSize, IsChosenByOne, IsChosenByTwo, SpellsFeatures, SpellsArguments, SpellsKey, NamesKey, no_keys, with_key};
 ghost use Rattle.wb_table.specs.Status.{mode_name};
 ghost use Rattle.wb_table.specs.Words.{words_of};
 ghost use Rattle.wb_table.specs.declared.table.Keys.{Keys as KeysTerm};
-ghost use Rattle.wb_table.specs.declared.table.PolicyName.{PolicyName as Named};
 ghost use Rattle.wb_table.specs.declared.table.Table.{Table as TableTerm};
 
 use crate::number::read_number;
+use crate::policy::{PolicyName, read_policy};
 use crate::words::SplitSpaces;
 use wb_types::{Key, Mode, Refusal};
 
@@ -27,15 +27,6 @@ pub struct Table<'a> {
     pub metadata2: bool,
     pub policy: PolicyName,
     pub keys: Keys,
-}
-
-/// A policy that a table can name.
-#[derive(Clone, Copy, Debug, PartialEq, Eq)]
-pub enum PolicyName {
-    /// `tinylfu`, or `default`.
-    TinyLfu,
-    /// `cleaner`.
-    Cleaner,
 }
 
 /// The keys that a table gives, each with the last value that it was given.
@@ -180,19 +171,6 @@ pub fn read_mode(word: &str) -> Option<Mode>
     }
 }
 
-/// Reads the name of a policy.
-pub(crate) fn read_policy(word: &str) -> Option<PolicyName>
-    ensures found { IfSome result (NamesPolicy word.now) }
-    ensures only { IfSome result (λ policy. (named : Named) → NamesPolicy word.now named → named ≡ policy) }
-    ensures none { IfNone result ((policy : Named) → ¬ NamesPolicy word.now policy) }
-{
-    match word {
-        "tinylfu" | "default" => Some(PolicyName::TinyLfu),
-        "cleaner" => Some(PolicyName::Cleaner),
-        _ => None,
-    }
-}
-
 /// Reads the number of a policy's arguments, and these up to the end: which keys they give.
 fn read_arguments(mut words: SplitSpaces<'_>, policy: PolicyName) -> Option<Keys>
     ensures found { IfSome result (SpellsArguments policy (words_of words.entry.0.now)) }
@@ -201,7 +179,7 @@ fn read_arguments(mut words: SplitSpaces<'_>, policy: PolicyName) -> Option<Keys
     let mut left = read_number(words.next()?)?;
     let mut keys = Keys::new();
     while let Some(word) = words.next() {
-        let key = read_key(word, policy)?;
+        let key = read_key_of(word, policy)?;
         let value = read_number(words.next()?)?;
         keys = keys.with(key, value);
         left = left.checked_sub(2)?;
@@ -210,14 +188,24 @@ fn read_arguments(mut words: SplitSpaces<'_>, policy: PolicyName) -> Option<Keys
 }
 
 /// Reads the name of a key that can be given under a policy.
-pub(crate) fn read_key(word: &str, policy: PolicyName) -> Option<Key>
+pub(crate) fn read_key_of(word: &str, policy: PolicyName) -> Option<Key>
     ensures found { IfSome result (NamesKey policy word.now) }
     ensures only { IfSome result (λ key. (named : KeyName) → NamesKey policy word.now named → named ≡ key) }
     ensures none { IfNone result ((key : KeyName) → ¬ NamesKey policy word.now key) }
 {
-    match (word, policy) {
-        ("migration_threshold", _) => Some(Key::MigrationThreshold),
-        ("promote_min", PolicyName::TinyLfu) => Some(Key::PromoteMin),
+    let key = read_key(word)?;
+    if policy.has_key(key) { Some(key) } else { None }
+}
+
+/// Reads the name of a key.
+pub(crate) fn read_key(word: &str) -> Option<Key>
+    ensures found { IfSome result (SpellsKey word.now) }
+    ensures only { IfSome result (λ key. (named : KeyName) → SpellsKey word.now named → named ≡ key) }
+    ensures none { IfNone result ((key : KeyName) → ¬ SpellsKey word.now key) }
+{
+    match word {
+        "migration_threshold" => Some(Key::MigrationThreshold),
+        "promote_min" => Some(Key::PromoteMin),
         _ => None,
     }
 }

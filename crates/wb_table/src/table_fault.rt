@@ -1,10 +1,12 @@
 //! Where a text is no table, for who reads standard error.
 
 use crate::number::read_number;
-use crate::table::{PolicyName, read_block_size, read_key, read_mode, read_policy};
+use crate::policy::{PolicyName, WANTED, read_policy};
+use crate::table::{read_block_size, read_key_of, read_mode};
 use crate::words::SplitSpaces;
 use std::fmt;
 use std::fmt::{Display, Formatter};
+use wb_types::Key;
 
 /// Where a text is no table.
 #[derive(Clone, Copy)]
@@ -79,7 +81,7 @@ impl Wanted {
                 _ => None,
             },
             Wanted::Key(policy, left) => {
-                read_key(word, policy)?;
+                read_key_of(word, policy)?;
                 Some(Wanted::Value(policy, left.saturating_sub(1)))
             }
             Wanted::Value(policy, left) => {
@@ -111,12 +113,12 @@ impl Wanted {
             }
             Wanted::Mode => "the mode, 'writeback', 'writethrough' or 'passthrough'",
             Wanted::Metadata2 => "the other feature, 'metadata2'",
-            Wanted::Policy => "the policy, 'tinylfu', 'default' or 'cleaner'",
+            Wanted::Policy => WANTED,
             Wanted::ArgumentCount(_) => "the number of policy arguments, two for each key",
-            Wanted::Key(PolicyName::TinyLfu, _) => {
+            Wanted::Key(policy, _) if policy.has_key(Key::PromoteMin) => {
                 "a key, 'migration_threshold' or 'promote_min'"
             }
-            Wanted::Key(PolicyName::Cleaner, _) => "a key, 'migration_threshold'",
+            Wanted::Key(_, _) => "a key, 'migration_threshold'",
             Wanted::Value(_, _) => "the value of the key before it, a number below 2^64",
             Wanted::Nothing => "the end",
         }

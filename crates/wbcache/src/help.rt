@@ -1,9 +1,12 @@
 //! What the program says of itself.
 
+use wb_table::policies_help;
+
 pub const ABOUT: &str = "A write-back block cache over three files.";
 
 /// What a table and a script are, for both subcommands.
-pub const TEXTS: &str = "\
+pub const TEXTS: &str = concat!(
+    "\
 TABLE is one argument, words parted by spaces:
   cache <metadata> <cache> <origin> <block size> <features> <policy> <keys>
 Three files that are there, and sectors of 512 bytes in a block: 64 to 2097152,
@@ -21,14 +24,9 @@ blocks, 32 a node: 4 sectors serve 32 cache blocks.
                         a sector more. Metadata of version 1 are made of it as
                         they are opened; those that are of it are opened without
                         it, too, and stay so
-  policy  tinylfu, or default, the same: caches what is read or written again;
-          cleaner: caches nothing more, and writes back what is dirty
-  keys    how many words follow, and these: 0, or
-          2 migration_threshold N   the most sectors on the way at once (2048)
-          2 promote_min N           tinylfu: accesses, 1 to 17, that make a
-                                    block worth caching (2)
-          4 migration_threshold N promote_min N   both
-
+",
+    policies_help!(),
+    "
 A script, one answer a line, is read from standard input:
   w S N hh    fill N sectors from S on with the byte hh: prints 'ok'
   wf S N hh   the same, and then flush
@@ -60,7 +58,8 @@ are locked as long as it runs, against programs that lock them too.
 Example:
   truncate -s 2048 m; truncate -s 131072 c; truncate -s 327680 o
   wbcache format 'cache m c o 64 0 tinylfu 0'
-  echo 'w 0 1 11' | wbcache run 'cache m c o 64 0 tinylfu 0'";
+  echo 'w 0 1 11' | wbcache run 'cache m c o 64 0 tinylfu 0'"
+);
 
 /// What a replay is.
 pub const REPLAYS: &str = "\

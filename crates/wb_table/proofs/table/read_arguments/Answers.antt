@@ -3,7 +3,7 @@ use Rattle.wb_table.specs.Numbers.{SpellsNumber}
 use Rattle.wb_table.specs.Table.{SpellsArguments, GivesKeys, no_keys}
 use Rattle.wb_table.specs.Words.{words_of}
 use Rattle.wb_table.specs.declared.table.Keys.{Keys}
-use Rattle.wb_table.specs.declared.table.PolicyName.{PolicyName}
+use Rattle.wb_table.specs.declared.policy.PolicyName.{PolicyName}
 use Rattle.wb_table.proofs.Tables.{arguments_begin, arguments_are, first_names_key, second_spells_number, others_give, one_more_gives, if_none}
 use Rattle.wb_table.proofs.table.read_arguments.Goals as goal
 
