@@ -22,3 +22,4 @@ pub mod Displaces
 pub mod Invalidates
 mod Measured
 mod Seals
+mod Desking

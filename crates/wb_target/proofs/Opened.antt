@@ -35,7 +35,7 @@ use Rattle.wb_devices.specs.declared.running.RunningCommit.{RunningCommit}
 use Rattle.wb_devices.proofs.Ending.{has_ended}
 use Rattle.wb_tasks.proofs.Peeling.{peel}
 use Rattle.wb_target.specs.Making.{PolicyStarts, IsMadeOf, MakingGoesOn, WasOpened, is_due, writes_metadata}
-use Rattle.wb_target.specs.declared.office.Office.{Office}
+use Rattle.wb_target.specs.Offices.{OfficeState}
 use Rattle.wb_target.specs.declared.making.MakingStage.{MakingStage}
 
 -- an opening with these steps to come
@@ -111,12 +111,12 @@ module _ {D P : Type 0} (tells : Type 0) (size : D → ℕ) (contents : D → Li
     next : RunningCommit
     reading_is : stage.opening.reading ≡ Some (AllRead state)
     commit_is : stage.opening.commit ≡ Some next
-    office : Office P
+    office : OfficeState P
     made : IsMadeOf starts with_setting state next.image mode keys office
 
   -- the target is there
   abbrev pub IsThere : MakingStage D P → Type 0
-  IsThere m = (office : Office P) × (m.made ≡ Some (Ok office))
+  IsThere m = (office : OfficeState P) × (m.made ≡ Some (Ok office))
 
   -- an opening of the devices alone, done from here on, whose devices end so
   record Alone (s : Plan) (old : OpeningStage D) (last : MakingStage D P) : Type 0 where
@@ -186,7 +186,7 @@ module _ {D P : Type 0} (tells : Type 0) (size : D → ℕ) (contents : D → Li
   led_with step m mid state is reads geometry same on put = absurd is
 
   -- the target that was made stays that of the commit which goes on
-  made_on : (step : DeviceStep) (devices : Devices D) (commit : Option RunningCommit) (mid : MakingStage D P) (state : State Global) (next : RunningCommit) → commit ≡ Some next → (office : Office P) → IsMadeOf starts with_setting state next.image mode keys office
+  made_on : (step : DeviceStep) (devices : Devices D) (commit : Option RunningCommit) (mid : MakingStage D P) (state : State Global) (next : RunningCommit) → commit ≡ Some next → (office : OfficeState P) → IsMadeOf starts with_setting state next.image mode keys office
       → PutOn step devices commit mid → IsMadeHere (with_read mid.stage state)
   made_on step devices commit mid state next commit_is office made put =
       let later = image_stays (size devices.metadata) next step Done commit mid.stage.opening.commit commit_is put.2 in
@@ -366,7 +366,7 @@ module _ {D P : Type 0} (tells : Type 0) (size : D → ℕ) (contents : D → Li
 
   -- it has made its target
   pub has_made : (first last : MakingStage D P) (left : ℕ) (steps : List (Want × Got)) → MayGoOn (size first.stage.devices.metadata) first.stage.opening → first.stage.mode ≡ mode → first.keys.now ≡ keys → first.made ≡ None
-      → IsRunOf (table (OpeningJob left)) steps Finished → Leads Makes first steps last → (office : Office P) × (last.made ≡ Some (Ok office))
+      → IsRunOf (table (OpeningJob left)) steps Finished → Leads Makes first steps last → (office : OfficeState P) × (last.made ≡ Some (Ok office))
   has_made first last left steps may mode_is keys_are made_none r l = (done_alone first last left steps (record { may = may; mode_is = mode_is; keys_are = keys_are; made_none = ap is_none made_none }) r l).there
 
   pub was_opened : (first last : MakingStage D P) (left : ℕ) (steps : List (Want × Got)) → MayGoOn (size first.stage.devices.metadata) first.stage.opening → first.stage.mode ≡ mode → first.keys.now ≡ keys → first.made ≡ None → HasNotBegun first.stage.opening

@@ -21,7 +21,7 @@ use Rattle.wb_devices.specs.Outcomes.{IsRefused, IsRefusedFor}
 use Rattle.wb_devices.specs.declared.devices.Devices.{Devices}
 use Rattle.wb_target.specs.Making.{PolicyStarts, MakingGoesOn, WasRun}
 use Rattle.wb_target.specs.NotOpened.{IsOfSizes, IsToldOf, AreOnlySynced, WereRefused, WasReadOnly, IsNotOpened}
-use Rattle.wb_target.specs.declared.office.Office.{Office}
+use Rattle.wb_target.specs.Offices.{OfficeState}
 use Rattle.wb_target.specs.declared.making.MakingStage.{MakingStage}
 use Rattle.wb_target.proofs.Stopping.{IsNoCause, HasStopped, has_stopped}
 
@@ -82,7 +82,7 @@ module _ {D P : Type 0} (tells : Type 0) (size : D → ℕ) (contents : D → Li
         })))
   ]
 
-  pub not_opened : (answer : Answer) → IsRunOf (table (OpeningJob left)) steps answer → (answer ≡ Finished → (office : Office P) × (last.made ≡ Some (Ok office))) → (refusal : Refusal) → IsToldOf last.made answer refusal → NotOpened refusal
+  pub not_opened : (answer : Answer) → IsRunOf (table (OpeningJob left)) steps answer → (answer ≡ Finished → (office : OfficeState P) × (last.made ≡ Some (Ok office))) → (refusal : Refusal) → IsToldOf last.made answer refusal → NotOpened refusal
   not_opened Finished r made refusal told = absurd (told_none last.made refusal (made refl).0 (made refl).1 told)
   not_opened (Refuses answered) r made refusal told = by_stop answered refusal r told
       (has_stopped tells size contents faults starts with_setting keys devices first last left steps answered over keys_are made_none begins r leads)

@@ -1,6 +1,5 @@
 -- Looks at seals, one run of them behind another.
-use Rattle.std.proofs.Common.{◌≡◌, ◌<◌, ◌∙◌, ◌+◌, ◌++◌, ℕ, suc, Bool, List, [], ◌∷◌, Option, Some, refl, sym, ap, subst, arith, map, if◌then◌else◌}
-use Rattle.std.proofs.lemmas.Bool.{lt-ltb}
+use Rattle.std.proofs.Common.{◌≡◌, ◌∙◌, ◌+◌, ◌++◌, ℕ, suc, Bool, List, [], ◌∷◌, Option, Some, refl, sym, ap, subst, arith, map, if◌then◌else◌}
 use Rattle.std.proofs.lemmas.List.{append_assoc, map-append}
 use Rattle.wb_tree.specs.Mapping.{Mapping, entry_at}
 use Rattle.wb_words.specs.SharedWords.{dirty_in}
@@ -9,7 +8,7 @@ use Rattle.wb_words.specs.declared.word.Word.{Word}
 use Rattle.wb_words.specs.declared.word.Word.TheVariants.{Seal as SealWord}
 use Rattle.wb_types.specs.declared.entry.Entry.{Entry}
 use Rattle.wb_types.specs.declared.number.OBlock.{OBlock}
-use Rattle.wb_target.specs.Suspends.{block_within}
+use Rattle.wb_target.specs.Suspends.{block_of}
 use Rattle.wb_target.specs.Shown.{SawDirty, dirty_among, seals_latest_first}
 
 -- one alone
@@ -30,25 +29,19 @@ saw_more first mid last words more dirty others one two = record {
 
 -- ---- what a look at one cache block showed
 
--- by whether the block is there
-abbrev listed_if : Bool → OBlock → List OBlock
-listed_if there block = if there then (block ∷ []) else []
-
-pub at_seal : (count : ℕ) (found : Option Entry) (entry : Entry) (before after : Card) (x : ℕ) (b : Bool) → found ≡ Some entry → entry.origin.0 < count → after.saw ≡ (SealWord entry.origin, x) ∷ before.saw → dirty_in x ≡ b
-    → SawDirty before after (map SealWord (block_within count found)) (if b then 1 else 0)
-at_seal count found entry before after x b is less saw dirty =
-    subst (λ (e : Option Entry). SawDirty before after (map SealWord (block_within count e)) (if b then 1 else 0)) (sym is)
-    (subst (λ (t : Bool). SawDirty before after (map SealWord (listed_if t entry.origin)) (if b then 1 else 0)) (sym (lt-ltb entry.origin.0 count less))
-    (subst (λ (d : Bool). SawDirty before after (SealWord entry.origin ∷ []) (if d then 1 else 0)) dirty (saw_one before after (SealWord entry.origin) x saw)))
+pub at_seal : (found : Option Entry) (entry : Entry) (before after : Card) (x : ℕ) (b : Bool) → found ≡ Some entry → after.saw ≡ (SealWord entry.origin, x) ∷ before.saw → dirty_in x ≡ b
+    → SawDirty before after (map SealWord (block_of found)) (if b then 1 else 0)
+at_seal found entry before after x b is saw dirty =
+    subst (λ (e : Option Entry). SawDirty before after (map SealWord (block_of e)) (if b then 1 else 0)) (sym is)
+    (subst (λ (d : Bool). SawDirty before after (SealWord entry.origin ∷ []) (if d then 1 else 0)) dirty (saw_one before after (SealWord entry.origin) x saw))
 
 -- ---- and at the next one, behind those before it
 
-pub saw_next : (count : ℕ) (tree : Mapping) (c : ℕ) (first mid last : Card) (dirty here all : ℕ) (there : ℕ) (at : Mapping) → there ≡ count → at ≡ tree → all ≡ dirty + here
-    → SawDirty first mid (seals_latest_first count tree c) dirty → SawDirty mid last (map SealWord (block_within there (entry_at at c))) here → SawDirty first last (seals_latest_first count tree (c + 1)) all
-saw_next count tree c first mid last dirty here all there at counts trees sum one two =
+pub saw_next : (tree : Mapping) (c : ℕ) (first mid last : Card) (dirty here all : ℕ) (at : Mapping) → at ≡ tree → all ≡ dirty + here
+    → SawDirty first mid (seals_latest_first tree c) dirty → SawDirty mid last (map SealWord (block_of (entry_at at c))) here → SawDirty first last (seals_latest_first tree (c + 1)) all
+saw_next tree c first mid last dirty here all at trees sum one two =
     let next : suc c ≡ c + 1 = omega (arith) in
-    subst (λ (k : ℕ). SawDirty first last (seals_latest_first count tree k) all) next
-    (subst (λ (n : ℕ). SawDirty first last (seals_latest_first count tree (suc c)) n) (sym sum)
-    (saw_more first mid last (seals_latest_first count tree c) (map SealWord (block_within count (entry_at tree c))) dirty here one
-    (subst (λ (t : Mapping). SawDirty mid last (map SealWord (block_within count (entry_at t c))) here) trees
-    (subst (λ (n : ℕ). SawDirty mid last (map SealWord (block_within n (entry_at at c))) here) counts two))))
+    subst (λ (k : ℕ). SawDirty first last (seals_latest_first tree k) all) next
+    (subst (λ (n : ℕ). SawDirty first last (seals_latest_first tree (suc c)) n) (sym sum)
+    (saw_more first mid last (seals_latest_first tree c) (map SealWord (block_of (entry_at tree c))) dirty here one
+    (subst (λ (t : Mapping). SawDirty mid last (map SealWord (block_of (entry_at t c))) here) trees two)))

@@ -28,7 +28,7 @@ use Rattle.wb_port.specs.Requests.{ComesTo}
 use Rattle.wb_tasks.proofs.Peeling.{Peeled, peel}
 use Rattle.wb_target.specs.Making.{PolicyStarts, MakingGoesOn, IsNotMadeFor, is_due, writes_metadata}
 use Rattle.wb_target.specs.NotOpened.{AreOnlySynced}
-use Rattle.wb_target.specs.declared.office.Office.{Office}
+use Rattle.wb_target.specs.Offices.{OfficeState}
 use Rattle.wb_target.specs.declared.making.MakingStage.{MakingStage}
 use Rattle.wb_target.proofs.Opened.{to_come, to_read, ends_so, IsPut, AllPut, all_put, and_false, none_less, exact}
 
@@ -141,7 +141,7 @@ module _ {D P : Type 0} (tells : Type 0) (size : D → ℕ) (contents : D → Li
   io_of job refusal rest r = let ends : Refuses (Io Metadata) ≡ Refuses refusal = (ends_so job (Refuses (Io Metadata)) (Refuses refusal) rest r).1 in cc
 
   -- the target is there, and the rest is written
-  putting : (left : ℕ) (ws : List Want) → AllPut ws → (m : MakingStage D P) (office : Office P) → m.made ≡ Some (Ok office) → (last : MakingStage D P) (refusal : Refusal) → Comes (to_come left ws) m refusal last → Failed last refusal
+  putting : (left : ℕ) (ws : List Want) → AllPut ws → (m : MakingStage D P) (office : OfficeState P) → m.made ≡ Some (Ok office) → (last : MakingStage D P) (refusal : Refusal) → Comes (to_come left ws) m refusal last → Failed last refusal
   putting left [] all m office there last refusal run = absurd (not_finished (OpeningJob left) refusal run.0 run.1)
   putting left (Device step ∷ ws) all m office there last refusal run =
       let next = next_of (to_come left (Device step ∷ ws)) m last refusal tt run in

@@ -1,7 +1,6 @@
 -- A stage of a suspend is ready for each of its steps, and from its run to what is told of it.
-use Rattle.std.proofs.Common.{◌⊎◌, inl, inr, ◌≡◌, ◌∙◌, ◌<◌, ℕ, zero, suc, Bool, true, false, List, [], ◌∷◌, Option, Some, None, length, nat_lt, if◌then◌else◌, refl, sym, ap, subst}
+use Rattle.std.proofs.Common.{◌⊎◌, inl, inr, ◌≡◌, ◌∙◌, ◌<◌, ℕ, zero, suc, Bool, true, false, List, [], ◌∷◌, Option, Some, None, length, refl, sym, ap, subst}
 use Rattle.std.proofs.lemmas.List.Elements.{All-nil, All-cons, All-append}
-use Rattle.std.proofs.lemmas.Bool.{ltb-true}
 use Rattle.std.specs.Prelude.{All, replicate, slice_set}
 use Rattle.wb_types.specs.declared.entry.Entry.{Entry}
 use Rattle.wb_types.specs.declared.number.CBlock.{CBlock}
@@ -39,7 +38,7 @@ use Rattle.wb_tasks.specs.declared.step.Answer.{Answer}
 use Rattle.wb_tasks.specs.declared.step.Answer.TheVariants.{Done as Finished}
 use Rattle.wb_target.specs.Carried.{AreSynced}
 use Rattle.wb_target.proofs.Syncing.{suspended_synced}
-use Rattle.wb_target.specs.Suspends.{AskedWith, RanSuspend, WasSuspended, SuspendLed, SuspendStep, IsReadyToSuspend, suspending_at, block_within, mapped_blocks}
+use Rattle.wb_target.specs.Suspends.{AskedWith, RanSuspend, WasSuspended, SuspendLed, SuspendStep, IsReadyToSuspend, suspending_at, block_of, mapped_blocks}
 use Rattle.wb_target.specs.declared.suspending.SuspendStage.{SuspendStage}
 
 -- its steps on the words take and let go no block
@@ -67,20 +66,16 @@ seen_length w g bits = refl
 abbrev Below : ℕ → OBlock → Type 0
 Below count block = block.0 < count
 
-one_below : (count : ℕ) (entry : Option Entry) → All (Below count) (block_within count entry)
-one_below count None = All-nil (Below count)
-one_below count (Some entry) = by_test (nat_lt entry.origin.0 count) refl
-  where
-    by_test : (t : Bool) → nat_lt entry.origin.0 count ≡ t → All (Below count) (if t then (entry.origin ∷ []) else [])
-    by_test true is = All-cons (Below count) entry.origin [] (ltb-true entry.origin.0 count is) (All-nil (Below count))
-    by_test false is = All-nil (Below count)
+one_below : (count : ℕ) (entry : Option Entry) → ((e : Entry) → entry ≡ Some e → e.origin.0 < count) → All (Below count) (block_of entry)
+one_below count None there = All-nil (Below count)
+one_below count (Some entry) there = All-cons (Below count) entry.origin [] (there entry refl) (All-nil (Below count))
 
-all_below : (count : ℕ) (tree : Mapping) (c : ℕ) → All (Below count) (mapped_blocks count tree c)
-all_below count tree zero = All-nil (Below count)
-all_below count tree (suc c) = All-append (Below count) (mapped_blocks count tree c) (block_within count (entry_at tree c)) (all_below count tree c) (one_below count (entry_at tree c))
+all_below : (count : ℕ) (tree : Mapping) (c : ℕ) → ((k : ℕ) (e : Entry) → entry_at tree k ≡ Some e → e.origin.0 < count) → All (Below count) (mapped_blocks tree c)
+all_below count tree zero there = All-nil (Below count)
+all_below count tree (suc c) there = All-append (Below count) (mapped_blocks tree c) (block_of (entry_at tree c)) (all_below count tree c there) (one_below count (entry_at tree c) (there c))
 
-pub below : (count : ℕ) (tree : Mapping) (c : ℕ) → AreBelow count (mapped_blocks count tree c)
-below count tree c block m = subst (Below count) m.2 (all_below count tree c m.0 block m.1)
+pub below : (count : ℕ) (tree : Mapping) (c : ℕ) → ((k : ℕ) (e : Entry) → entry_at tree k ≡ Some e → e.origin.0 < count) → AreBelow count (mapped_blocks tree c)
+below count tree c there block m = subst (Below count) m.2 (all_below count tree c there m.0 block m.1)
 
 -- ---- the desk
 
@@ -108,12 +103,28 @@ module _ {D P : Type 0} (tells : Type 0) (size : D → ℕ) (contents : D → Li
   abbrev led : SuspendStage D P → Want → Got → SuspendStage D P → Type 0
   led = SuspendLed tells size contents faults hint_of with_entry without_entry
 
-  pub suspend_ready : (all : List OBlock) (most : ℕ) (s : Plan) (old : SuspendStage D P) → s ≡ table (Suspending all most) → AreBelow old.watch.now.geometry.origin_blocks all → length old.seen.items ≡ old.desk.now.geometry.cache_blocks
+  -- a run of it is by the same seat on the same desk, and keeps the sizes of both
+  pub keeps_watch : (old new : SuspendStage D P) (steps : List (Want × Got)) → Leads led old steps new → new.watch.ghost_name ≡ old.watch.ghost_name
+  keeps_watch old new steps l = kept_by led (λ x. x.watch.ghost_name) (λ x w g y h. h.same_watch) old steps new l
+
+  pub keeps_desk : (old new : SuspendStage D P) (steps : List (Want × Got)) → Leads led old steps new → new.desk.ghost_name ≡ old.desk.ghost_name
+  keeps_desk old new steps l = kept_by led (λ x. x.desk.ghost_name) (λ x w g y h. h.same_desk) old steps new l
+
+  pub keeps_devices : (old new : SuspendStage D P) (steps : List (Want × Got)) → Leads led old steps new → new.devices.ghost_name ≡ old.devices.ghost_name
+  keeps_devices old new steps l = kept_by led (λ x. x.devices.ghost_name) (λ x w g y h. h.same_devices) old steps new l
+
+  pub keeps_words : (old new : SuspendStage D P) (steps : List (Want × Got)) → Leads led old steps new → new.watch.now.geometry ≡ old.watch.now.geometry
+  keeps_words old new steps l = kept_by led (λ x. x.watch.now.geometry) (λ x w g y h. h.words) old steps new l
+
+  pub keeps_cache : (old new : SuspendStage D P) (steps : List (Want × Got)) → Leads led old steps new → new.desk.now.geometry ≡ old.desk.now.geometry
+  keeps_cache old new steps l = kept_by led (λ x. x.desk.now.geometry) (λ x w g y h. h.cache) old steps new l
+
+  pub suspend_ready : (all : List OBlock) (most : ℕ) (s : Plan) (old : SuspendStage D P) → s ≡ table (Suspending all most) → AreBelow old.watch.now.geometry.origin_blocks all → length old.seen.now ≡ old.desk.now.geometry.cache_blocks
       → (steps : List (Want × Got)) (mid : SuspendStage D P) → AreFirst s steps → Leads led old steps mid → IsReadyToSuspend mid (want (left_by s steps))
   suspend_ready all most s old begun there bits steps mid f l =
-      let words : mid.watch.now.geometry ≡ old.watch.now.geometry = kept_by led (λ x. x.watch.now.geometry) (λ x w g y h. h.words) old steps mid l in
-      let cache : mid.desk.now.geometry ≡ old.desk.now.geometry = kept_by led (λ x. x.desk.now.geometry) (λ x w g y h. h.cache) old steps mid l in
-      let many : length mid.seen.items ≡ length old.seen.items = kept_by led (λ x. length x.seen.items) (λ x w g y h. ap length h.did.1 ∙ seen_length w g x.seen.items) old steps mid l in
+      let words = keeps_words old mid steps l in
+      let cache = keeps_cache old mid steps l in
+      let many : length mid.seen.now ≡ length old.seen.now = kept_by led (λ x. length x.seen.now) (λ x w g y h. ap length h.did.1 ∙ seen_length w g x.seen.now) old steps mid l in
       let count : ℕ = old.watch.now.geometry.origin_blocks in
       let suits : Suits count (left_by s steps) mid.watch.now.pass.card =
       suits_there led (λ x. x.watch.now.pass.card) (λ x w g y h. made_by_pass x.watch.now.geometry.origin_blocks x.watch.now.pass y.watch.now.pass w g h.did.0) count s old steps mid
@@ -134,21 +145,21 @@ module _ {D P : Type 0} (tells : Type 0) (size : D → ℕ) (contents : D → Li
     plainly count l.0 steps new (ap (λ g. g.origin_blocks) l.1.words ∙ is) l.2,
   )
 
-  pub ran : (plan : Plan) (answer : Answer) (old new : SuspendStage D P) → (steps : List (Want × Got)) × IsRunOf plan steps answer × Leads led old steps new → (bits : List Bool) (devices : Devices D) (count : ℕ) → old.devices ≡ devices → old.seen.items ≡ bits → old.commit ≡ None → old.watch.now.geometry.origin_blocks ≡ count
-      → RanSuspend tells size contents faults hint_of with_entry without_entry count plan bits devices answer new.devices
+  pub ran : (plan : Plan) (answer : Answer) (old new : SuspendStage D P) → (steps : List (Want × Got)) × IsRunOf plan steps answer × Leads led old steps new → (bits : List Bool) (devices : Devices D) (count : ℕ) → old.devices.now ≡ devices → old.seen.now ≡ bits → old.commit.now ≡ None → old.watch.now.geometry.origin_blocks ≡ count
+      → RanSuspend tells size contents faults hint_of with_entry without_entry count plan bits devices answer new.devices.now
   ran plan answer old new run bits devices count over unseen unbegun words = record { first = suspending_at old; last = suspending_at new; over = over; unseen = unseen; unbegun = unbegun; steps = run.0; run = run.1; leads = plainly count old run.0 new words run.2; back_is = refl }
 
   pub was : (desk : DeskState P) (count most : ℕ) (plan : Plan) (bits : List Bool) (devices : Devices D) (answer answer' : Answer) (back : Devices D) → RanSuspend tells size contents faults hint_of with_entry without_entry count plan bits devices answer back
-      → plan ≡ table (Suspending (mapped_blocks count desk.tree desk.geometry.cache_blocks) most) → bits ≡ replicate desk.geometry.cache_blocks false → answer ≡ answer' → WasSuspended tells size contents faults hint_of with_entry without_entry devices answer' back
+      → plan ≡ table (Suspending (mapped_blocks desk.tree desk.geometry.cache_blocks) most) → bits ≡ replicate desk.geometry.cache_blocks false → answer ≡ answer' → WasSuspended tells size contents faults hint_of with_entry without_entry devices answer' back
   was desk count most plan bits devices answer answer' back ran is unseen ends = record {
     desk = desk;
     count = count;
     most = most;
-    ran = subst (λ (a : Answer). RanSuspend tells size contents faults hint_of with_entry without_entry count (table (Suspending (mapped_blocks count desk.tree desk.geometry.cache_blocks) most)) (replicate desk.geometry.cache_blocks false) devices a back) ends
-        (subst (λ (b : List Bool). RanSuspend tells size contents faults hint_of with_entry without_entry count (table (Suspending (mapped_blocks count desk.tree desk.geometry.cache_blocks) most)) b devices answer back) unseen
+    ran = subst (λ (a : Answer). RanSuspend tells size contents faults hint_of with_entry without_entry count (table (Suspending (mapped_blocks desk.tree desk.geometry.cache_blocks) most)) (replicate desk.geometry.cache_blocks false) devices a back) ends
+        (subst (λ (b : List Bool). RanSuspend tells size contents faults hint_of with_entry without_entry count (table (Suspending (mapped_blocks desk.tree desk.geometry.cache_blocks) most)) b devices answer back) unseen
         (subst (λ (p : Plan). RanSuspend tells size contents faults hint_of with_entry without_entry count p bits devices answer back) is ran));
   }
 
   pub synced_then : (devices back : Devices D) (told : tells) → WasSuspended tells size contents faults hint_of with_entry without_entry devices Finished back → AreSynced contents back
   synced_then devices back told h =
-      subst (λ (ds : Devices D). AreSynced contents ds) (sym h.ran.back_is) (suspended_synced tells size contents faults hint_of with_entry without_entry h.count told (mapped_blocks h.count h.desk.tree h.desk.geometry.cache_blocks) h.most h.ran.steps h.ran.first h.ran.last h.ran.run h.ran.leads)
+      subst (λ (ds : Devices D). AreSynced contents ds) (sym h.ran.back_is) (suspended_synced tells size contents faults hint_of with_entry without_entry h.count told (mapped_blocks h.desk.tree h.desk.geometry.cache_blocks) h.most h.ran.steps h.ran.first h.ran.last h.ran.run h.ran.leads)

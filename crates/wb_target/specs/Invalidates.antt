@@ -1,5 +1,6 @@
 -- What an invalidation does: blocks leave the cache, without a copy, as a message in passthrough asks for it.
-use Rattle.std.specs.Prelude.{◌≡◌, ◌≢◌, ◌≤◌, ◌<◌, ◌+◌, ◌-◌, ◌++◌, ◌⊎◌, ℕ, zero, suc, List, [], ◌∷◌, Option, Some, None, flat_map}
+use Rattle.std.specs.Prelude.{◌≡◌, ◌≢◌, ◌≤◌, ◌<◌, ◌+◌, ◌-◌, ◌++◌, ◌⊎◌, ℕ, zero, suc, List, [], ◌∷◌, Option, Some, None, if◌then◌else◌, nat_lt, flat_map}
+use Rattle.wb_types.specs.declared.entry.Entry.{Entry}
 use Rattle.wb_types.specs.declared.geometry.Geometry.{Geometry}
 use Rattle.wb_types.specs.declared.message.CBlockRange.{CBlockRange}
 use Rattle.wb_types.specs.declared.mode.Mode.TheVariants.{Passthrough}
@@ -21,7 +22,6 @@ use Rattle.wb_desk.specs.Desks.{DeskState}
 use Rattle.wb_desk.specs.Messages.{AreRanges}
 use Rattle.wb_port.specs.Hands.{DoneByPass, IsReadyOn, saw_fail_word}
 use Rattle.wb_port.specs.declared.hand.Hand.{Hand}
-use Rattle.wb_target.specs.Suspends.{block_within, listed}
 use Rattle.wb_target.specs.Tries.{EndedAfter}
 use Rattle.wb_target.specs.Works.{DeskTold}
 use Rattle.wb_target.specs.declared.client.Client.{Client}
@@ -58,6 +58,16 @@ pub record WasInvalidated {D : Type 0} (asked : DeskTold) (blocks block_sectors 
 abbrev pub InvalidationCame : {D : Type 0} → DeskTold → Geometry → Answer → OBlock → Hand D → Hand D → Type 0
 InvalidationCame asked geometry answer block old new =
     EndedAfter (λ s t. WasInvalidated asked geometry.origin_blocks geometry.block block s (Refuses Busy) t) (λ s t. WasInvalidated asked geometry.origin_blocks geometry.block block s answer t) old new
+
+-- the block of an entry, where it is there, of so many on the origin
+abbrev pub block_within : ℕ → Option Entry → List OBlock
+block_within count None = []
+block_within count (Some entry) = if nat_lt entry.origin.0 count then (entry.origin ∷ []) else []
+
+-- one that is there, or none
+abbrev pub listed : Option OBlock → List OBlock
+listed None = []
+listed (Some block) = block ∷ []
 
 -- some desk was asked for the block in this cache block, of so many on the origin, and told this one, or none
 abbrev pub WasFound : Type 0 → ℕ → ℕ → Option OBlock → Type 0

@@ -1,3 +1,4 @@
+pub mod Offices
 pub mod Clients
 pub mod Tries
 pub mod Works

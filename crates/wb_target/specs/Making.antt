@@ -38,7 +38,7 @@ use Rattle.wb_devices.specs.Outcomes.{IsOpen, IsOpenOver, DataIsDurable}
 use Rattle.wb_port.specs.declared.seat.Seat.{Seat}
 use Rattle.wb_target.specs.Opening.{opened_mapping, seals_stored}
 use Rattle.wb_target.specs.declared.making.MakingStage.{MakingStage}
-use Rattle.wb_target.specs.declared.office.Office.{Office}
+use Rattle.wb_target.specs.Offices.{OfficeState}
 use Rattle.wb_target.specs.declared.target.TheConstants.{CLIENTS}
 
 -- it serves the steps of an opening, and no others
@@ -52,21 +52,21 @@ PolicyStarts P = Geometry → List (Option Entry) → P → Type 0
 -- What lies under a target's lock was made of this tree, whose places are these, by a root of this generation, in this mode, with the last value of each
 -- key: its desk, whose policy began with these entries; and as many seats as there may be clients, of the same words as the one that watches, by which the blocks of these entries, and no
 -- others, were sealed.
-pub record IsMade {P : Type 0} (starts : PolicyStarts P) (with_setting : P → Key → ℕ → Option P) (geometry : Geometry) (generation : ℕ) (tree : Mapping) (used : List Place) (entries : List (Option Entry)) (mode : Mode) (keys : List (Key × ℕ)) (office : Office P) : Type 0 where
+pub record IsMade {P : Type 0} (starts : PolicyStarts P) (with_setting : P → Key → ℕ → Option P) (geometry : Geometry) (generation : ℕ) (tree : Mapping) (used : List Place) (entries : List (Option Entry)) (mode : Mode) (keys : List (Key × ℕ)) (office : OfficeState P) : Type 0 where
   pub desk_is : office.desk ≡ opened geometry generation tree used mode office.desk.policy (threshold_of (last_value MigrationThreshold keys)) (mapped_now office.desk)
   pub first : P
   pub begins : starts geometry entries first
   pub policy : IsSet with_setting first (last_value PromoteMin keys) office.desk.policy
-  pub many : length office.seats.items ≡ CLIENTS
-  pub words : All (λ (seat : Seat). seat.cells.value.table ≡ office.watch.cells.value.table) office.seats.items
+  pub many : length office.seats ≡ CLIENTS
+  pub words : All (λ (seat : Seat). seat.cells.value.table ≡ office.watch.cells.value.table) office.seats
   pub sealed : office.watch.pass.card.stored ≡ seals_stored 0 entries []
 
 -- it was made of this state, as it is opened, by the root of this image
-abbrev pub IsMadeOf : {P : Type 0} → PolicyStarts P → (P → Key → ℕ → Option P) → State Global → Image → Mode → List (Key × ℕ) → Office P → Type 0
+abbrev pub IsMadeOf : {P : Type 0} → PolicyStarts P → (P → Key → ℕ → Option P) → State Global → Image → Mode → List (Key × ℕ) → OfficeState P → Type 0
 IsMadeOf starts with_setting state image mode keys office = IsMade starts with_setting state.root.geometry image.root.generation state.tree state.used.items (opened_mapping state.root.clean (entries_of state)) mode keys office
 
 -- it was made of what was read, or was converted, by the root that comes next
-pub record IsMadeOfRead {D P : Type 0} (starts : PolicyStarts P) (with_setting : P → Key → ℕ → Option P) (making : MakingStage D P) (office : Office P) : Type 0 where
+pub record IsMadeOfRead {D P : Type 0} (starts : PolicyStarts P) (with_setting : P → Key → ℕ → Option P) (making : MakingStage D P) (office : OfficeState P) : Type 0 where
   pub state : State Global
   pub next : RunningCommit
   pub reading_is : making.stage.opening.reading ≡ Some (AllRead state)
@@ -83,8 +83,8 @@ writes_metadata want = false
 abbrev pub is_due : {M : Type 0} → Option M → Want → Bool
 is_due made want = writes_metadata want && is_none made
 
-abbrev pub MadeFirst : {D P : Type 0} → PolicyStarts P → (P → Key → ℕ → Option P) → MakingStage D P → Want → Option (Result (Office P) Refusal) → Type 0
-MadeFirst {D} {P} starts with_setting making want made = is_due making.made want ≡ true → (office : Office P) × (made ≡ Some (Ok office)) × IsMadeOfRead starts with_setting making office
+abbrev pub MadeFirst : {D P : Type 0} → PolicyStarts P → (P → Key → ℕ → Option P) → MakingStage D P → Want → Option (Result (OfficeState P) Refusal) → Type 0
+MadeFirst {D} {P} starts with_setting making want made = is_due making.made want ≡ true → (office : OfficeState P) × (made ≡ Some (Ok office)) × IsMadeOfRead starts with_setting making office
 
 -- and once alone
 abbrev pub IsMadeOnce : {M : Type 0} → Option M → Want → Option M → Type 0
@@ -147,5 +147,5 @@ pub record WasOpened {D P : Type 0} (tells : Type 0) (size : D → ℕ) (content
   pub over : tells → IsOpenOver done (contents devices.metadata) (contents back.metadata)
   pub durable : tells → DataIsDurable contents devices back
   pub clean : mode ≡ Passthrough → IsLeftClean done.state
-  pub office : Office P
+  pub office : OfficeState P
   pub made : IsMadeOf starts with_setting done.state done.next.image mode keys office

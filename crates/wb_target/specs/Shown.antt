@@ -9,8 +9,8 @@ use Rattle.wb_words.specs.declared.word.Word.{Word}
 use Rattle.wb_words.specs.declared.word.Word.TheVariants.{Seal as SealWord, Count as CountWord, Fail}
 use Rattle.wb_table.specs.declared.status.Fields.{Fields}
 use Rattle.wb_desk.specs.Desks.{DeskState, mapped_now}
-use Rattle.wb_target.specs.Suspends.{block_within}
-use Rattle.wb_target.specs.declared.office.Office.{Office}
+use Rattle.wb_target.specs.Offices.{OfficeState}
+use Rattle.wb_target.specs.Suspends.{block_of}
 
 -- What of it the desk counts and is set to, and the sizes of its cache; the policy by its name, and its setting where it has one.
 pub record AreShown {P : Type 0} (name : List ℕ) (promote_min : P → Option ℕ) (d : DeskState P) (told : Fields) : Type 0 where
@@ -32,10 +32,10 @@ abbrev pub dirty_among : List (Word × ℕ) → ℕ
 dirty_among [] = 0
 dirty_among (look ∷ looks) = (if dirty_in look.1 then 1 else 0) + dirty_among looks
 
--- the seals of the blocks, of so many on the origin, that are mapped in the first so many cache blocks, that of the last of them first
-abbrev pub seals_latest_first : ℕ → Mapping → ℕ → List Word
-seals_latest_first count tree zero = []
-seals_latest_first count tree (suc c) = map SealWord (block_within count (entry_at tree c)) ++ seals_latest_first count tree c
+-- the seals of the blocks that are mapped in the first so many cache blocks, that of the last of them first
+abbrev pub seals_latest_first : Mapping → ℕ → List Word
+seals_latest_first tree zero = []
+seals_latest_first tree (suc c) = map SealWord (block_of (entry_at tree c)) ++ seals_latest_first tree c
 
 -- Between these cards these words were looked at, and no others, the last one first, and so many seals of them were dirty.
 pub record SawDirty (before after : Card) (words : List Word) (dirty : ℕ) : Type 0 where
@@ -49,10 +49,10 @@ abbrev pub TellsFailed : ℕ → Bool → Type 0
 TellsFailed word failed = word % 2 ≡ (if failed then 1 else 0)
 
 -- What of it the words tell, each looked at once by the office's own seat: the four counts, then the seal of each mapped block, and last the fail word.
-pub record WereLooked {P : Type 0} (office : Office P) (after : Card) (told : Fields) : Type 0 where
+pub record WereLooked {P : Type 0} (office : OfficeState P) (after : Card) (told : Fields) : Type 0 where
   pub word : ℕ
   pub failed : TellsFailed word told.failed
   pub seals : List (Word × ℕ)
-  pub seals_are : map (λ look. look.0) seals ≡ seals_latest_first office.watch.geometry.origin_blocks office.desk.tree office.desk.geometry.cache_blocks
+  pub seals_are : map (λ look. look.0) seals ≡ seals_latest_first office.desk.tree office.desk.geometry.cache_blocks
   pub dirty : told.dirty ≡ dirty_among seals
   pub saw : after.saw ≡ (Fail, word) ∷ (seals ++ ((CountWord WriteMiss, told.write_misses) ∷ (CountWord WriteHit, told.write_hits) ∷ (CountWord ReadMiss, told.read_misses) ∷ (CountWord ReadHit, told.read_hits) ∷ office.watch.pass.card.saw))

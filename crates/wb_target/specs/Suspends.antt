@@ -1,5 +1,5 @@
 -- What a suspend of a target does.
-use Rattle.std.specs.Prelude.{◌≡◌, ◌⊎◌, ◌++◌, ℕ, zero, suc, Bool, false, List, [], ◌∷◌, Option, Some, None, if◌then◌else◌, nat_lt, length, replicate}
+use Rattle.std.specs.Prelude.{◌≡◌, ◌⊎◌, ◌++◌, ℕ, zero, suc, Bool, false, List, [], ◌∷◌, Option, Some, None, length, replicate}
 use Rattle.wb_types.specs.declared.entry.Entry.{Entry}
 use Rattle.wb_types.specs.declared.number.OBlock.{OBlock}
 use Rattle.wb_types.specs.declared.refusal.Refusal.{Refusal}
@@ -26,20 +26,15 @@ use Rattle.wb_port.specs.Hands.{DoneByPass}
 use Rattle.wb_target.specs.Works.{DeskTold, WorksOn}
 use Rattle.wb_target.specs.declared.suspending.SuspendStage.{SuspendStage}
 
--- the block of an entry, where it is there, of so many on the origin
-abbrev pub block_within : ℕ → Option Entry → List OBlock
-block_within count None = []
-block_within count (Some entry) = if nat_lt entry.origin.0 count then (entry.origin ∷ []) else []
-
--- one that is there, or none
-abbrev pub listed : Option OBlock → List OBlock
-listed None = []
-listed (Some block) = block ∷ []
+-- the block of an entry, if there is one
+abbrev pub block_of : Option Entry → List OBlock
+block_of None = []
+block_of (Some entry) = entry.origin ∷ []
 
 -- the blocks in the first so many cache blocks, in that order
-abbrev pub mapped_blocks : ℕ → Mapping → ℕ → List OBlock
-mapped_blocks count tree zero = []
-mapped_blocks count tree (suc c) = mapped_blocks count tree c ++ block_within count (entry_at tree c)
+abbrev pub mapped_blocks : Mapping → ℕ → List OBlock
+mapped_blocks tree zero = []
+mapped_blocks tree (suc c) = mapped_blocks tree c ++ block_of (entry_at tree c)
 
 -- Some desk was asked for this step, for who has taken no order, and answered so; where a commit begins, its image is clean, with the dirty
 -- bits that were seen.
@@ -65,16 +60,19 @@ SuspendStep tells size contents faults hint_of with_entry without_entry count s 
 
 -- where a stage stands
 abbrev pub suspending_at : {D P : Type 0} → SuspendStage D P → SuspendState D
-suspending_at stage = record { pass = stage.watch.now.pass; devices = stage.devices; buffer = stage.buffer.items; commit = stage.commit; seen = stage.seen.items }
+suspending_at stage = record { pass = stage.watch.now.pass; devices = stage.devices.now; buffer = stage.buffer.now; commit = stage.commit.now; seen = stage.seen.now }
 
 -- It serves the steps of a suspend, and no others, with a bit for each cache block.
 abbrev pub IsReadyToSuspend : {D P : Type 0} → SuspendStage D P → Want → Type 0
 IsReadyToSuspend stage want =
     MayTake stage.watch.now.geometry.origin_blocks stage.watch.now.pass.card want
     × ((all : List OBlock) × (most : ℕ) × IsSuspends all most want)
-    × (length stage.seen.items ≡ stage.desk.now.geometry.cache_blocks)
+    × (length stage.seen.now ≡ stage.desk.now.geometry.cache_blocks)
 
 pub record SuspendLed {D P : Type 0} (tells : Type 0) (size : D → ℕ) (contents : D → List History) (faults : D → ℕ) (hint_of : P → ℕ → ℕ) (with_entry : P → ℕ → ℕ → P) (without_entry : P → ℕ → P) (old : SuspendStage D P) (want : Want) (got : Got) (new : SuspendStage D P) : Type 0 where
+  pub same_watch : new.watch.ghost_name ≡ old.watch.ghost_name
+  pub same_desk : new.desk.ghost_name ≡ old.desk.ghost_name
+  pub same_devices : new.devices.ghost_name ≡ old.devices.ghost_name
   pub words : new.watch.now.geometry ≡ old.watch.now.geometry
   pub cache : new.desk.now.geometry ≡ old.desk.now.geometry
   pub did : SuspendStep tells size contents faults hint_of with_entry without_entry old.watch.now.geometry.origin_blocks (suspending_at old) want got (suspending_at new)
@@ -92,12 +90,12 @@ pub record RanSuspend {D P : Type 0} (tells : Type 0) (size : D → ℕ) (conten
   pub leads : Leads (SuspendStep tells size contents faults hint_of with_entry without_entry count) first steps last
   pub back_is : back ≡ last.devices
 
--- It was a suspend, which looks at the seals of the blocks that some desk maps, and has seen no bit before.
+-- It was a suspend, which looks at the seals of all blocks that some desk maps, and has seen no bit before.
 pub record WasSuspended {D P : Type 0} (tells : Type 0) (size : D → ℕ) (contents : D → List History) (faults : D → ℕ) (hint_of : P → ℕ → ℕ) (with_entry : P → ℕ → ℕ → P) (without_entry : P → ℕ → P) (devices : Devices D) (answer : Answer) (back : Devices D) : Type 0 where
   pub desk : DeskState P
   pub count : ℕ
   pub most : ℕ
-  pub ran : RanSuspend tells size contents faults hint_of with_entry without_entry count (table (Suspending (mapped_blocks count desk.tree desk.geometry.cache_blocks) most)) (replicate desk.geometry.cache_blocks false) devices answer back
+  pub ran : RanSuspend tells size contents faults hint_of with_entry without_entry count (table (Suspending (mapped_blocks desk.tree desk.geometry.cache_blocks) most)) (replicate desk.geometry.cache_blocks false) devices answer back
 
 -- A client was out, where that is so, or there was no memory to begin, and nothing was done; or a suspend was run that was refused so.
 abbrev pub SuspendRefused : {D P : Type 0} → Type 0 → Type 0 → (D → ℕ) → (D → List History) → (D → ℕ) → (P → ℕ → ℕ) → (P → ℕ → ℕ → P) → (P → ℕ → P) → Devices D → Refusal → Devices D → Type 0

@@ -6,12 +6,11 @@ ghost use Rattle.wb_words.specs.declared.card.Hold.TheVariants.{Nothing};
 ghost use Rattle.wb_tasks.specs.Ready.{StaysReady};
 ghost use Rattle.wb_port.specs.Hands.{saw_fail_word};
 ghost use Rattle.wb_port.specs.Requests.{ComesTo};
-ghost use Rattle.wb_target.specs.Invalidates.{invalidation, IsReadyToInvalidate, InvalidateLed, WasInvalidated, InvalidationCame, WasFound, IsEmptied, range_places, HaveLeftCache, HaveFailed, LeavesTheRest, WereInvalidated, InvalidateRefused};
+ghost use Rattle.wb_target.specs.Invalidates.{block_within, invalidation, listed, IsReadyToInvalidate, InvalidateLed, WasInvalidated, InvalidationCame, WasFound, IsEmptied, range_places, HaveLeftCache, HaveFailed, LeavesTheRest, WereInvalidated, InvalidateRefused};
 ghost use Rattle.wb_target.specs.Works.{WasAsked};
 
 use crate::client::Client;
 use crate::office::Office;
-use crate::suspending::block_within;
 use crate::target::Target;
 use std::sync::Wait;
 use std::thread;
@@ -21,7 +20,7 @@ use wb_disk::Disk;
 use wb_policy::Policy;
 use wb_port::{Hand, Port};
 use wb_tasks::{Answer, BlockTask, DeskStep, Got, Stage, Want, drive};
-use wb_types::{CBlock, CBlockRange, OBlock, Refusal};
+use wb_types::{CBlock, CBlockRange, Entry, OBlock, Refusal};
 
 /// The stage of an invalidation, which touches no device.
 #[derive(Drop)]
@@ -207,4 +206,13 @@ impl<'t, D: Disk + Drop, P: Policy> Client<'t, D, P> {
         }
         unreachable!()
     }
+}
+
+/// The block of an entry, where it is there.
+fn block_within(count: u32, entry: Option<Entry>) -> Option<OBlock>
+    ensures listed { listed result ≡ block_within count entry }
+    ensures there { IfSome result (λ block. block.0 < count) }
+{
+    let block = entry?.origin;
+    if block.0 < count { Some(block) } else { None }
 }

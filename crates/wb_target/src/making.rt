@@ -8,7 +8,7 @@ ghost use Rattle.wb_tasks.specs.declared.step.Want.{Want as WantTerm};
 ghost use Rattle.wb_tasks.specs.declared.step.Got.{Got as GotTerm};
 ghost use Rattle.wb_devices.specs.Openings.{MayGoOn, HasNotBegun};
 ghost use Rattle.wb_target.specs.Making.{IsReadyToMake, IsMadeOfRead, MakingGoesOn, WasNotMade, is_due, writes_metadata};
-ghost use Rattle.wb_target.specs.declared.office.Office.{Office as OfficeTerm};
+ghost use Rattle.wb_target.specs.Offices.{OfficeState as OfficeTerm};
 ghost use Rattle.wb_target.specs.NotOpened.{IsToldOf};
 ghost use Rattle.std.specs.Bool.{OnTrue, OnFalse};
 

@@ -1,33 +1,53 @@
 //! What lies under a target's lock.
 
-ghost use Rattle.std.specs.Prelude.{◌≡◌, ◌<◌, ◌+◌, ◌++◌, ◌∷◌, [], ℕ, List, IfOk, IfErr, IfSome, OnOk, OnErr, if◌then◌else◌, is_some, length, map, vec_capacity};
+ghost use Rattle.std.specs.Prelude.{◌≡◌, ◌<◌, ◌+◌, ◌++◌, ◌∷◌, [], ℕ, List, IfOk, IfErr, IfSome, OnOk, OnErr, if◌then◌else◌, is_some, length, map};
 ghost use Rattle.wb_types.specs.declared.number.CBlock.{CBlock as CBlockValue};
 ghost use Rattle.wb_types.specs.declared.number.OBlock.{OBlock as OBlockValue};
-ghost use Rattle.wb_desk.specs.Desks.{holdings};
+ghost use Rattle.wb_desk.specs.Desks.{DeskInvariant, holdings};
 ghost use Rattle.wb_desk.specs.Messages.{MessageIsTold, IsRefused};
-ghost use Rattle.wb_desk.specs.Settling.{IsTicked};
+ghost use Rattle.wb_desk.specs.Settling.{AreSettled, IsTicked};
+ghost use Rattle.wb_tasks.specs.Plan.{Fits};
+ghost use Rattle.wb_tasks.specs.declared.step.Want.TheVariants.{Desk as AskDesk};
+ghost use Rattle.wb_stage.specs.Asking.{DidUnmap, DidRelease};
+ghost use Rattle.wb_stage.specs.Sharing.{MayAskNow, share_then};
+ghost use Rattle.wb_stage.specs.Stages.{DidAsk, IsServed};
 ghost use Rattle.wb_target.specs.Carried.{BlocksAreThere};
 ghost use Rattle.wb_target.specs.Told.{WasNext};
 ghost use Rattle.wb_target.specs.Shown.{AreShown, SawDirty, TellsFailed, WereLooked, seals_latest_first};
-ghost use Rattle.wb_target.specs.Suspends.{block_within};
+ghost use Rattle.wb_target.specs.Suspends.{block_of};
 ghost use Rattle.wb_tree.specs.Mapping.{entry_at};
 ghost use Rattle.wb_words.specs.Cards.{looked};
 ghost use Rattle.wb_desk.proofs.Seen.{AreSeen};
 ghost use Rattle.wb_policy.specs.Law.{IsMappedAt};
 
 use std::alloc::{AllocError, Global};
+use std::marker::Model;
 use wb_desk::Desk;
+use wb_devices::RunningCommit;
 use wb_policy::{Order, Policy};
 use wb_port::Seat;
+use wb_stage::{Share, asking};
 use wb_table::Fields;
+use wb_tasks::{DeskStep, Got};
 use wb_types::{CBlock, Geometry, Key, Message, OBlock, Refusal, Version};
 use wb_words::{Kind, Word, is_dirty};
 
-/// The desk, the seats that no client has, and the one by which the office itself looks at the words.
+/// The desk, the seats that no client has, and the one by which the office itself looks at the words, which are of the desk's origin.
 pub(crate) struct Office<P: Policy> {
     pub(crate) desk: Desk<P>,
     pub(crate) seats: Vec<Seat>,
     pub(crate) watch: Seat,
+}
+
+impl<P: Policy> Model for Office<P> {
+    ghost use Rattle.std.specs.Prelude.{vec_capacity};
+    ghost use Rattle.wb_target.specs.Offices.{AreOfOneOrigin, OfficeState};
+
+    ghost Value = { OfficeState P };
+
+    ghost view = { λ o. record { desk = o.desk; seats = o.seats.items; room = vec_capacity o.seats; watch = o.watch } };
+
+    ghost invariant = { λ o. AreOfOneOrigin o.desk o.watch };
 }
 
 impl<P: Policy> Drop for Office<P> {
@@ -42,12 +62,56 @@ impl<P: Policy> Drop for Office<P> {
 impl<P: Policy> Office<P> {
     /// A seat that a client gave back. There is room for each that was given out.
     pub(crate) fn give_back(&mut self, seat: Seat)
-        ensures back { length self.old.seats.items < vec_capacity self.old.seats → self.new.seats.items ≡ self.old.seats.items ++ seat ∷ [] }
+        ensures back { length self.old.seats < self.old.room → self.new.seats ≡ self.old.seats ++ seat ∷ [] }
         ensures desk { self.new.desk ≡ self.old.desk }
     {
         if self.seats.len() < self.seats.capacity() {
             self.seats.push_reserved(seat);
         }
+    }
+
+    /// A place for one client more, if there is any.
+    pub(crate) fn take_seat(&mut self) -> Option<Seat> {
+        self.seats.pop()
+    }
+
+    /// Performs a step on the desk, as `asking::ask`.
+    pub(crate) fn ask(
+        &mut self,
+        alloc: Global,
+        commit: &mut Option<RunningCommit>,
+        share: &mut Share,
+        held: &[Order],
+        step: DeskStep,
+    ) -> Got
+        requires served { IsServed (AskDesk step) }
+        requires goes_on { MayAskNow self.old.desk share.old step }
+        ensures kind { Fits (AskDesk step) result }
+        ensures did { DidAsk P.with_entry P.without_entry held.now step share.old result self.old.desk commit.old self.new.desk commit.new }
+        ensures share { share.new ≡ share_then self.old.desk share.old step result }
+    {
+        asking::ask(alloc, &mut self.desk, commit, share, held, step)
+    }
+
+    /// Takes a block out of the mapping, where it has an entry.
+    pub(crate) fn unmap(&mut self, block: OBlock)
+        ensures { DidUnmap P.without_entry block self.old.desk self.new.desk }
+    {
+        asking::unmap(&mut self.desk, block);
+    }
+
+    /// Gives up the order of a block, which is one of these.
+    pub(crate) fn release(&mut self, held: &[Order], block: OBlock)
+        ensures { DidRelease held.now block self.old.desk self.new.desk }
+    {
+        asking::release(&mut self.desk, held, block);
+    }
+
+    /// Tells the policy of accesses, in order: its orders wait to be taken.
+    pub(crate) fn settle(&mut self, accesses: &[OBlock])
+        ensures { AreSettled P.ordered P.settled self.old.desk accesses.now self.new.desk }
+    {
+        self.desk.settle(accesses);
     }
 
     /// The order that waits longest, if any. A desk of an origin of another size has none for a client of this one; the desk under a target's
@@ -123,7 +187,6 @@ impl<P: Policy> Office<P> {
     /// How many parts of requests counted as this kind.
     fn count(&mut self, kind: Kind) -> u64
         ensures desk { self.new.desk ≡ self.old.desk }
-        ensures words { self.new.watch.geometry ≡ self.old.watch.geometry }
         ensures card { self.new.watch.pass.card ≡ looked (Word.Count kind) result self.old.watch.pass.card }
     {
         self.watch.look(Word::Count(kind))
@@ -131,7 +194,7 @@ impl<P: Policy> Office<P> {
 
     /// How many mapped blocks have a dirty seal.
     pub(crate) fn count_dirty(&mut self) -> u32
-        ensures { SawDirty self.old.watch.pass.card self.new.watch.pass.card (seals_latest_first self.old.watch.geometry.origin_blocks self.old.desk.tree self.old.desk.geometry.cache_blocks) result }
+        ensures { SawDirty self.old.watch.pass.card self.new.watch.pass.card (seals_latest_first self.old.desk.tree self.old.desk.geometry.cache_blocks) result }
     {
         let mut dirty = 0;
         for c in 0..self.desk.geometry().cache_blocks {
@@ -160,20 +223,23 @@ impl<P: Policy> Office<P> {
     fn dirty_at(&mut self, place: CBlock) -> Option<OBlock>
         requires { place.0 < self.old.desk.geometry.cache_blocks }
         ensures desk { self.new.desk ≡ self.old.desk }
-        ensures words { self.new.watch.geometry ≡ self.old.watch.geometry }
-        ensures looked { SawDirty self.old.watch.pass.card self.new.watch.pass.card (map Word.Seal (block_within self.old.watch.geometry.origin_blocks (entry_at self.old.desk.tree place.0))) (if is_some result then 1 else 0) }
+        ensures looked { SawDirty self.old.watch.pass.card self.new.watch.pass.card (map Word.Seal (block_of (entry_at self.old.desk.tree place.0))) (if is_some result then 1 else 0) }
         ensures mapped { IfSome result (λ block. IsMappedAt (holdings self.old.desk) block.0 place.0) }
     {
+        see_desk(&self.desk);
         let entry = self.desk.entry(place)?;
         let block = entry.origin;
-        // All are there; the lock cannot say that its desk and its words are of one cache.
-        if block.0 >= self.watch.geometry.origin_blocks {
-            return None;
-        }
         if is_dirty(self.watch.look(Word::Seal(block))) {
             Some(block)
         } else {
             None
         }
     }
+}
+
+/// What holds of every desk. It does nothing.
+pub(crate) fn see_desk<P: Policy>(desk: &Desk<P>)
+    ensures { DeskInvariant P.knows desk.now }
+{
+    let _ = desk.counts();
 }

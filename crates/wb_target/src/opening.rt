@@ -144,6 +144,7 @@ fn sealed_seat(
     entries: &[Option<Entry>],
 ) -> Result<Seat, Refusal>
     requires { IsMapping geometry.cache_blocks geometry.origin_blocks entries.now }
+    ensures geometry { IfOk result (λ seat. seat.geometry ≡ geometry) }
     ensures sealed { IfOk result (λ seat. seat.pass.card.stored ≡ seals_stored 0 entries.now []) }
     ensures refused { IfErr result (λ refusal. refusal ≡ Refusal.Memory) }
 {
@@ -184,6 +185,7 @@ fn seal_all(cells: &Cells, pass: &mut Pass, geometry: &Geometry, entries: &[Opti
 fn seats_of(alloc: Global, seat: Seat) -> Result<(Vec<Seat>, Seat), Refusal>
     ensures many { IfOk result (λ seats. length seats.0.items ≡ MostClients) }
     ensures words { IfOk result (λ seats. All (λ (one : SeatTerm). one.cells.value.table ≡ seat.cells.value.table) seats.0.items × (seats.1.cells.value.table ≡ seat.cells.value.table)) }
+    ensures geometry { IfOk result (λ seats. seats.1.geometry ≡ seat.geometry) }
     ensures card { IfOk result (λ seats. seats.1.pass.card ≡ seat.pass.card) }
     ensures refused { IfErr result (λ refusal. refusal ≡ Refusal.Memory) }
 {

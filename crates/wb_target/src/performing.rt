@@ -43,7 +43,7 @@ impl<P: Policy> Target<P> {
         let mut office = self.office.lock(rt);
         for _ in rt.forever() {
             if !has_to_wait(&office.desk, share, step) {
-                let got = asking::ask(self.alloc, &mut office.desk, commit, share, held, step);
+                let got = office.ask(self.alloc, commit, share, held, step);
                 if matches!(step, DeskStep::EndCommit | DeskStep::BreakCommit) {
                     self.bell.notify_all();
                 }
@@ -58,14 +58,14 @@ impl<P: Policy> Target<P> {
     pub(crate) fn unmap<R: Wait>(&self, rt: &R, block: OBlock)
         ensures { WasAsked P.with_entry P.without_entry [] (Unmapping block) Got.Done None None }
     {
-        asking::unmap(&mut self.office.lock(rt).desk, block);
+        self.office.lock(rt).unmap(block);
     }
 
     /// Gives up the order of a block, which is one of these.
     pub(crate) fn release<R: Wait>(&self, rt: &R, held: &[Order], block: OBlock)
         ensures { WasGivenUp P held.now block }
     {
-        asking::release(&mut self.office.lock(rt).desk, held, block);
+        self.office.lock(rt).release(held, block);
     }
 }
 

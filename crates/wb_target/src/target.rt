@@ -11,7 +11,7 @@ ghost use Rattle.wb_target.specs.Clients.{HaveSizes, IsNoClientFor};
 ghost use Rattle.wb_target.specs.Suspends.{WasSuspended, SuspendRefused};
 ghost use Rattle.wb_target.specs.Told.{WereSettled, HadTick, WasNext, WasSet, WasNotSet};
 ghost use Rattle.wb_target.specs.Shown.{AreShown, SawDirty, WereLooked, seals_latest_first};
-ghost use Rattle.wb_target.specs.declared.office.Office.{Office as OfficeValue};
+ghost use Rattle.wb_target.specs.Offices.{OfficeState as OfficeValue};
 ghost use Rattle.wb_target.specs.declared.target.TheConstants.{CLIENTS as MostClients};
 
 use crate::client::Client;
@@ -108,7 +108,7 @@ impl<P: Policy> Target<P> {
     fn take_seat<R: Wait>(&self, rt: &R) -> Option<Seat>
         ensures { IfSome result (λ seat. AreSameSizes seat.geometry self.now.sizes) }
     {
-        let seat = self.office.lock(rt).seats.pop()?;
+        let seat = self.office.lock(rt).take_seat()?;
         // All have these sizes; the lock cannot say of which cache the office under it is.
         if are_same_sizes(seat.geometry, self.sizes) {
             Some(seat)
@@ -141,8 +141,8 @@ impl<P: Policy> Target<P> {
     ) -> (Devices<D>, Result<(), Refusal>)
         ensures suspended { OnOk result.1 (WasSuspended D.tells D.size D.contents D.faults P.hint_of P.with_entry P.without_entry devices Answer.Done result.0) }
         ensures synced { OnOk result.1 (D.tells → AreSynced D.contents result.0) }
-        ensures clients { (office : OfficeValue P) × (length office.seats.items < MostClients → (result.1 ≡ Err Refusal.Busy) × (result.0 ≡ devices)) }
-        ensures refused { (office : OfficeValue P) × IfErr result.1 (λ refusal. SuspendRefused (length office.seats.items < MostClients) D.tells D.size D.contents D.faults P.hint_of P.with_entry P.without_entry devices refusal result.0) }
+        ensures clients { (office : OfficeValue P) × (length office.seats < MostClients → (result.1 ≡ Err Refusal.Busy) × (result.0 ≡ devices)) }
+        ensures refused { (office : OfficeValue P) × IfErr result.1 (λ refusal. SuspendRefused (length office.seats < MostClients) D.tells D.size D.contents D.faults P.hint_of P.with_entry P.without_entry devices refusal result.0) }
     {
         self.office.lock(rt).suspend(self.alloc, devices)
     }
@@ -156,7 +156,7 @@ impl<P: Policy> Target<P> {
 
     /// How many mapped blocks are dirty now: a look at each cache block, under the lock.
     pub fn dirty<R: Wait>(&self, rt: &R) -> u32
-        ensures counted { (office : OfficeValue P) × ((after : OfficeValue P) × SawDirty office.watch.pass.card after.watch.pass.card (seals_latest_first office.watch.geometry.origin_blocks office.desk.tree office.desk.geometry.cache_blocks) result) }
+        ensures counted { (office : OfficeValue P) × ((after : OfficeValue P) × SawDirty office.watch.pass.card after.watch.pass.card (seals_latest_first office.desk.tree office.desk.geometry.cache_blocks) result) }
     {
         self.office.lock(rt).count_dirty()
     }
@@ -194,7 +194,7 @@ impl<P: Policy> Target<P> {
     pub(crate) fn settle<R: Wait>(&self, rt: &R, accesses: &[OBlock])
         ensures { WereSettled P.ordered P.settled accesses.now }
     {
-        self.office.lock(rt).desk.settle(accesses);
+        self.office.lock(rt).settle(accesses);
     }
 
     /// Tells the policy of accesses, in order, if nobody else has the lock now: whether it did.
@@ -204,7 +204,7 @@ impl<P: Policy> Target<P> {
         let Some(mut office) = self.office.try_lock() else {
             return false;
         };
-        office.desk.settle(accesses);
+        office.settle(accesses);
         true
     }
 

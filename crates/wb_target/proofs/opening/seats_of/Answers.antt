@@ -14,5 +14,6 @@ loop-preserved c =
       words = All-same (λ (seat : Seat). seat.cells.value.table ≡ c.args.seat.cells.value.table) c.push_reserved.new.self.items (before ++ one ∷ []) more
           (All-push (λ (seat : Seat). seat.cells.value.table ≡ c.args.seat.cells.value.table) before one c.loop.invariant.words (c.in_ok-rest.ensures.words.1 ∙ c.loop.invariant.left));
       left = c.in_ok-rest.ensures.words.0 ∙ c.loop.invariant.left;
+      geometry = c.in_ok-rest.ensures.geometry.0 ∙ c.loop.invariant.geometry;
       card = c.in_ok-rest.ensures.cards.0 ∙ c.loop.invariant.card;
     }

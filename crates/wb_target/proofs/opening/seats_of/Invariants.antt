@@ -8,5 +8,6 @@ invariant-loop l = record {
   many : length l.seats.items ≡ l.counter;
   words : All (λ (one : Seat). one.cells.value.table ≡ l.fn.seat.cells.value.table) l.seats.items;
   left : l.left.cells.value.table ≡ l.fn.seat.cells.value.table;
+  geometry : l.left.geometry ≡ l.fn.seat.geometry;
   card : l.left.pass.card ≡ l.fn.seat.pass.card;
 }

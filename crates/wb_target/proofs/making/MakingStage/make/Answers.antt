@@ -2,7 +2,7 @@ use Rattle.std.proofs.Common.{◌≡◌, ◌∙◌, sym, refl, ap, subst, Some, 
 use Rattle.std.specs.Prelude.{Ok}
 use Rattle.wb_tree.specs.declared.image.Image.{Image}
 use Rattle.wb_target.specs.Making.{IsMadeOf, IsMadeOfRead, WasNotMade}
-use Rattle.wb_target.specs.declared.office.Office.{Office}
+use Rattle.wb_target.specs.Offices.{OfficeState}
 use Rattle.wb_target.proofs.Leading.{answered_with, refused_with}
 use Rattle.wb_target.proofs.Written.{fits_written}
 use Rattle.wb_target.proofs.making.MakingStage.make.Goals as goal
@@ -13,7 +13,7 @@ office_over-made-requires g c = fits_written _ _ c.in-Some-Done.state _ (sym c.t
 pub returns-clause-made : goal.returns-clause-made
 returns-clause-made g c =
     let state = c.in-Some-Done.state in
-    answered_with c.office_over-made.result c.is_ok-is_made.result _ ((office : Office g.row.P.Denot) × (Some c.office_over-made.result ≡ Some (Ok office)) × IsMadeOfRead g.P.Policy.begun g.P.Policy.with_setting c.args.self.now office) c.is_ok-is_made.ensures.value
+    answered_with c.office_over-made.result c.is_ok-is_made.result _ ((office : OfficeState g.row.P.Denot) × (Some c.office_over-made.result ≡ Some (Ok office)) × IsMadeOfRead g.P.Policy.begun g.P.Policy.with_setting c.args.self.now office) c.is_ok-is_made.ensures.value
     (λ office is made. (
       office,
       ap Some is,

@@ -5,7 +5,6 @@ use Rattle.wb_target.proofs.office.Office.count_dirty.Given as goal
 abbrev pub invariant-loop-c : goal.invariant-loop-c
 invariant-loop-c g l = record {
   desk : l.self.desk ≡ l.fn.self.desk;
-  words : l.self.watch.geometry ≡ l.fn.self.watch.geometry;
   few : l.dirty ≤ l.c;
-  seen : SawDirty l.fn.self.watch.pass.card l.self.watch.pass.card (seals_latest_first l.fn.self.watch.geometry.origin_blocks l.fn.self.desk.tree l.c) l.dirty;
+  seen : SawDirty l.fn.self.watch.pass.card l.self.watch.pass.card (seals_latest_first l.fn.self.desk.tree l.c) l.dirty;
 }

@@ -1,5 +1,4 @@
 use Rattle.std.proofs.Common.{◌∙◌, ◌++◌, ℕ, List, ◌∷◌, ap}
-use Rattle.wb_types.specs.declared.geometry.Geometry.{Geometry}
 use Rattle.wb_words.specs.declared.card.Card.{Card}
 use Rattle.wb_words.specs.declared.word.Kind.TheVariants.{ReadMiss, WriteHit, WriteMiss}
 use Rattle.wb_words.specs.declared.word.Word.{Word}
@@ -10,18 +9,14 @@ use Rattle.wb_target.proofs.office.Office.fields.Goals as goal
 
 pub returns-clause-looked : goal.returns-clause-looked
 returns-clause-looked g c =
-    let old = c.args.self.now in
-    let counted = c.count-4.new.self in
     let seals = c.count_dirty.ensures.looks in
     let desk = c.count-4.ensures.desk ∙ c.count-3.ensures.desk ∙ c.count-2.ensures.desk ∙ c.count.ensures.desk in
-    let words = c.count-4.ensures.words ∙ c.count-3.ensures.words ∙ c.count-2.ensures.words ∙ c.count.ensures.words in
     record {
       word = c.has_failed.ensures.0;
       failed = c.has_failed.ensures.2;
       seals = seals;
       seals_are = c.count_dirty.ensures.words_are
-          ∙ ap (λ (geometry : Geometry). seals_latest_first geometry.origin_blocks counted.desk.tree counted.desk.geometry.cache_blocks) words
-          ∙ ap (λ (d : DeskState g.row.P.Denot). seals_latest_first old.watch.geometry.origin_blocks d.tree d.geometry.cache_blocks) desk;
+          ∙ ap (λ (d : DeskState g.row.P.Denot). seals_latest_first d.tree d.geometry.cache_blocks) desk;
       dirty = c.count_dirty.ensures.dirty_are;
       saw = ap (λ (card : Card). card.saw) c.has_failed.ensures.1 ∙ ap (λ (rest : List (Word × ℕ)). (Fail, c.has_failed.ensures.0) ∷ rest) (
           c.count_dirty.ensures.saw ∙ ap (λ (rest : List (Word × ℕ)). seals ++ rest) (

@@ -4,5 +4,5 @@ use Rattle.wb_target.proofs.office.Office.mapped_blocks.Given as goal
 
 abbrev pub invariant-loop-c : goal.invariant-loop-c
 invariant-loop-c g l = record {
-  listed : l.blocks.items ≡ mapped_blocks l.self.watch.geometry.origin_blocks l.self.desk.tree l.c;
+  listed : l.blocks.items ≡ mapped_blocks l.self.desk.tree l.c;
 }

@@ -1,15 +1,14 @@
-use Rattle.std.proofs.Common.{List, Bool, refl, subst}
-use Rattle.wb_stage.specs.Stages.{DidBeginWith}
+use Rattle.std.proofs.Common.{refl}
 use Rattle.wb_target.proofs.Suspends.{begun_works, ended_works}
 use Rattle.wb_target.proofs.suspending.SuspendStage.desk_step.Goals as goal
 
 pub returns-in-BeginCommit-clause-works : goal.returns-in-BeginCommit-clause-works
 returns-in-BeginCommit-clause-works g c =
     let old = c.args.self.now in
-    let did = subst (λ (bits : List Bool). DidBeginWith g.P.Policy.hint_of bits c.in-BeginCommit.most c.begin_commit.result old.desk.now old.commit c.begin_commit.new.desk c.begin_commit.new.commit) c.as_slice.ensures.value c.begin_commit.ensures.did in
-    let asked = begun_works g.P.Policy.hint_of g.P.Policy.with_entry g.P.Policy.without_entry old.seen.items c.args.step c.in-BeginCommit.most c.begin_commit.result old.desk.now c.begin_commit.new.desk old.commit c.begin_commit.new.commit c.in-BeginCommit.is did in (refl, refl, asked.0, asked.1)
+    let did = c.begin.ensures.did in
+    let asked = begun_works g.P.Policy.hint_of g.P.Policy.with_entry g.P.Policy.without_entry old.seen.now c.args.step c.in-BeginCommit.most c.begin.result old.desk.now c.begin.new.desk old.commit.now c.begin.new.commit c.in-BeginCommit.is did in (refl, refl, asked.0, asked.1)
 
 pub returns-in-EndCommit-clause-works : goal.returns-in-EndCommit-clause-works
 returns-in-EndCommit-clause-works g c =
     let old = c.args.self.now in
-    let asked = ended_works g.P.Policy.hint_of g.P.Policy.with_entry g.P.Policy.without_entry old.seen.items c.args.step c.ask.result old.desk.now c.ask.new.desk old.commit c.ask.new.commit (c.in-EndCommit.is) c.ask.ensures.did in (refl, refl, asked.0, asked.1)
+    let asked = ended_works g.P.Policy.hint_of g.P.Policy.with_entry g.P.Policy.without_entry old.seen.now c.args.step c.ask.result old.desk.now c.ask.new.desk old.commit.now c.ask.new.commit (c.in-EndCommit.is) c.ask.ensures.did in (refl, refl, asked.0, asked.1)

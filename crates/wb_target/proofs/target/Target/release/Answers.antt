@@ -1,4 +1,4 @@
 use Rattle.wb_target.proofs.target.Target.release.Goals as goal
 
 pub returns : goal.returns
-returns g c = (c.deref_mut.result.now.desk, (c.release.new.desk, c.release.ensures))
+returns g c = (c.deref_mut.result.now.desk, (c.release.new.self.desk, c.release.ensures))

@@ -2,4 +2,4 @@ use Rattle.std.proofs.Common.{refl}
 use Rattle.wb_target.proofs.target.Target.unmap.Goals as goal
 
 pub returns : goal.returns
-returns g c = (c.deref_mut.result.now.desk, (c.unmap.new.desk, (c.unmap.ensures, refl), refl))
+returns g c = (c.deref_mut.result.now.desk, (c.unmap.new.self.desk, (c.unmap.ensures, refl), refl))
