@@ -1,6 +1,6 @@
 //! The arguments of the program.
 
-use crate::help::{ABOUT, REPLAYS, TEXTS};
+use crate::help::{ABOUT, REPLAYS};
 use clap::{Arg, ArgAction, Command, Error};
 use std::alloc::Global;
 use wb_opened::{NoTask, VERSION, with_table};
@@ -16,9 +16,14 @@ pub enum Asked<'a> {
     Replay,
 }
 
-/// Reads the words of the command line, the program's name first: what is asked, and whether reasons are to be told.
-pub fn read_arguments<'a>(alloc: Global, words: &'a [String]) -> Result<(Asked<'a>, bool), NoTask> {
-    let matches = command(alloc)?.try_get_matches_from(words)?;
+/// Reads the words of the command line, the program's name first: what is asked, and whether reasons are to be told. Its help ends with these
+/// texts.
+pub fn read_arguments<'a>(
+    alloc: Global,
+    words: &'a [String],
+    texts: &'a str,
+) -> Result<(Asked<'a>, bool), NoTask> {
+    let matches = command(alloc, texts)?.try_get_matches_from(words)?;
     let asked = match matches.subcommand() {
         Some(("format", given)) => given.get_str("TABLE").map(|table| (
             Asked::Format(table, given.get_flag("yes")),
@@ -33,7 +38,7 @@ pub fn read_arguments<'a>(alloc: Global, words: &'a [String]) -> Result<(Asked<'
     asked.ok_or(NoTask::Unknown)
 }
 
-fn command<'a>(alloc: Global) -> Result<Command<'a>, Error> {
+fn command<'a>(alloc: Global, texts: &'a str) -> Result<Command<'a>, Error> {
     let verbose = Arg::new(alloc, "verbose")
         .short('v')
         .long("verbose")
@@ -50,7 +55,7 @@ fn command<'a>(alloc: Global) -> Result<Command<'a>, Error> {
         Command::new(alloc, "wbcache")
             .about(ABOUT)
             .version(VERSION)
-            .after_help(TEXTS)
+            .after_help(texts)
             .disable_help_subcommand(true)
             .subcommand_required(true)
             .arg(verbose)?
@@ -58,10 +63,10 @@ fn command<'a>(alloc: Global) -> Result<Command<'a>, Error> {
                 alloc,
                 "format",
                 "Make the metadata those of an empty cache",
-                TEXTS,
+                texts,
             )?
             .arg(yes)?)?
-            .subcommand(with_table(alloc, "run", "Run a script over the files", TEXTS)?)?
+            .subcommand(with_table(alloc, "run", "Run a script over the files", texts)?)?
             .subcommand(
                 Command::new(alloc, "replay")
                     .about("Play a replay")

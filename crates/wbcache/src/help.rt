@@ -1,12 +1,18 @@
 //! What the program says of itself.
 
+use std::alloc::{AllocError, Global};
 use wb_table::policies_help;
 
 pub const ABOUT: &str = "A write-back block cache over three files.";
 
-/// What a table and a script are, for both subcommands.
-pub const TEXTS: &str = concat!(
-    "\
+/// What a table and a script are, for both subcommands. `AllocError` where there is no memory for it.
+pub fn texts(alloc: Global) -> Result<String, AllocError> {
+    let policies = policies_help!();
+    format!(in alloc; "{TABLES}{policies}{SCRIPTS}")
+}
+
+/// What a table is, up to its policy.
+const TABLES: &str = "\
 TABLE is one argument, words parted by spaces:
   cache <metadata> <cache> <origin> <block size> <features> <policy> <keys>
 Three files that are there, and sectors of 512 bytes in a block: 64 to 2097152,
@@ -24,9 +30,10 @@ blocks, 32 a node: 4 sectors serve 32 cache blocks.
                         a sector more. Metadata of version 1 are made of it as
                         they are opened; those that are of it are opened without
                         it, too, and stay so
-",
-    policies_help!(),
-    "
+";
+
+/// What a script is.
+const SCRIPTS: &str = "
 A script, one answer a line, is read from standard input:
   w S N hh    fill N sectors from S on with the byte hh: prints 'ok'
   wf S N hh   the same, and then flush
@@ -58,8 +65,7 @@ are locked as long as it runs, against programs that lock them too.
 Example:
   truncate -s 2048 m; truncate -s 131072 c; truncate -s 327680 o
   wbcache format 'cache m c o 64 0 tinylfu 0'
-  echo 'w 0 1 11' | wbcache run 'cache m c o 64 0 tinylfu 0'"
-);
+  echo 'w 0 1 11' | wbcache run 'cache m c o 64 0 tinylfu 0'";
 
 /// What a replay is.
 pub const REPLAYS: &str = "\

@@ -5,6 +5,7 @@ mod arguments;
 mod help;
 
 use crate::arguments::{Asked, read_arguments};
+use crate::help::texts;
 use std::io;
 use std::io::{BufReader, BufWriter, IsTerminal, Read};
 use std::process::ExitCode;
@@ -36,7 +37,10 @@ fn serve<T: Threads + Wait + Sync>(rt: &HostRuntime, waits: &T) -> u8 {
         Ok(words) => words,
         Err(why) => return no_task(rt, &why),
     };
-    let (asked, verbose) = match read_arguments(alloc, words.as_slice()) {
+    let Ok(texts) = texts(alloc) else {
+        return no_memory(rt);
+    };
+    let (asked, verbose) = match read_arguments(alloc, words.as_slice(), texts.as_str()) {
         Ok(read) => read,
         Err(why) => return no_task(rt, &why),
     };
