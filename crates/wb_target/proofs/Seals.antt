@@ -8,7 +8,7 @@ use Rattle.wb_words.specs.declared.word.Word.{Word}
 use Rattle.wb_words.specs.declared.word.Word.TheVariants.{Seal as SealWord}
 use Rattle.wb_types.specs.declared.entry.Entry.{Entry}
 use Rattle.wb_types.specs.declared.number.OBlock.{OBlock}
-use Rattle.wb_target.specs.Suspends.{block_of}
+use Rattle.wb_target.specs.Suspends.{mapped_block}
 use Rattle.wb_target.specs.Shown.{SawDirty, dirty_among, seals_latest_first}
 
 -- one alone
@@ -30,18 +30,18 @@ saw_more first mid last words more dirty others one two = record {
 -- ---- what a look at one cache block showed
 
 pub at_seal : (found : Option Entry) (entry : Entry) (before after : Card) (x : ℕ) (b : Bool) → found ≡ Some entry → after.saw ≡ (SealWord entry.origin, x) ∷ before.saw → dirty_in x ≡ b
-    → SawDirty before after (map SealWord (block_of found)) (if b then 1 else 0)
+    → SawDirty before after (map SealWord (mapped_block found)) (if b then 1 else 0)
 at_seal found entry before after x b is saw dirty =
-    subst (λ (e : Option Entry). SawDirty before after (map SealWord (block_of e)) (if b then 1 else 0)) (sym is)
+    subst (λ (e : Option Entry). SawDirty before after (map SealWord (mapped_block e)) (if b then 1 else 0)) (sym is)
     (subst (λ (d : Bool). SawDirty before after (SealWord entry.origin ∷ []) (if d then 1 else 0)) dirty (saw_one before after (SealWord entry.origin) x saw))
 
 -- ---- and at the next one, behind those before it
 
 pub saw_next : (tree : Mapping) (c : ℕ) (first mid last : Card) (dirty here all : ℕ) (at : Mapping) → at ≡ tree → all ≡ dirty + here
-    → SawDirty first mid (seals_latest_first tree c) dirty → SawDirty mid last (map SealWord (block_of (entry_at at c))) here → SawDirty first last (seals_latest_first tree (c + 1)) all
+    → SawDirty first mid (seals_latest_first tree c) dirty → SawDirty mid last (map SealWord (mapped_block (entry_at at c))) here → SawDirty first last (seals_latest_first tree (c + 1)) all
 saw_next tree c first mid last dirty here all at trees sum one two =
     let next : suc c ≡ c + 1 = omega (arith) in
     subst (λ (k : ℕ). SawDirty first last (seals_latest_first tree k) all) next
     (subst (λ (n : ℕ). SawDirty first last (seals_latest_first tree (suc c)) n) (sym sum)
-    (saw_more first mid last (seals_latest_first tree c) (map SealWord (block_of (entry_at tree c))) dirty here one
-    (subst (λ (t : Mapping). SawDirty mid last (map SealWord (block_of (entry_at t c))) here) trees two)))
+    (saw_more first mid last (seals_latest_first tree c) (map SealWord (mapped_block (entry_at tree c))) dirty here one
+    (subst (λ (t : Mapping). SawDirty mid last (map SealWord (mapped_block (entry_at t c))) here) trees two)))

@@ -38,7 +38,7 @@ use Rattle.wb_tasks.specs.declared.step.Answer.{Answer}
 use Rattle.wb_tasks.specs.declared.step.Answer.TheVariants.{Done as Finished}
 use Rattle.wb_target.specs.Carried.{AreSynced}
 use Rattle.wb_target.proofs.Syncing.{suspended_synced}
-use Rattle.wb_target.specs.Suspends.{AskedWith, RanSuspend, WasSuspended, SuspendLed, SuspendStep, IsReadyToSuspend, suspending_at, block_of, mapped_blocks}
+use Rattle.wb_target.specs.Suspends.{AskedWith, RanSuspend, WasSuspended, SuspendLed, SuspendStep, IsReadyToSuspend, suspending_at, mapped_block, mapped_blocks}
 use Rattle.wb_target.specs.declared.suspending.SuspendStage.{SuspendStage}
 
 -- its steps on the words take and let go no block
@@ -66,13 +66,13 @@ seen_length w g bits = refl
 abbrev Below : ℕ → OBlock → Type 0
 Below count block = block.0 < count
 
-one_below : (count : ℕ) (entry : Option Entry) → ((e : Entry) → entry ≡ Some e → e.origin.0 < count) → All (Below count) (block_of entry)
+one_below : (count : ℕ) (entry : Option Entry) → ((e : Entry) → entry ≡ Some e → e.origin.0 < count) → All (Below count) (mapped_block entry)
 one_below count None there = All-nil (Below count)
 one_below count (Some entry) there = All-cons (Below count) entry.origin [] (there entry refl) (All-nil (Below count))
 
 all_below : (count : ℕ) (tree : Mapping) (c : ℕ) → ((k : ℕ) (e : Entry) → entry_at tree k ≡ Some e → e.origin.0 < count) → All (Below count) (mapped_blocks tree c)
 all_below count tree zero there = All-nil (Below count)
-all_below count tree (suc c) there = All-append (Below count) (mapped_blocks tree c) (block_of (entry_at tree c)) (all_below count tree c there) (one_below count (entry_at tree c) (there c))
+all_below count tree (suc c) there = All-append (Below count) (mapped_blocks tree c) (mapped_block (entry_at tree c)) (all_below count tree c there) (one_below count (entry_at tree c) (there c))
 
 pub below : (count : ℕ) (tree : Mapping) (c : ℕ) → ((k : ℕ) (e : Entry) → entry_at tree k ≡ Some e → e.origin.0 < count) → AreBelow count (mapped_blocks tree c)
 below count tree c there block m = subst (Below count) m.2 (all_below count tree c there m.0 block m.1)

@@ -10,7 +10,7 @@ use Rattle.wb_words.specs.declared.word.Word.TheVariants.{Seal as SealWord, Coun
 use Rattle.wb_table.specs.declared.status.Fields.{Fields}
 use Rattle.wb_desk.specs.Desks.{DeskState, mapped_now}
 use Rattle.wb_target.specs.Offices.{OfficeState}
-use Rattle.wb_target.specs.Suspends.{block_of}
+use Rattle.wb_target.specs.Suspends.{mapped_block}
 
 -- What of it the desk counts and is set to, and the sizes of its cache; the policy by its name, and its setting where it has one.
 pub record AreShown {P : Type 0} (name : List ℕ) (promote_min : P → Option ℕ) (d : DeskState P) (told : Fields) : Type 0 where
@@ -35,7 +35,7 @@ dirty_among (look ∷ looks) = (if dirty_in look.1 then 1 else 0) + dirty_among 
 -- the seals of the blocks that are mapped in the first so many cache blocks, that of the last of them first
 abbrev pub seals_latest_first : Mapping → ℕ → List Word
 seals_latest_first tree zero = []
-seals_latest_first tree (suc c) = map SealWord (block_of (entry_at tree c)) ++ seals_latest_first tree c
+seals_latest_first tree (suc c) = map SealWord (mapped_block (entry_at tree c)) ++ seals_latest_first tree c
 
 -- Between these cards these words were looked at, and no others, the last one first, and so many seals of them were dirty.
 pub record SawDirty (before after : Card) (words : List Word) (dirty : ℕ) : Type 0 where

@@ -27,14 +27,14 @@ use Rattle.wb_target.specs.Works.{DeskTold, WorksOn}
 use Rattle.wb_target.specs.declared.suspending.SuspendStage.{SuspendStage}
 
 -- the block of an entry, if there is one
-abbrev pub block_of : Option Entry → List OBlock
-block_of None = []
-block_of (Some entry) = entry.origin ∷ []
+abbrev pub mapped_block : Option Entry → List OBlock
+mapped_block None = []
+mapped_block (Some entry) = entry.origin ∷ []
 
 -- the blocks in the first so many cache blocks, in that order
 abbrev pub mapped_blocks : Mapping → ℕ → List OBlock
 mapped_blocks tree zero = []
-mapped_blocks tree (suc c) = mapped_blocks tree c ++ block_of (entry_at tree c)
+mapped_blocks tree (suc c) = mapped_blocks tree c ++ mapped_block (entry_at tree c)
 
 -- Some desk was asked for this step, for who has taken no order, and answered so; where a commit begins, its image is clean, with the dirty
 -- bits that were seen.

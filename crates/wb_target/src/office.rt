@@ -14,7 +14,7 @@ ghost use Rattle.wb_stage.specs.Stages.{DidAsk, IsServed};
 ghost use Rattle.wb_target.specs.Carried.{BlocksAreThere};
 ghost use Rattle.wb_target.specs.Told.{WasNext};
 ghost use Rattle.wb_target.specs.Shown.{AreShown, SawDirty, TellsFailed, WereLooked, seals_latest_first};
-ghost use Rattle.wb_target.specs.Suspends.{block_of};
+ghost use Rattle.wb_target.specs.Suspends.{mapped_block};
 ghost use Rattle.wb_tree.specs.Mapping.{entry_at};
 ghost use Rattle.wb_words.specs.Cards.{looked};
 ghost use Rattle.wb_desk.proofs.Seen.{AreSeen};
@@ -223,7 +223,7 @@ impl<P: Policy> Office<P> {
     fn dirty_at(&mut self, place: CBlock) -> Option<OBlock>
         requires { place.0 < self.old.desk.geometry.cache_blocks }
         ensures desk { self.new.desk ≡ self.old.desk }
-        ensures looked { SawDirty self.old.watch.pass.card self.new.watch.pass.card (map Word.Seal (block_of (entry_at self.old.desk.tree place.0))) (if is_some result then 1 else 0) }
+        ensures looked { SawDirty self.old.watch.pass.card self.new.watch.pass.card (map Word.Seal (mapped_block (entry_at self.old.desk.tree place.0))) (if is_some result then 1 else 0) }
         ensures mapped { IfSome result (λ block. IsMappedAt (holdings self.old.desk) block.0 place.0) }
     {
         see_desk(&self.desk);

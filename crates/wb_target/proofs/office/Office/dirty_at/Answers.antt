@@ -8,7 +8,7 @@ use Rattle.wb_desk.specs.Desks.{holdings}
 use Rattle.wb_desk.proofs.Seen.{there}
 use Rattle.wb_target.specs.Offices.{OfficeState}
 use Rattle.wb_target.specs.Shown.{SawDirty}
-use Rattle.wb_target.specs.Suspends.{block_of}
+use Rattle.wb_target.specs.Suspends.{mapped_block}
 use Rattle.wb_target.proofs.Desking.{blocks_there}
 use Rattle.wb_target.proofs.Seals.{at_seal}
 use Rattle.wb_target.proofs.office.Office.dirty_at.Goals.{then-is_dirty, else-is_dirty}
@@ -24,9 +24,9 @@ returns-clause-looked g c =
     sym (c.entry.ensures ∙ ap (λ (office : OfficeState g.row.P.Denot). entry_at office.desk.tree c.args.place.0) c.self.view_is) ∙ c.in_ok-entry.was in
     let saw = ap (λ pass. pass.card.saw) c.look.ensures.pass ∙ ap (λ (office : OfficeState g.row.P.Denot). (SealWord c.in_ok-entry.entry.origin, c.look.result) ∷ office.watch.pass.card.saw) c.self.view_is in
     elim c.if-is_dirty.branch [
-      | then-is_dirty w ↦ subst (λ (found : Option OBlock). SawDirty old.watch.pass.card c.look.new.self.pass.card (map SealWord (block_of (entry_at old.desk.tree c.args.place.0))) (if is_some found then 1 else 0)) (sym w.result-is)
+      | then-is_dirty w ↦ subst (λ (found : Option OBlock). SawDirty old.watch.pass.card c.look.new.self.pass.card (map SealWord (mapped_block (entry_at old.desk.tree c.args.place.0))) (if is_some found then 1 else 0)) (sym w.result-is)
           (at_seal _ c.in_ok-entry.entry old.watch.pass.card c.look.new.self.pass.card c.look.result true here saw (sym c.is_dirty.ensures ∙ w.if-is_dirty.true))
-      | else-is_dirty w ↦ subst (λ (found : Option OBlock). SawDirty old.watch.pass.card c.look.new.self.pass.card (map SealWord (block_of (entry_at old.desk.tree c.args.place.0))) (if is_some found then 1 else 0)) (sym w.result-is)
+      | else-is_dirty w ↦ subst (λ (found : Option OBlock). SawDirty old.watch.pass.card c.look.new.self.pass.card (map SealWord (mapped_block (entry_at old.desk.tree c.args.place.0))) (if is_some found then 1 else 0)) (sym w.result-is)
           (at_seal _ c.in_ok-entry.entry old.watch.pass.card c.look.new.self.pass.card c.look.result false here saw (sym c.is_dirty.ensures ∙ w.if-is_dirty.false))
     ]
 
