@@ -34,6 +34,11 @@ const FAILED_WRITES: [Row; 3] = [
     },
 ];
 
+#[test]
+fn failed_writes_land_or_do_not(rt: HostRuntime) -> Result<(), Fail> {
+    compare(rt.alloc(), &FAILED_WRITES)
+}
+
 /// What was flushed survives, what was not may be lost, sector by sector.
 const FLUSHES: [Row; 2] = [
     Row {
@@ -49,6 +54,11 @@ const FLUSHES: [Row; 2] = [
         ends: Ended::Played,
     },
 ];
+
+#[test]
+fn what_was_flushed_survives(rt: HostRuntime) -> Result<(), Fail> {
+    compare(rt.alloc(), &FLUSHES)
+}
 
 /// Flushes that come while a commit runs wait for it.
 const SHARED: [Row; 6] = [
@@ -90,6 +100,11 @@ const SHARED: [Row; 6] = [
     },
 ];
 
+#[test]
+fn flushes_that_come_while_a_commit_runs_share_the_next(rt: HostRuntime) -> Result<(), Fail> {
+    compare(rt.alloc(), &SHARED)
+}
+
 /// A block is promoted, flushed and written again, and the power is lost.
 const PROMOTIONS: [Row; 4] = [
     Row {
@@ -118,6 +133,11 @@ const PROMOTIONS: [Row; 4] = [
     },
 ];
 
+#[test]
+fn what_was_promoted_survives(rt: HostRuntime) -> Result<(), Fail> {
+    compare(rt.alloc(), &PROMOTIONS)
+}
+
 /// In write-through a cached block is written to, on the origin and then in the cache, and the power is lost.
 const WRITTEN_THROUGH: [Row; 3] = [
     Row {
@@ -140,6 +160,11 @@ const WRITTEN_THROUGH: [Row; 3] = [
     },
 ];
 
+#[test]
+fn what_was_written_through_is_on_both(rt: HostRuntime) -> Result<(), Fail> {
+    compare(rt.alloc(), &WRITTEN_THROUGH)
+}
+
 /// The power is lost once the root of a second promotion was written.
 const PROMOTED_TWICE: [Row; 2] = [
     Row {
@@ -155,6 +180,11 @@ const PROMOTED_TWICE: [Row; 2] = [
         ends: Ended::Played,
     },
 ];
+
+#[test]
+fn a_promotion_stands_with_its_root(rt: HostRuntime) -> Result<(), Fail> {
+    compare(rt.alloc(), &PROMOTED_TWICE)
+}
 
 /// Promotions that may not start, or start again.
 const BUSY_PROMOTIONS: [Row; 2] = [
@@ -172,6 +202,11 @@ const BUSY_PROMOTIONS: [Row; 2] = [
     },
 ];
 
+#[test]
+fn promotions_that_may_not_start_are_busy(rt: HostRuntime) -> Result<(), Fail> {
+    compare(rt.alloc(), &BUSY_PROMOTIONS)
+}
+
 /// The power is lost when a demotion has copied one sector of a block home that was written since it was flushed.
 const HALF_DEMOTED: [Row; 2] = [
     Row {
@@ -187,6 +222,11 @@ const HALF_DEMOTED: [Row; 2] = [
         ends: Ended::Played,
     },
 ];
+
+#[test]
+fn a_half_done_demotion_loses_nothing_flushed(rt: HostRuntime) -> Result<(), Fail> {
+    compare(rt.alloc(), &HALF_DEMOTED)
+}
 
 /// A block leaves the cache, and its cache block is free only after a commit that began after that.
 const DEMOTIONS: [Row; 3] = [
@@ -210,6 +250,11 @@ const DEMOTIONS: [Row; 3] = [
     },
 ];
 
+#[test]
+fn what_was_demoted_is_at_home(rt: HostRuntime) -> Result<(), Fail> {
+    compare(rt.alloc(), &DEMOTIONS)
+}
+
 /// A dirty block is written back, and stays where it is.
 const WRITE_BACKS: [Row; 2] = [
     Row {
@@ -225,6 +270,11 @@ const WRITE_BACKS: [Row; 2] = [
         ends: Ended::Played,
     },
 ];
+
+#[test]
+fn what_was_written_back_is_on_both(rt: HostRuntime) -> Result<(), Fail> {
+    compare(rt.alloc(), &WRITE_BACKS)
+}
 
 /// A block makes way for another, which takes its cache block after a flush of the actor that told both.
 const REPLACEMENTS: [Row; 5] = [
@@ -260,6 +310,11 @@ const REPLACEMENTS: [Row; 5] = [
     },
 ];
 
+#[test]
+fn a_block_makes_way_for_another(rt: HostRuntime) -> Result<(), Fail> {
+    compare(rt.alloc(), &REPLACEMENTS)
+}
+
 /// A cache with two blocks, one of them dirty, is suspended.
 const SUSPENDS: [Row; 4] = [
     Row {
@@ -287,6 +342,11 @@ const SUSPENDS: [Row; 4] = [
         ends: Ended::Played,
     },
 ];
+
+#[test]
+fn a_suspend_stores_what_is_dirty(rt: HostRuntime) -> Result<(), Fail> {
+    compare(rt.alloc(), &SUSPENDS)
+}
 
 /// Metadata of the first version are written anew in the second, and the power is lost.
 const CONVERSIONS: [Row; 5] = [
@@ -322,6 +382,11 @@ const CONVERSIONS: [Row; 5] = [
     },
 ];
 
+#[test]
+fn metadata_are_written_anew_in_the_second_version(rt: HostRuntime) -> Result<(), Fail> {
+    compare(rt.alloc(), &CONVERSIONS)
+}
+
 /// Lines that do not apply, that are refused at the start, and that do nothing.
 const SKIPPED: [Row; 4] = [
     Row {
@@ -349,6 +414,11 @@ const SKIPPED: [Row; 4] = [
         ends: Ended::Played,
     },
 ];
+
+#[test]
+fn what_does_not_apply_is_skipped(rt: HostRuntime) -> Result<(), Fail> {
+    compare(rt.alloc(), &SKIPPED)
+}
 
 /// Replays that end early, and one without a line.
 const ENDED: [Row; 6] = [
@@ -390,6 +460,11 @@ const ENDED: [Row; 6] = [
     },
 ];
 
+#[test]
+fn a_replay_ends_at_a_line_of_none(rt: HostRuntime) -> Result<(), Fail> {
+    compare(rt.alloc(), &ENDED)
+}
+
 /// Whether a replay prints so, and ends so.
 fn plays(alloc: Global, row: &Row) -> bool {
     let mut reader = row.lines.as_bytes();
@@ -406,79 +481,4 @@ fn compare(alloc: Global, rows: &[Row]) -> Result<(), Fail> {
         }
     }
     Ok(())
-}
-
-#[test]
-fn failed_writes_land_or_do_not(rt: HostRuntime) -> Result<(), Fail> {
-    compare(rt.alloc(), &FAILED_WRITES)
-}
-
-#[test]
-fn flushes_that_come_while_a_commit_runs_share_the_next(rt: HostRuntime) -> Result<(), Fail> {
-    compare(rt.alloc(), &SHARED)
-}
-
-#[test]
-fn what_was_flushed_survives(rt: HostRuntime) -> Result<(), Fail> {
-    compare(rt.alloc(), &FLUSHES)
-}
-
-#[test]
-fn what_was_promoted_survives(rt: HostRuntime) -> Result<(), Fail> {
-    compare(rt.alloc(), &PROMOTIONS)
-}
-
-#[test]
-fn what_was_written_through_is_on_both(rt: HostRuntime) -> Result<(), Fail> {
-    compare(rt.alloc(), &WRITTEN_THROUGH)
-}
-
-#[test]
-fn a_promotion_stands_with_its_root(rt: HostRuntime) -> Result<(), Fail> {
-    compare(rt.alloc(), &PROMOTED_TWICE)
-}
-
-#[test]
-fn promotions_that_may_not_start_are_busy(rt: HostRuntime) -> Result<(), Fail> {
-    compare(rt.alloc(), &BUSY_PROMOTIONS)
-}
-
-#[test]
-fn a_half_done_demotion_loses_nothing_flushed(rt: HostRuntime) -> Result<(), Fail> {
-    compare(rt.alloc(), &HALF_DEMOTED)
-}
-
-#[test]
-fn what_was_demoted_is_at_home(rt: HostRuntime) -> Result<(), Fail> {
-    compare(rt.alloc(), &DEMOTIONS)
-}
-
-#[test]
-fn what_was_written_back_is_on_both(rt: HostRuntime) -> Result<(), Fail> {
-    compare(rt.alloc(), &WRITE_BACKS)
-}
-
-#[test]
-fn a_block_makes_way_for_another(rt: HostRuntime) -> Result<(), Fail> {
-    compare(rt.alloc(), &REPLACEMENTS)
-}
-
-#[test]
-fn a_suspend_stores_what_is_dirty(rt: HostRuntime) -> Result<(), Fail> {
-    compare(rt.alloc(), &SUSPENDS)
-}
-
-#[test]
-fn metadata_are_written_anew_in_the_second_version(rt: HostRuntime) -> Result<(), Fail> {
-    compare(rt.alloc(), &CONVERSIONS)
-}
-
-#[test]
-fn what_does_not_apply_is_skipped(rt: HostRuntime) -> Result<(), Fail> {
-    compare(rt.alloc(), &SKIPPED)
-}
-
-#[test]
-fn a_replay_ends_at_a_line_of_none(rt: HostRuntime) -> Result<(), Fail> {
-    compare(rt.alloc(), &ENDED)
 }
