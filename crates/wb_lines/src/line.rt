@@ -206,8 +206,7 @@ fn read_fault(mut words: SplitSpaces<'_>) -> Option<(u64, Base)>
     ensures found { IfSome result (λ read. SpellsFault (words_of words.entry.0.now) read.0 read.1) }
     ensures none { IfNone result ((actor : ℕ) (base : Kept) → ¬ SpellsFault (words_of words.entry.0.now) actor base) }
 {
-    let actor = read_actor(words.next()?)?;
-    let base = read_base(words.next()?)?;
+    let (actor, base) = (read_actor(words.next()?)?, read_base(words.next()?)?);
     words.expect_end()?;
     Some((actor, base))
 }

@@ -84,8 +84,8 @@ impl<P: Policy> Office<P> {
         held: &[Order],
         step: DeskStep,
     ) -> Got
-        requires served { IsServed (AskDesk step) }
         requires goes_on { MayAskNow self.old.desk share.old step }
+        requires served { IsServed (AskDesk step) }
         ensures kind { Fits (AskDesk step) result }
         ensures did { DidAsk P.with_entry P.without_entry held.now step share.old result self.old.desk commit.old self.new.desk commit.new }
         ensures share { share.new ≡ share_then self.old.desk share.old step result }

@@ -241,8 +241,7 @@ fn run_suspend<'a, D: Disk, P: Policy, T: Task>(
     requires bits { length bits.old ≡ desk.old.geometry.cache_blocks }
     requires unbegun { commit.old ≡ None }
     ensures ran { RanSuspend D.tells D.size D.contents D.faults P.hint_of P.with_entry P.without_entry watch.old.geometry.origin_blocks (T.plan task.old) bits.old devices.old result devices.new }
-    ensures words { watch.new.geometry ≡ watch.old.geometry }
-    ensures cache { desk.new.geometry ≡ desk.old.geometry }
+    ensures geometry { (watch.new.geometry ≡ watch.old.geometry) × (desk.new.geometry ≡ desk.old.geometry) }
 {
     let mut stage = SuspendStage {
         alloc,
