@@ -1,7 +1,7 @@
 #!/bin/sh
 # Times requests of a target's client in write-through and in passthrough beside plain system calls, in turn with these and by medians of
-# seven. It needs cc, and builds the programs where they are missing or older than their sources. Files are made in WORK (/dev/shm). See
-# bench/README.md.
+# TURNS, 35 where it is not set: what a plain call takes differs by a quarter from one turn to the next, so few long turns say less than many short ones.
+# It needs cc, and builds the programs where they are missing or older than their sources. Files are made in WORK (/dev/shm). See bench/README.md.
 #
 #     sh bench/modes.sh [WBCACHE WB_BENCH]
 set -eu
@@ -19,7 +19,8 @@ work=$(mktemp -d -p "${WORK:-/dev/shm}")
 trap 'rm -rf "$work"' EXIT
 trap 'exit 1' HUP INT TERM
 cc -O2 -pthread -o "$work/clients" "$top/bench/clients.c"
-median() { sort -n "$1" | sed -n 4p; }
+turns=${TURNS:-35}
+median() { sort -n "$1" | sed -n "$(((turns + 1) / 2))p"; }
 truncate -s 1048576 "$work/m.img"
 truncate -s $((512 * 32768)) "$work/c.img"
 truncate -s $((1024 * 32768)) "$work/o.img"
@@ -33,10 +34,12 @@ for row in 'writethrough try_write 8' 'writethrough try_write 64' 'writethrough 
   # shellcheck disable=SC2086 # the words are apart
   set -- $row
   table="cache $work/m.img $work/c.img $work/o.img 64 1 $1 tinylfu 0"
-  requests=200000
-  test "$3" = 64 && requests=50000
+  requests=40000
+  test "$3" = 64 && requests=10000
   rm -f "$work"/*.ns
-  for turn in 1 2 3 4 5 6 7; do
+  turn=0
+  while test $turn -lt "$turns"; do
+    turn=$((turn + 1))
     case $1 in
       writethrough) "$work/clients" both "$work/o.img" "$work/c.img" "$3" $requests >>"$work/plain.ns" ;;
       *) "$work/clients" "$work/o.img" read "$3" $requests 1 >>"$work/plain.ns" ;;
