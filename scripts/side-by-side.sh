@@ -361,8 +361,11 @@ for_the_chains() {
   echo "$most $half"
 }
 
-# How long a program is likely to take from nothing, by what is known of its crates.
-how_long() { # program
+# How long a program is likely to take from nothing, by what is known of its crates, and of the machine where it is given: by how much it is slower
+# than the one that these seconds were taken on.
+machine=1
+how_long() { # program, by how much
+  machine=${2:-1}
   # shellcheck disable=SC2046 # names are words
   planned $(with_those_below "$1") | in_order >"$work/order"
   : >"$work/ended"
@@ -373,8 +376,8 @@ how_long() { # program
 # How many jobs are left and how long they are likely to take: all of them by the lanes, or the longest chain, whichever is more. The pace is that of
 # the jobs that have ended, apart for those that might use several processors, which go twice as fast until one of them has ended.
 what_is_left() {
-  awk -v lanes="$at_once" -v now="$(date +%s)" -v most="$(for_the_chains | cut -d ' ' -f 1)" '
-    function pace(many) { return known[many] > 0 ? took[many] / known[many] : many && !known[0] ? 0.5 : many ? took[0] / known[0] / 2 : 1 }
+  awk -v lanes="$at_once" -v machine="$machine" -v now="$(date +%s)" -v most="$(for_the_chains | cut -d ' ' -f 1)" '
+    function pace(many) { return known[many] > 0 ? took[many] / known[many] : many && !known[0] ? machine / 2 : many ? took[0] / known[0] / 2 : machine }
     FILENAME ~ /ended$/ { ended[$1] = $2; many[$1] = $3 > 1; next }
     FILENAME ~ /running$/ { since[$1] = now - $3; many[$1] = $4 > 1; next }
     # (what took next to nothing was kept by rt)
