@@ -594,8 +594,17 @@ check 'a block that was written back stays cached' "$(replayed "$cached / start 
 replaced="$cached / start 0 replace 0 5 / end 0 / start 0 promote 5 0 / start 0 flush / end 0 / start 1 promote 6 0 / start 0 promote 5 0 / end 0"
 check 'a block follows one that it replaces, after a flush' "$(replayed "$replaced / stop old / open writeback / view 0 1")" \
   '0 done/0 done/0 done/0 done/0 refused 3 Busy/0 done/1 refused 3 Busy/0 done/open 4 0 0/0 11: 0'
-check 'a line of no replay' "$(replayed 'setup writeback 64 4 10 4 / start 0 invalidate 0')" 'bad line 2: 1'
-check 'a setup that is refused' "$(replayed 'setup writeback 63 4 10 4')" 'refused 9 Geometry: 1'
+# Replays that end early: lines|what is printed.
+while IFS='|' read -r lines prints; do
+  check "the replay '$lines' ends early" "$(replayed "$lines")" "$prints: 1"
+done <<'ROWS'
+open writeback|bad line 1
+ / setup writeback 63 4 10 4 / open writeback|refused 9 Geometry
+setup writeback 64 4 10 4 / open writeback / replay / view 0 1|skipped/bad line 3
+setup writeback 64 4 10 4 / start 64 flush|bad line 2
+setup writeback 64 4 10 4 / start 0 suspend 0|bad line 2
+setup writeback 64 4 10 4 / start 0 invalidate 0|bad line 2
+ROWS
 check 'a replay of no line' "$("$cache" replay </dev/null; echo $?)" 0
 has 'help explains replays' "$("$cache" replay --help)" 'setup <mode> <block>'
 printf 'setup writeback 64 4 10 4\nview 0 1\n' | "$cache" replay >/dev/full

@@ -2,11 +2,12 @@
 
     images.py WB_BENCH [COUNT [SEED]]
 
-Each image begins as a good one, of one of three sizes, with two generations of roots and nodes at random places. Then bytes, words and fields are
-changed, sectors swapped, copied, cleared or filled, and files cut or made longer. The slow reader below goes by docs/FORMATS.md, 'Metadata
-sectors', word for word, and uses nothing of the product. `wb_bench FILE images` reads many in one process, and says of each what it
-stands for or how it is refused. It prints what differs, how many there were of each answer, and at the end 'N passed, N failed': a check
-for each thousand.
+Each image begins as a good one, of either version and one of several sizes, with two generations of roots and nodes at random places, in version 2
+often with a tree of dirty bits. Then bytes, words, fields and tops are changed, sectors swapped, copied, cleared or filled, and files cut or made longer.
+The slow reader below goes by docs/FORMATS.md, 'Metadata sectors', word for word, and uses nothing of the product. `wb_bench FILE images` reads many
+in one process, and says of each what it stands for or how it is refused. It prints what differs, how many there were of each answer and of each
+fault, and at the end 'N passed, N failed': a check for each thousand, one that each fault came first in some image, and one for all rows of
+scripts/cases/damage.txt, damaged images with what is said of each.
 """
 import collections
 import multiprocessing
@@ -17,133 +18,209 @@ import subprocess
 import sys
 import tempfile
 
-GEOMETRIES = [(64, 4, 10, 4), (64, 40, 40, 8), (64, 150, 200, 14)]
-BATCH, ROOM, SECTOR = 1000, 16, 512
+# Block, cache blocks, origin blocks; the second list has three levels of the mapping, or two of dirty bits, and is rare.
+SIZES = [(64, 4, 10), (64, 32, 40), (64, 40, 40), (64, 65, 70), (64, 150, 200)]
+LARGE_SIZES = [(64, 1025, 2048), (64, 2049, 2100), (64, 2100, 4096)]
+BATCH, SECTOR = 1000, 512
 LAST_WORD = 4294967295
+MAPPING, DIRTY = b"WBCNODE1", b"WBCDIRT1"
+FAULTS = ("text", "other tree", "level", "index", "newer", "outside", "twice", "beyond", "past last", "past origin", "origin twice", "bit", "slot")
 
 
 # --- The slow reader.
 class Damaged(Exception):
-    """The first fault of a tree: the place."""
+    """The first fault of an image: the place that it names, and what it is."""
 
 
-def depth_and_nodes(cache_blocks):
+Root = collections.namedtuple("Root", "generation version clean block cache_blocks origin_blocks sectors top top_dirty")
+
+
+def depth_and_nodes(words):
+    """Of a tree whose leaves have so many words."""
     depth = 1
-    while 32**depth < cache_blocks:
+    while 32**depth < words:
         depth += 1
-    return depth, sum(-(-cache_blocks // 32**k) for k in range(1, depth + 1))
+    return depth, sum(-(-words // 32**k) for k in range(1, depth + 1))
 
 
-def is_geometry(block, cache_blocks, origin_blocks, sectors):
-    if not (64 <= block <= 2097152 and block % 64 == 0 and 1 <= origin_blocks <= 1048576 and 1 <= cache_blocks <= 1048575):
-        return False
-    return 2 + 2 * depth_and_nodes(cache_blocks)[1] <= sectors <= 4294967295
+def words_of_dirty_bits(cache_blocks):
+    return -(-cache_blocks // 64)
+
+
+def least_sectors(version, cache_blocks):
+    return 2 + 2 * depth_and_nodes(cache_blocks)[1] + (depth_and_nodes(words_of_dirty_bits(cache_blocks))[1] if version == 2 else 0)
 
 
 def root_of(sector, slot):
-    """The root in a slot, if it is valid: generation, clean, cache blocks, origin blocks, sectors, top."""
-    magic, generation, version, flags, block, cache_blocks, origin_blocks, sectors, top = struct.unpack("<8sQIIIIIII", sector[:44])
-    if magic != b"WBCROOT1" or version != 1 or flags > 1 or any(sector[44:]) or generation % 2 != slot:
+    """The root in a slot, if it is valid there."""
+    magic, generation, version, flags, *numbers = struct.unpack("<8sQ8I", sector[:48])
+    if magic != b"WBCROOT1" or version not in (1, 2) or flags > 1 or any(sector[48:]) or generation % 2 != slot:
         return None
-    if not is_geometry(block, cache_blocks, origin_blocks, sectors) or not (top == 0 or 2 <= top < sectors):
+    root = Root(generation, version, flags == 1, *numbers)
+    if not (64 <= root.block <= 2097152 and root.block % 64 == 0 and 1 <= root.origin_blocks <= 1048576 and 1 <= root.cache_blocks <= 1048575):
         return None
-    return generation, flags == 1, cache_blocks, origin_blocks, sectors, top
+    if not least_sectors(version, root.cache_blocks) <= root.sectors <= 4294967295:
+        return None
+    if not all(top == 0 or 2 <= top < root.sectors for top in (root.top, root.top_dirty)) or root.top_dirty and not (version == 2 and root.clean):
+        return None
+    return root
 
 
-def is_leaf_word(word):
-    return word == 0 or (word & 1 == 1 and word >> 4 & 31 <= 16 and word & ~(3 | 31 << 4 | 0xFFFFF << 16) == 0)
+def is_leaf_word(version, word):
+    return word == 0 or (word & 1 == 1 and word >> 4 & 31 <= 16 and word & ~((3 if version == 1 else 1) | 31 << 4 | 0xFFFFF << 16) == 0)
 
 
-def words_of(sector, level, index, newest):
-    """The words of a node of this level and index and of a generation up to this one, or None."""
-    magic, generation, its_level, its_index, zeros = struct.unpack("<8sQIIQ", sector[:32])
+def words_of(sector, letters, level, index, place, root):
+    """The words of the node at a place, which has to be of this tree, level and index, and not newer than the root."""
+    its_letters, generation, its_level, its_index, zeros = struct.unpack("<8sQIIQ", sector[:32])
     words = struct.unpack("<32Q", sector[32:288])
-    if magic != b"WBCNODE1" or zeros or any(sector[288:]) or (its_level, its_index) != (level, index) or generation > newest:
-        return None
-    if level == 1:
-        return words if all(map(is_leaf_word, words)) else None
-    return words if all(word == 0 or 2 <= word <= LAST_WORD for word in words) else None
+    most = {MAPPING: 4, DIRTY: 3 if root.version == 2 else 0}.get(its_letters, 0)
+    if zeros or any(sector[288:]) or not 1 <= its_level <= most:
+        raise Damaged(place, "text")
+    if its_level > 1 and not all(word == 0 or 2 <= word <= LAST_WORD for word in words):
+        raise Damaged(place, "text")
+    if its_level == 1 and its_letters == MAPPING and not all(is_leaf_word(root.version, word) for word in words):
+        raise Damaged(place, "text")
+    for wrong, fault in ((its_letters != letters, "other tree"), (its_level != level, "level"), (its_index != index, "index"), (generation > root.generation, "newer")):
+        if wrong:
+            raise Damaged(place, fault)
+    return words
 
 
-def read_node(sectors, root, place, level, index, reached, mapping):
-    """Reads a node and what is below it."""
-    generation, _, cache_blocks, origin_blocks, _, _ = root
-    reached.add(place)
-    words = words_of(sectors[place], level, index, generation)
-    if words is None:
-        raise Damaged(place)
-    for j, word in enumerate(words):
-        if word == 0:
-            continue
-        number = 32 * index + j
-        if number * 32 ** (level - 1) >= cache_blocks:
-            raise Damaged(place)
-        if level == 1:
-            origin = word >> 16
-            if origin >= origin_blocks or any(it >> 16 == origin for it in mapping.values()):
-                raise Damaged(place)
-            mapping[number] = word
-        else:
-            if not 2 <= word < len(sectors) or word in reached:
-                raise Damaged(place)
-            read_node(sectors, root, word, level - 1, number, reached, mapping)
+class SlowReader:
+    """What was read so far of an image: the places that were reached, and of each cache block the word of its entry, with bit 1 where it is dirty."""
+
+    def __init__(self, sectors, root):
+        self.sectors, self.root = sectors, root
+        self.reached, self.origins, self.mapping = set(), set(), {}
+
+    def read(self):
+        root = self.root
+        if root.top:
+            self.read_node(MAPPING, root.top, depth_and_nodes(root.cache_blocks)[0], 0)
+        if root.top_dirty:
+            if root.top_dirty in self.reached:
+                raise Damaged(root.generation % 2, "slot")
+            self.read_node(DIRTY, root.top_dirty, depth_and_nodes(words_of_dirty_bits(root.cache_blocks))[0], 0)
+
+    def read_node(self, letters, place, level, index):
+        """Reads a node and what is below it."""
+        words = words_of(self.sectors[place], letters, level, index, place, self.root)
+        self.reached.add(place)
+        for j, word in enumerate(words):
+            number = 32 * index + j
+            if word == 0:
+                continue
+            if level > 1:
+                if not 2 <= word < len(self.sectors):
+                    raise Damaged(place, "outside")
+                if word in self.reached:
+                    raise Damaged(place, "twice")
+                if number * 32 ** (level - 1) * (64 if letters == DIRTY else 1) >= self.root.cache_blocks:
+                    raise Damaged(place, "beyond")
+                self.read_node(letters, word, level - 1, number)
+            elif letters == MAPPING:
+                self.read_entry(place, number, word)
+            else:
+                self.read_bits(place, 64 * number, word)
+
+    def read_entry(self, place, number, word):
+        origin = word >> 16
+        if number >= self.root.cache_blocks:
+            raise Damaged(place, "past last")
+        if origin >= self.root.origin_blocks:
+            raise Damaged(place, "past origin")
+        if origin in self.origins:
+            raise Damaged(place, "origin twice")
+        self.origins.add(origin)
+        self.mapping[number] = word
+
+    def read_bits(self, place, first, word):
+        for t in range(64):
+            if word >> t & 1:
+                if first + t not in self.mapping:
+                    raise Damaged(place, "bit")
+                self.mapping[first + t] |= 2
 
 
 def slow_answer(sectors):
-    """What is said of a device with these sectors."""
+    """What is said of a device with these sectors, and its first fault, if it is damaged."""
     roots = [root for slot, sector in enumerate(sectors[:2]) if (root := root_of(sector, slot))]
     if not roots:
-        return "refused 10 NotFormatted"
+        return "refused 10 NotFormatted", None
     root = max(roots)
-    generation, clean, cache_blocks, _, size, top = root
-    if size != len(sectors):
-        return "refused 12 Mismatch"
-    reached, mapping = set(), {}
+    if root.sectors != len(sectors):
+        return "refused 12 Mismatch", None
+    reader = SlowReader(sectors, root)
     try:
-        if top:
-            read_node(sectors, root, top, depth_and_nodes(cache_blocks)[0], 0, reached, mapping)
+        reader.read()
     except Damaged as damaged:
-        return f"refused 11 Damaged {damaged.args[0]}"
+        place, fault = damaged.args
+        return f"refused 11 Damaged {place}", fault
     total = 0
-    for block in range(cache_blocks):
-        total = (total * 31 + mapping.get(block, 0)) % 2**64
-    return f"{generation} {str(clean).lower()} {len(reached)} {total}"
+    for block in range(root.cache_blocks):
+        total = (total * 31 + reader.mapping.get(block, 0)) % 2**64
+    return f"{root.generation} {str(root.clean).lower()} {len(reader.reached)} {total}", None
 
 
 # --- Images at random.
-def root_sector(generation, clean, geometry, top):
-    block, cache_blocks, origin_blocks, sectors = geometry
-    return struct.pack("<8sQIIIIIII", b"WBCROOT1", generation, 1, clean, block, cache_blocks, origin_blocks, sectors, top).ljust(SECTOR, b"\0")
+def root_sector(*root):
+    generation, version, clean, *numbers = root
+    return struct.pack("<8sQ8I", b"WBCROOT1", generation, version, clean, *numbers).ljust(SECTOR, b"\0")
 
 
-def node_sector(generation, level, index, words):
-    return struct.pack("<8sQIIQ32Q", b"WBCNODE1", generation, level, index, 0, *words).ljust(SECTOR, b"\0")
+def node_sector(letters, generation, level, index, words):
+    return struct.pack("<8sQIIQ32Q", letters, generation, level, index, 0, *words).ljust(SECTOR, b"\0")
 
 
-def plant(dice, sectors, geometry, generation, free):
-    """Puts a tree of a mapping at random on free places: gives the top's place."""
-    _, cache_blocks, origin_blocks, _ = geometry
-    depth, _ = depth_and_nodes(cache_blocks)
-    kept = dice.choice((0.1, 0.5, 0.95))
-    origins = dice.sample(range(origin_blocks), min(cache_blocks, origin_blocks))
-    row = {c: 1 | dice.getrandbits(1) << 1 | dice.randrange(17) << 4 | origin << 16 for c, origin in enumerate(origins) if dice.random() < kept}
-    for level in range(1, depth + 1):
+def plant(dice, sectors, letters, generation, words, row, free):
+    """Puts a tree whose leaves have so many words, of which these are not 0, on free places: gives the top's place."""
+    for level in range(1, depth_and_nodes(words)[0] + 1):
         above = {}
         for index in sorted({number // 32 for number in row}):
             above[index] = free.pop(dice.randrange(len(free)))
             older = generation - dice.randrange(min(generation, 3) + 1)
-            sectors[above[index]] = node_sector(older, level, index, [row.get(32 * index + j, 0) for j in range(32)])
+            sectors[above[index]] = node_sector(letters, older, level, index, [row.get(32 * index + j, 0) for j in range(32)])
         row = above
     return row.get(0, 0)
 
 
+def entries(dice, version, cache_blocks, origin_blocks):
+    """Words of entries at random, by cache block."""
+    kept = dice.choice((0.1, 0.5, 0.95))
+    origins = dice.sample(range(origin_blocks), min(cache_blocks, origin_blocks))
+    may_be_dirty = version == 1
+    return {
+        c: 1 | (may_be_dirty and dice.getrandbits(1)) << 1 | dice.randrange(17) << 4 | origin << 16
+        for c, origin in enumerate(origins)
+        if dice.random() < kept
+    }
+
+
+def dirty_bits(dice, row):
+    """Words of dirty bits of blocks that have entries."""
+    frequent = dice.choice((0, 0.1, 0.9, 1))
+    words = {}
+    for block in row:
+        if dice.random() < frequent:
+            words[block // 64] = words.get(block // 64, 0) | 1 << block % 64
+    return words
+
+
 def good_image(dice):
-    geometry = dice.choice(GEOMETRIES)
-    sectors = [bytes(SECTOR)] * geometry[3]
-    free = list(range(2, geometry[3]))
+    version = dice.choice((1, 2))
+    block, cache_blocks, origin_blocks = dice.choice(SIZES if dice.randrange(20) else LARGE_SIZES)
+    many = least_sectors(version, cache_blocks)
+    sectors = [bytes(SECTOR)] * many
+    free = list(range(2, many))
     newest = dice.choice((1, 2, 3, 8, 255, 256, 2**32, 2**64 - 1))
     for generation in (newest - 1, newest):
-        sectors[generation % 2] = root_sector(generation, dice.getrandbits(1), geometry, plant(dice, sectors, geometry, generation, free))
+        row = entries(dice, version, cache_blocks, origin_blocks)
+        top, top_dirty, clean = plant(dice, sectors, MAPPING, generation, cache_blocks, row, free), 0, dice.getrandbits(1)
+        if version == 2 and generation == newest and dice.randrange(4):
+            clean, bits = 1, dirty_bits(dice, row)
+            top_dirty = plant(dice, sectors, DIRTY, generation, words_of_dirty_bits(cache_blocks), bits, free)
+        sectors[generation % 2] = root_sector(generation, version, clean, block, cache_blocks, origin_blocks, many, top, top_dirty)
     return sectors
 
 
@@ -153,12 +230,38 @@ def put(sector, at, data):
 
 def exchange(dice, sectors):
     """A word of a node takes another place, most often one that a node of the image has."""
-    above = [at for at, sector in enumerate(sectors) if sector.startswith(b"WBCNODE1") and sector[16] > 1]
+    above = [at for at, sector in enumerate(sectors) if sector[:8] in (MAPPING, DIRTY) and sector[16] > 1]
     if above:
         at = dice.choice(above)
         words = [j for j in range(32) if sectors[at][32 + 8 * j]] or [0]
         place = sectors[dice.choice(above)][32 + 8 * dice.choice(words)] if dice.getrandbits(2) else dice.randrange(len(sectors) + 1)
-        sectors[at] = put(sectors[at], 32 + 8 * dice.choice((dice.choice(words), dice.randrange(8))), struct.pack("<Q", place))
+        sectors[at] = put(sectors[at], 32 + 8 * dice.choice((dice.choice(words), dice.randrange(32))), struct.pack("<Q", place))
+
+
+def change_top(dice, sectors):
+    """A root names another node as a top, or one tree's as that of both."""
+    at = dice.randrange(min(2, len(sectors)))
+    tops = [sectors[at][40:44], sectors[at][44:48], struct.pack("<I", dice.randrange(len(sectors)))]
+    sectors[at] = put(sectors[at], dice.choice((40, 44, 44)), dice.choice(tops))
+
+
+def change_node(dice, sectors):
+    """A node has another level, index or generation, the other tree's letters, another dirty bit, or an entry of another block."""
+    nodes = [at for at, sector in enumerate(sectors) if sector[:8] in (MAPPING, DIRTY)]
+    if not nodes:
+        return
+    at = dice.choice(nodes)
+    letters, generation, level, index, _ = struct.unpack("<8sQIIQ", sectors[at][:32])
+    offset = 32 + 8 * dice.randrange(32)
+    word = struct.unpack_from("<Q", sectors[at], offset)[0]
+    entry = 1 | dice.randrange(17) << 4 | dice.randrange(dice.choice((8, 64, 4096))) << 16
+    sectors[at] = put(sectors[at], *dice.choice((
+        (16, struct.pack("<I", dice.choice((1, 2, 3, level + 1)))),
+        (20, struct.pack("<I", (index + dice.choice((1, 31, 2**32 - 1))) % 2**32)),
+        (8, struct.pack("<Q", (generation + 1 + dice.randrange(4)) % 2**64)),
+        (0, DIRTY if letters == MAPPING else MAPPING),
+        (offset, struct.pack("<Q", word ^ 1 << dice.randrange(64) if letters == DIRTY or level > 1 else entry)),
+    )))
 
 
 def change(dice, sectors):
@@ -167,8 +270,12 @@ def change(dice, sectors):
         sectors.append(bytes(SECTOR))
         return
     at, other = dice.randrange(len(sectors)), dice.randrange(len(sectors))
-    kind = dice.randrange(14)
-    if kind > 11:
+    kind = dice.randrange(18)
+    if kind > 15:
+        change_node(dice, sectors)
+    elif kind > 13:
+        change_top(dice, sectors)
+    elif kind > 11:
         exchange(dice, sectors)
     elif kind < 3:
         offset = dice.randrange(dice.choice((48, 288, SECTOR)))
@@ -182,55 +289,107 @@ def change(dice, sectors):
         sectors[at] = put(sectors[at], offset, struct.pack("<Q", word))
     elif kind < 8:
         # A field of a root or a node.
-        offset = dice.choice((8, 12, 16, 20, 24, 28, 32, 36, 40))
+        offset = dice.choice((8, 12, 16, 20, 24, 28, 32, 36, 40, 44))
         sectors[at] = put(sectors[at], offset, struct.pack("<I", dice.choice((0, 1, 2, 3, 4, 5, 8, 64, dice.getrandbits(32)))))
     elif kind == 8:
         sectors[at], sectors[other] = sectors[other], sectors[at]
     elif kind == 9:
         sectors[at] = sectors[other]
     elif kind == 10:
-        sectors[at] = dice.choice((bytes(SECTOR), dice.randbytes(SECTOR), b"WBCNODE1" + dice.randbytes(SECTOR - 8), b"\xff" * SECTOR))
+        sectors[at] = dice.choice((bytes(SECTOR), dice.randbytes(SECTOR), dice.choice((MAPPING, DIRTY)) + dice.randbytes(SECTOR - 8), b"\xff" * SECTOR))
     elif dice.getrandbits(1):
         del sectors[dice.randrange(len(sectors)):]
     else:
-        sectors += [bytes(SECTOR)] * dice.randrange(min(3, ROOM - len(sectors)))
+        sectors += [bytes(SECTOR)] * dice.randrange(3)
+
+
+# --- Images as rows.
+def rows_of_damage():
+    """The rows of scripts/cases/damage.txt: the sectors of each, what is said of them, and the row."""
+    with open(os.path.join(os.path.dirname(os.path.abspath(__file__)), "cases", "damage.txt"), encoding="utf-8") as file:
+        for row in file.read().splitlines():
+            if row and not row.startswith("#"):
+                place, changes, told = row.split("|")
+                words = [0] * 32
+                sectors = [
+                    bytes(SECTOR),
+                    root_sector(1, 1, 1, 64, 40, 40, 8, 4, 0),
+                    node_sector(MAPPING, 1, 1, 0, [1] + words[1:]),
+                    node_sector(MAPPING, 1, 1, 1, [0, 1 | 7 << 16] + words[2:]),
+                    node_sector(MAPPING, 1, 2, 0, [2, 3] + words[2:]),
+                ] + [bytes(SECTOR)] * 3
+                for one in changes.split():
+                    at, byte = one.split("=")
+                    sectors[int(place)] = put(sectors[int(place)], int(at), bytes.fromhex(byte))
+                yield sectors, told, row
+
+
+def write_image(file, sectors):
+    file.write(struct.pack("<H", len(sectors)).ljust(SECTOR, b"\0") + b"".join(sectors))
+
+
+def first_wrong_row(program):
+    """What is wrong with the first row that is not read as it says, by the program or by the slow reader."""
+    rows = list(rows_of_damage())
+    with tempfile.NamedTemporaryFile() as file:
+        for sectors, _, _ in rows:
+            write_image(file, sectors)
+        file.flush()
+        told = subprocess.run([program, file.name, "images"], capture_output=True, text=True, timeout=300).stdout.splitlines()
+    for (sectors, wanted, row), found in zip(rows, told + [""] * len(rows)):
+        for answer in (found, slow_answer(sectors)[0]):
+            if wanted != (answer if answer.startswith("refused") else answer.split(" ")[2:3][0] if answer else ""):
+                return f"the row '{row}': '{answer}'"
+    return None
 
 
 def batch(work):
-    """A thousand images: how many there were of each answer, and the first that differs."""
+    """A thousand images: how many there were of each answer and of each fault, and the first that differs."""
     program, seed = work
     dice = random.Random(seed)
-    counts, wanted = collections.Counter(), []
+    counts, faults, wanted = collections.Counter(), collections.Counter(), []
     with tempfile.NamedTemporaryFile() as file:
         for _ in range(BATCH):
             sectors = good_image(dice)
             for _ in range(dice.choice((0, 1, 1, 1, 2, 3, 5))):
                 change(dice, sectors)
-            file.write(bytes([len(sectors)]).ljust(SECTOR, b"\0") + b"".join(sectors).ljust((ROOM - 1) * SECTOR, b"\0"))
-            wanted.append(slow_answer(sectors))
-            counts[" ".join(wanted[-1].split()[:3]) if wanted[-1].startswith("refused") else "read"] += 1
+            write_image(file, sectors)
+            answer, fault = slow_answer(sectors)
+            wanted.append(answer)
+            counts[" ".join(answer.split()[:3]) if answer.startswith("refused") else "read"] += 1
+            faults[fault] += 1
         file.flush()
         told = subprocess.run([program, file.name, "images"], capture_output=True, text=True, timeout=300)
     found = told.stdout.splitlines()
     for number, (one, other) in enumerate(zip(found, wanted)):
         if one != other:
-            return counts, f"seed {seed}, image {number}: it says '{one}', and by the format it is '{other}'"
-    return counts, None if len(found) == BATCH and told.returncode == 0 else f"seed {seed}: {len(found)} answers, status {told.returncode}"
+            return counts, faults, f"seed {seed}, image {number}: it says '{one}', and by the format it is '{other}'"
+    return counts, faults, None if len(found) == BATCH and told.returncode == 0 else f"seed {seed}: {len(found)} answers, status {told.returncode}"
 
 
 def main():
     program = os.path.abspath(sys.argv[1])
     count = int(sys.argv[2]) if len(sys.argv) > 2 else 20000
     seed = int(sys.argv[3]) if len(sys.argv) > 3 else 1
-    counts, wrong, batches = collections.Counter(), 0, -(-count // BATCH)
+    counts, faults, wrong, batches = collections.Counter(), collections.Counter(), 0, -(-count // BATCH)
     with multiprocessing.Pool() as pool:
-        for answers, fault in pool.imap_unordered(batch, ((program, seed * 1000000 + number) for number in range(batches))):
+        for answers, kinds, why in pool.imap_unordered(batch, ((program, seed * 1000000 + number) for number in range(batches))):
             counts += answers
-            if fault:
+            faults += kinds
+            if why:
                 wrong += 1
-                print(f"failed: {fault}")
+                print(f"failed: {why}")
+    why = first_wrong_row(program)
+    if why:
+        wrong += 1
+        print(f"failed: {why}")
+    missing = [fault for fault in FAULTS if not faults[fault]]
+    if missing:
+        wrong += 1
+        print(f"failed: no image had as its first fault: {', '.join(missing)}")
     print(f"images: {sum(counts.values())} images: " + ", ".join(f"{number} {kind}" for kind, number in counts.most_common()))
-    print(f"{batches - wrong} passed, {wrong} failed")
+    print("images: first faults: " + ", ".join(f"{faults[fault]} {fault}" for fault in FAULTS))
+    print(f"{batches + 2 - wrong} passed, {wrong} failed")
     sys.exit(bool(wrong))
 
 

@@ -29,7 +29,7 @@ mod settles;
 
 use crate::asked::{Asked, Direction, Requests, read_asked};
 use crate::cached::{Took, time_cached};
-use crate::images::{Read, count_images, read_image};
+use crate::images::{Read, read_image};
 use crate::mapping::{read_mapping, write_mapping};
 use crate::requests::{drive_all, port_over};
 use crate::settles::{settle_all, tick_all};
@@ -138,8 +138,11 @@ fn tell(rt: &HostRuntime, nodes: Result<u64, Refusal>) -> ExitCode {
 
 /// Prints of each image what it stands for, or the refusal.
 fn tell_images(rt: &HostRuntime, file: &mut FileDisk) -> ExitCode {
-    for number in 0..count_images(file) {
-        let said = match read_image(rt.alloc(), file, number) {
+    let mut first = 0;
+    while first < file.sectors() {
+        let (read, behind) = read_image(rt.alloc(), file, first);
+        first = behind;
+        let said = match read {
             Ok(read) => {
                 let Read {
                     generation,

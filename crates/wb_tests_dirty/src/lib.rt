@@ -6,6 +6,4 @@ mod images;
 #[cfg(test)]
 mod planning;
 #[cfg(test)]
-mod random;
-#[cfg(test)]
 mod reading;

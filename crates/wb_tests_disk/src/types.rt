@@ -89,31 +89,32 @@ fn versions_are_two(rt: HostRuntime) {
 }
 
 /// Each refusal as a user reads it.
-const TEXTS: [(Refusal, u8, &str); 19] = [
-    (Refusal::Range, 1, "1 Range"),
-    (Refusal::Crosses, 2, "2 Crosses"),
-    (Refusal::Busy, 3, "3 Busy"),
-    (Refusal::Defer, 4, "4 Defer"),
-    (Refusal::Io(Dev::Metadata), 5, "5 Io metadata"),
-    (Refusal::Io(Dev::Cache), 5, "5 Io cache"),
-    (Refusal::Io(Dev::Origin), 5, "5 Io origin"),
-    (Refusal::Failed, 6, "6 Failed"),
-    (Refusal::Memory, 7, "7 Memory"),
-    (Refusal::Worn, 8, "8 Worn"),
-    (Refusal::Geometry, 9, "9 Geometry"),
-    (Refusal::NotFormatted, 10, "10 NotFormatted"),
-    (Refusal::Damaged(Place(3)), 11, "11 Damaged 3"),
-    (Refusal::Mismatch, 12, "12 Mismatch"),
-    (Refusal::NotClean, 13, "13 NotClean"),
-    (Refusal::BadMessage, 14, "14 BadMessage"),
-    (Refusal::WrongMode, 15, "15 WrongMode"),
-    (Refusal::BadTable, 16, "16 BadTable"),
-    (Refusal::GenerationEnd, 17, "17 GenerationEnd"),
+const TEXTS: [&(Refusal, u8, &str); 19] = [
+    &(Refusal::Range, 1, "1 Range"),
+    &(Refusal::Crosses, 2, "2 Crosses"),
+    &(Refusal::Busy, 3, "3 Busy"),
+    &(Refusal::Defer, 4, "4 Defer"),
+    &(Refusal::Io(Dev::Metadata), 5, "5 Io metadata"),
+    &(Refusal::Io(Dev::Cache), 5, "5 Io cache"),
+    &(Refusal::Io(Dev::Origin), 5, "5 Io origin"),
+    &(Refusal::Failed, 6, "6 Failed"),
+    &(Refusal::Memory, 7, "7 Memory"),
+    &(Refusal::Worn, 8, "8 Worn"),
+    &(Refusal::Geometry, 9, "9 Geometry"),
+    &(Refusal::NotFormatted, 10, "10 NotFormatted"),
+    &(Refusal::Damaged(Place(3)), 11, "11 Damaged 3"),
+    &(Refusal::Mismatch, 12, "12 Mismatch"),
+    &(Refusal::NotClean, 13, "13 NotClean"),
+    &(Refusal::BadMessage, 14, "14 BadMessage"),
+    &(Refusal::WrongMode, 15, "15 WrongMode"),
+    &(Refusal::BadTable, 16, "16 BadTable"),
+    &(Refusal::GenerationEnd, 17, "17 GenerationEnd"),
 ];
 
 #[test]
 fn a_refusal_shows_its_number_and_name(rt: HostRuntime) -> Result<(), Fail> {
-    for (refusal, number, text) in TEXTS {
+    for row in TEXTS {
+        let (refusal, number, text) = *row;
         let shown = format!(in rt.alloc(); "{refusal}")?;
         assert!(rt; shown.as_str() == text);
         assert!(rt; refusal.number() == number);

@@ -5,7 +5,6 @@ ghost use Rattle.wb_types.specs.declared.version.Version.TheVariants.{One};
 ghost use Rattle.wb_meta.specs.Placing.{HavePlaces};
 
 mod cycle;
-mod damage;
 mod failing;
 mod reading;
 mod rounds;

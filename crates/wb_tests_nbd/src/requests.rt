@@ -23,74 +23,74 @@ const ENDED: Row = Row {
 };
 
 /// Eight sectors are served, each full of its number.
-const ROWS: [Row; 13] = [
+const ROWS: [&Row; 13] = [
     // a read gives the sectors that it names
-    Row {
+    &Row {
         sent: "read 7 1024 1024, end 8",
         told: "reply 7, sector 2, sector 3",
         ..ENDED
     },
     // what was written is read
-    Row {
+    &Row {
         sent: "write 1 1536 512, sector 170, read 2 1536 512, end 3",
         told: "reply 1, reply 2, sector 170",
         ..ENDED
     },
     // a flush is one, and a durable write has one
-    Row {
+    &Row {
         sent: "flush 18446744073709551615, write 5 0 512 1, sector 9, end 6",
         told: "reply 18446744073709551615, reply 5",
         flushes: 2,
         ..ENDED
     },
     // an unknown command or flag is not served
-    Row {
+    &Row {
         sent: "trim 1 0 512, 65535 2, read 3 0 512 4, flush 4 0 0 2, end 6",
         told: "reply 1 22, reply 2 22, reply 3 22, reply 4 22",
         ..ENDED
     },
     // a read of no whole sectors, of none, or past the end is not served
-    Row {
+    &Row {
         sent: "read 1 1 512, read 2 0 511, read 3, read 4 4096 512, read 5 3584 1024, \
             read 6 18446744073709551104 512, read 7 0 4294966784, end 8",
         told: "reply 1 22, reply 2 22, reply 3 22, reply 4 22, reply 5 22, reply 6 22, reply 7 22",
         ..ENDED
     },
     // what a write carries that is not served is passed over
-    Row {
+    &Row {
         sent: "write 1 4096 512, sector 1, write 2 0 3, bytes abc, write 3 0 512 2, sector 1, read 4 0 512, end 5",
         told: "reply 1 28, reply 2 22, reply 3 22, reply 4, sector 0",
         ..ENDED
     },
     // a write past the end finds no room, one of no whole sectors or of none is invalid
-    Row {
+    &Row {
         sent: "write 1 3584 1024, sector 1, sector 1, write 2 4095 2 1, bytes ab, write 3 18446744073709551615 1, \
             bytes a, write 4 4095 1, bytes a, write 5, write 6 4096 1 2, bytes a, read 7 3584 512, end 8",
         told: "reply 1 28, reply 2 28, reply 3 28, reply 4 22, reply 5 22, reply 6 22, reply 7, sector 7",
         ..ENDED
     },
     // another first word ends it, and what was told stays
-    Row {
+    &Row {
         sent: "read 1 0 512, other 2 0 512",
         told: "reply 1, sector 0",
         ended: Err(Broken::Magic),
         ..ENDED
     },
     // a client that goes between two requests is gone
-    Row {
+    &Row {
         sent: "read 1 0 512",
         told: "reply 1, sector 0",
         ended: Err(Broken::Gone),
         ..ENDED
     },
     // a flush of a part is not served
-    Row {
+    &Row {
         sent: "flush 1 512, flush 2 0 512, end 3",
         told: "reply 1 22, reply 2 22",
         ..ENDED
     },
     // zeros are written where they are asked for, also where they may leave no hole, and are durable where that is wanted
-    Row {
+    &Row {
         sent: "zeros 1 1024 512, zeros 2 2048 1024 2, read 3 512 2560, zeros 4 0 512 3, zeros 5 3584 512 1, \
             read 6 3072 1024, end 7",
         told: "reply 1, reply 2, reply 3, sector 1, sector 0, sector 3, sector 0, sector 0, reply 4, reply 5, \
@@ -99,14 +99,14 @@ const ROWS: [Row; 13] = [
         ..ENDED
     },
     // zeros past the end find no room; those of no whole sectors or of none, and those that have to be written fast, are not served
-    Row {
+    &Row {
         sent: "zeros 1 3584 1024, zeros 2 0 4294966784, zeros 3 0 4294967295, zeros 4 0 511, zeros 5, \
             zeros 6 0 512 4, zeros 7 0 512 16, read 8 0 512, end 9",
         told: "reply 1 28, reply 2 28, reply 3 28, reply 4 22, reply 5 22, reply 6 22, reply 7 22, reply 8, sector 0",
         ..ENDED
     },
     // the flag by which zeros leave no hole is served with them alone, and trimming is not
-    Row {
+    &Row {
         sent: "read 1 512 512 2, write 2 512 512 2, sector 1, trim 3 512 512, read 4 512 512, end 5",
         told: "reply 1 22, reply 2 22, reply 3 22, reply 4, sector 1",
         ..ENDED

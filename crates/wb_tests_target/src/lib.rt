@@ -42,6 +42,8 @@ mod retiring;
 #[cfg(test)]
 mod sharing;
 #[cfg(test)]
+mod steps;
+#[cfg(test)]
 mod suspends;
 #[cfg(test)]
 mod threads;

@@ -1,9 +1,9 @@
 //! What an opening takes of the entries that are stored: without the clean flag none of their hints, and each block as dirty.
 
-use crate::fixture::{Lent, Memory, formatted, worked, write_and_read};
+use crate::fixture::{Memory, formatted};
 use crate::questions::{Question, answered_over};
+use crate::steps::{Count, Step};
 use std::alloc::Global;
-use std::sync::Wait;
 use std::test::Fail;
 use wb_disk::{Disk, MemDisk};
 use wb_format::Root;
@@ -60,31 +60,32 @@ fn put(disk: &mut MemDisk, at: u64, content: &Content) -> Result<(), Refusal> {
     Ok(())
 }
 
-/// Whether a block that is accessed four times gets this order.
-pub fn orders(rt: &impl Wait, client: &mut Lent<'_>, order: Order) -> bool {
-    write_and_read(rt, client, 320, 0x55)
-        && write_and_read(rt, client, 320, 0x55)
-        && worked(rt, client) == Some(order)
-}
-
-/// The block that makes way, and how many blocks are dirty.
+/// Metadata with or without the clean flag, which block makes way for one that is accessed four times, and how many blocks are dirty.
 #[derive(Clone, Copy)]
 struct Row {
     clean: bool,
-    victim: u32,
-    dirty: u32,
+    replaced: [Step; 3],
+    dirty: [Step; 1],
 }
 
 const ROWS: [Row; 2] = [
     Row {
         clean: false,
-        victim: 0,
-        dirty: 4,
+        replaced: [
+            Step::Accesses(320, 0x55),
+            Step::Accesses(320, 0x55),
+            Step::CarriesOut(Order::Replace(OBlock(0), OBlock(5), CBlock(0))),
+        ],
+        dirty: [Step::Counts(Count::Dirty(4))],
     },
     Row {
         clean: true,
-        victim: 3,
-        dirty: 0,
+        replaced: [
+            Step::Accesses(320, 0x55),
+            Step::Accesses(320, 0x55),
+            Step::CarriesOut(Order::Replace(OBlock(3), OBlock(5), CBlock(3))),
+        ],
+        dirty: [Step::Counts(Count::Dirty(0))],
     },
 ];
 
@@ -92,8 +93,7 @@ const ROWS: [Row; 2] = [
 fn hints_are_taken_with_the_clean_flag_alone(rt: HostRuntime) -> Result<(), Fail> {
     for row in &ROWS {
         let devices = stored(rt.alloc(), row.clean)?;
-        let order = Order::Replace(OBlock(row.victim), OBlock(5), CBlock(row.victim));
-        assert!(rt; answered_over(&rt, rt.alloc(), devices, Question::Orders(order))?);
+        assert!(rt; answered_over(&rt, rt.alloc(), devices, Question::Does(&row.replaced))?);
     }
     Ok(())
 }
@@ -102,8 +102,7 @@ fn hints_are_taken_with_the_clean_flag_alone(rt: HostRuntime) -> Result<(), Fail
 fn dirty_bits_are_taken_with_the_clean_flag_alone(rt: HostRuntime) -> Result<(), Fail> {
     for row in &ROWS {
         let devices = stored(rt.alloc(), row.clean)?;
-        let dirty = Question::CountsDirty(row.dirty);
-        assert!(rt; answered_over(&rt, rt.alloc(), devices, dirty)?);
+        assert!(rt; answered_over(&rt, rt.alloc(), devices, Question::Does(&row.dirty))?);
     }
     Ok(())
 }

@@ -320,10 +320,11 @@ fn play(alloc: Global, lines: &[Line]) -> Result<Option<usize>, Refusal> {
 }
 
 /// Plays each row, and fails by the name of one that does not go as it says.
-fn compare(alloc: Global, rows: &[Row]) -> Result<(), Fail> {
-    for (name, lines) in rows {
+fn compare(alloc: Global, rows: &[&Row]) -> Result<(), Fail> {
+    for row in rows {
+        let (name, lines) = **row;
         if play(alloc, lines)? != None {
-            return Err(Fail::from(*name));
+            return Err(Fail::from(name));
         }
     }
     Ok(())

@@ -32,7 +32,7 @@ impl Row {
 }
 
 /// Puts bytes into a sector from here on, as far as it goes.
-pub fn put(sector: &mut Content, at: usize, bytes: &[u8]) {
+fn put(sector: &mut Content, at: usize, bytes: &[u8]) {
     let mut rest = at;
     for byte in bytes {
         if rest < SECTOR_BYTES {
@@ -55,27 +55,16 @@ pub fn image_root_of(cache_blocks: u16, top: u8, top_dirty: u8) -> Option<Root> 
 
 /// The same of so many cache blocks and metadata sectors.
 pub fn sized_root(cache_blocks: u32, meta_sectors: u32, top: u8, top_dirty: u32) -> Option<Root> {
-    root_with(
-        3,
-        [cache_blocks, 4096, meta_sectors],
-        u32::from(top),
-        top_dirty,
-    )
-}
-
-/// The clean root of a generation, of so many cache blocks, origin blocks and metadata sectors, with these tops, 0 for none.
-pub fn root_with(generation: u64, sizes: [u32; 3], top: u32, top_dirty: u32) -> Option<Root> {
-    let [cache_blocks, origin_blocks, meta_sectors] = sizes;
     let mut sector = [0; SECTOR_BYTES];
     put(&mut sector, 0, b"WBCROOT1");
-    put(&mut sector, 8, &generation.to_le_bytes());
+    put(&mut sector, 8, &[3]);
     put(&mut sector, 16, &[2]);
     put(&mut sector, 20, &[1]);
     put(&mut sector, 24, &[64]);
     put(&mut sector, 28, &cache_blocks.to_le_bytes());
-    put(&mut sector, 32, &origin_blocks.to_le_bytes());
+    put(&mut sector, 32, &4096u32.to_le_bytes());
     put(&mut sector, 36, &meta_sectors.to_le_bytes());
-    put(&mut sector, 40, &top.to_le_bytes());
+    put(&mut sector, 40, &[top]);
     put(&mut sector, 44, &top_dirty.to_le_bytes());
     Root::read(&sector)
 }

@@ -3,7 +3,6 @@
 ghost use Rattle.std.specs.Prelude.{◌≡◌};
 ghost use Rattle.wb_types.specs.declared.version.Version.TheVariants.{One};
 
-use super::damage::good_sector;
 use super::put;
 use std::alloc::Global;
 use std::process::Abort;
@@ -11,10 +10,51 @@ use std::test::Fail;
 use wb_disk::MemDisk;
 use wb_faults::FaultDisk;
 use wb_meta::{format, read_state};
-use wb_types::{Dev, Geometry, Refusal};
+use wb_types::{Content, Dev, Geometry, Refusal};
 
 /// A disk in memory of which one call fails.
 type Failing = FaultDisk<MemDisk>;
+
+/// A root of generation 1 of a device of 8 sectors: blocks of 64 sectors, 40 on the cache and 40 on the origin, top node at 4.
+fn root_sector() -> Content {
+    let mut content = [0; 512];
+    content[..8].copy_from_slice(b"WBCROOT1");
+    content[8] = 1;
+    content[16] = 1;
+    content[20] = 1;
+    content[24] = 64;
+    content[28] = 40;
+    content[32] = 40;
+    content[36] = 8;
+    content[40] = 4;
+    content
+}
+
+/// A node of generation 1 by its level, its index, the low bytes of its first two words and the origin block in
+/// the second.
+fn node_sector(level: u8, index: u8, words: [u8; 2], origin: u8) -> Content {
+    let mut content = [0; 512];
+    content[..8].copy_from_slice(b"WBCNODE1");
+    content[8] = 1;
+    content[16] = level;
+    content[20] = index;
+    content[32] = words[0];
+    content[40] = words[1];
+    content[42] = origin;
+    content
+}
+
+/// The sectors of a device where cache block 0 holds origin block 0, and 33 holds 7: no root, a root of generation 1,
+/// a leaf at 2, one at 3, the top at 4.
+fn good_sector(at: u64) -> Content {
+    match at {
+        1 => root_sector(),
+        2 => node_sector(1, 0, [1, 0], 0),
+        3 => node_sector(1, 1, [0, 1], 7),
+        4 => node_sector(2, 0, [2, 3], 0),
+        _ => [0; 512],
+    }
+}
 
 /// How many nodes are read of a good device of which one read fails, and how many reads there were.
 fn read(alloc: Global, fails_at: u64) -> Result<(Result<usize, Refusal>, u64), Refusal> {

@@ -12,8 +12,8 @@ const WRITTEN: Line = Line::Shows(&[(0, 0x22), (1, 0x22), (2, 0)]);
 
 const CLEAN: Act = Act::Clean(0, BLOCK);
 
-pub const DEMOTIONS: [Row; 4] = [
-    (
+pub const DEMOTIONS: [&Row; 4] = [
+    &(
         "a demoted block is shown from the origin, with what was written to the cache",
         &[
             Line::Finishes(&[OPEN, PROMOTE, WRITE]),
@@ -23,7 +23,7 @@ pub const DEMOTIONS: [Row; 4] = [
             WRITTEN,
         ],
     ),
-    (
+    &(
         "a block that was written back stays where it is, and is dirty no longer",
         &[
             Line::Finishes(&[OPEN, PROMOTE, WRITE, CLEAN]),
@@ -33,7 +33,7 @@ pub const DEMOTIONS: [Row; 4] = [
             Line::Opened(1, 1, 1),
         ],
     ),
-    (
+    &(
         "a cache block takes a block again after a flush that began once its own had left",
         &[
             Line::Finishes(&[OPEN, PROMOTE, DEMOTE]),
@@ -45,7 +45,7 @@ pub const DEMOTIONS: [Row; 4] = [
             Line::Opened(2, 1, 0),
         ],
     ),
-    (
+    &(
         "a block that is nowhere is neither demoted nor written back, and one has one order at a time",
         &[
             Line::Finishes(&[OPEN]),

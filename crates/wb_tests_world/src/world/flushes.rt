@@ -13,15 +13,15 @@ use wb_types::Refusal;
 const LEADING: [Want; 7] = [CACHE, ORIGIN, METADATA, ROOT, METADATA, END, DONE];
 
 /// Nothing is mapped, so no image has a node.
-pub const FLUSHES: [Row; 3] = [
-    (
+pub const FLUSHES: [&Row; 3] = [
+    &(
         "a flush syncs cache and origin, writes a root and ends its commit",
         &[
             Line::Begins(0, Task::Open, 8),
             Line::Begins(1, Task::Flush, 9),
         ],
     ),
-    (
+    &(
         "a flush whose sync fails sets the failed bit, and the next one finds it",
         &[
             Line::Begins(0, Task::Open, 8),
@@ -36,7 +36,7 @@ pub const FLUSHES: [Row; 3] = [
             Line::Takes(2, &[FAILED]),
         ],
     ),
-    (
+    &(
         "a crash ends a flush, and what it had begun is opened again",
         &[
             Line::Begins(0, Task::Open, 8),
@@ -58,8 +58,8 @@ const IS_REFUSED: What = What::Stepped(ASK, Got::Refused(Refusal::Failed));
 const BROKEN: [Want; 3] = [SET_FAILED, BREAK, CACHE_FAILED];
 
 /// Flushes that come while a commit runs.
-pub const SHARED: [Row; 7] = [
-    (
+pub const SHARED: [&Row; 7] = [
+    &(
         "one gets a ticket, waits until that commit has ended, and leads one then",
         &[
             Line::Queue(2, &[2]),
@@ -69,7 +69,7 @@ pub const SHARED: [Row; 7] = [
             Line::Opened(3, 0, 0),
         ],
     ),
-    (
+    &(
         "two share the next commit: the one that asks first leads it, and the other is served once it has ended",
         &[
             Line::Queue(2, &[2, 3]),
@@ -82,7 +82,7 @@ pub const SHARED: [Row; 7] = [
             Line::Opened(3, 0, 0),
         ],
     ),
-    (
+    &(
         "all wait until the commit that runs is broken where it fails, and are refused then",
         &[
             Line::Queue(3, &[2, 3]),
@@ -101,7 +101,7 @@ pub const SHARED: [Row; 7] = [
             Line::Takes(1, &[ORIGIN_FAILED]),
         ],
     ),
-    (
+    &(
         "one whose own commit broke is refused, though the one before it has ended",
         &[
             Line::Queue(2, &[2, 3]),
@@ -117,7 +117,7 @@ pub const SHARED: [Row; 7] = [
             Line::Takes(3, &[FAILED]),
         ],
     ),
-    (
+    &(
         "one whose own commit has ended is served, though a later one broke",
         &[
             Line::Queue(2, &[2, 3]),
@@ -134,7 +134,7 @@ pub const SHARED: [Row; 7] = [
             Line::Takes(3, &[DONE]),
         ],
     ),
-    (
+    &(
         "one gets a ticket until a commit that failed is broken, and none from then on",
         &[
             Line::Queue(2, &[]),
@@ -156,7 +156,7 @@ pub const SHARED: [Row; 7] = [
             Line::Takes(2, &[FAILED]),
         ],
     ),
-    (
+    &(
         "a crash takes the ticket from one that waits, and behind an opening it leads a commit",
         &[
             Line::Queue(2, &[2]),

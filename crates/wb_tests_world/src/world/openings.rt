@@ -12,8 +12,8 @@ use wb_types::{Dev, Mode, Refusal};
 const METADATA_FAILED: Want = Want::End(Answer::Refused(Refusal::Io(Dev::Metadata)));
 
 /// Openings of which no step fails.
-pub const OPENINGS: [Row; 7] = [
-    (
+pub const OPENINGS: [&Row; 7] = [
+    &(
         "without a target only an opening starts, in any mode",
         &[
             Line::Does(Act::Read(0, FIRST_SECTOR), What::Skipped),
@@ -24,7 +24,7 @@ pub const OPENINGS: [Row; 7] = [
             Line::Does(Act::Open(0, Mode::Writeback), What::Skipped),
         ],
     ),
-    (
+    &(
         "an opening that asks for the second version is refused where the metadata have no room for it, and else skipped as any",
         &[
             Line::Does(Act::OpenSecond(64, Mode::Writeback), What::Skipped),
@@ -37,7 +37,7 @@ pub const OPENINGS: [Row; 7] = [
             Line::Does(Act::OpenSecond(0, Mode::Writeback), What::Skipped),
         ],
     ),
-    (
+    &(
         "an opening syncs the metadata, the cache and the origin",
         &[
             Line::Begins(3, Task::Open, 1),
@@ -45,7 +45,7 @@ pub const OPENINGS: [Row; 7] = [
             Line::Takes(3, &[CACHE, ORIGIN]),
         ],
     ),
-    (
+    &(
         "an opening reads both slots of metadata that were formatted",
         &[
             Line::Begins(0, Task::Open, 5),
@@ -53,7 +53,7 @@ pub const OPENINGS: [Row; 7] = [
             Line::Does(Act::Step(0), What::Skipped),
         ],
     ),
-    (
+    &(
         "an opening writes its root into the other slot, and makes it durable",
         &[
             Line::Begins(0, Task::Open, 5),
@@ -66,7 +66,7 @@ pub const OPENINGS: [Row; 7] = [
             Line::Does(Act::Step(0), What::Skipped),
         ],
     ),
-    (
+    &(
         "an opening is answered done, and no other starts over its target",
         &[
             Line::Begins(5, Task::Open, 7),
@@ -80,7 +80,7 @@ pub const OPENINGS: [Row; 7] = [
             Line::Does(Act::CrashOf(Dev::Metadata, 1, 1), What::Skipped),
         ],
     ),
-    (
+    &(
         "an opening gives up the one that was at work",
         &[
             Line::Begins(0, Task::Open, 1),
@@ -92,8 +92,8 @@ pub const OPENINGS: [Row; 7] = [
 ];
 
 /// Openings of which a sync or a read fails.
-pub const FAILURES: [Row; 5] = [
-    (
+pub const FAILURES: [&Row; 5] = [
+    &(
         "a sync that fails refuses the opening, and another may begin",
         &[
             Line::Begins(0, Task::Open, 1),
@@ -112,7 +112,7 @@ pub const FAILURES: [Row; 5] = [
             Line::Takes(0, &[METADATA_FAILED]),
         ],
     ),
-    (
+    &(
         "a read of metadata that fails refuses the opening",
         &[
             Line::Begins(0, Task::Open, 3),
@@ -126,7 +126,7 @@ pub const FAILURES: [Row; 5] = [
             Line::Does(Act::Open(1, Mode::Writeback), What::Started),
         ],
     ),
-    (
+    &(
         "a read that fails behind one that was done refuses the opening",
         &[
             Line::Begins(0, Task::Open, 4),
@@ -137,7 +137,7 @@ pub const FAILURES: [Row; 5] = [
             Line::Takes(0, &[METADATA_FAILED]),
         ],
     ),
-    (
+    &(
         "a failing read names sectors of the metadata, with 0 or 1",
         &[
             Line::Begins(0, Task::Open, 3),
@@ -151,7 +151,7 @@ pub const FAILURES: [Row; 5] = [
             Line::Takes(0, &[METADATA_FAILED]),
         ],
     ),
-    (
+    &(
         "a failing sync names sectors of its own device, with 0 or 1",
         &[
             Line::Does(Act::Open(0, Mode::Writeback), What::Started),
@@ -167,8 +167,8 @@ pub const FAILURES: [Row; 5] = [
 ];
 
 /// Openings whose root fails.
-pub const ROOTS: [Row; 3] = [
-    (
+pub const ROOTS: [&Row; 3] = [
+    &(
         "a write of the root that fails has landed where it is said",
         &[
             Line::Begins(0, Task::Open, 5),
@@ -182,7 +182,7 @@ pub const ROOTS: [Row; 3] = [
             Line::Does(Act::CrashOf(Dev::Metadata, 1, 1), What::Stopped),
         ],
     ),
-    (
+    &(
         "a write of the root that fails has not landed where it is said",
         &[
             Line::Begins(0, Task::Open, 5),
@@ -195,7 +195,7 @@ pub const ROOTS: [Row; 3] = [
             Line::Takes(0, &[METADATA_FAILED]),
         ],
     ),
-    (
+    &(
         "a sync of the root that fails refuses the opening, whose root a crash may keep",
         &[
             Line::Begins(0, Task::Open, 6),
@@ -211,8 +211,8 @@ pub const ROOTS: [Row; 3] = [
 ];
 
 /// Openings before and after a crash.
-pub const CRASHES: [Row; 4] = [
-    (
+pub const CRASHES: [&Row; 4] = [
+    &(
         "a crash ends the target, and the next opening is answered done over its root",
         &[
             Line::Begins(0, Task::Open, 8),
@@ -223,7 +223,7 @@ pub const CRASHES: [Row; 4] = [
             Line::Takes(63, &[ROOT, METADATA, DONE]),
         ],
     ),
-    (
+    &(
         "a root that a crash has kept is the one over which the next opening writes",
         &[
             Line::Begins(0, Task::Open, 6),
@@ -234,7 +234,7 @@ pub const CRASHES: [Row; 4] = [
             Line::Does(Act::CrashOf(Dev::Metadata, 0, 1), What::Stopped),
         ],
     ),
-    (
+    &(
         "a root that a crash has not kept is written once more",
         &[
             Line::Begins(0, Task::Open, 6),
@@ -245,7 +245,7 @@ pub const CRASHES: [Row; 4] = [
             Line::Does(Act::CrashOf(Dev::Metadata, 1, 1), What::Stopped),
         ],
     ),
-    (
+    &(
         "a crash ends an opening, and keeps contents that are there",
         &[
             Line::Does(Act::Open(0, Mode::Writeback), What::Started),

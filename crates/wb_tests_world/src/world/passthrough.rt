@@ -19,8 +19,8 @@ const COUNT_HIT: Want = Want::Cell(CellStep::Count(Kind::WriteHit));
 
 const NOT_CLEAN: Want = Want::End(Answer::Refused(Refusal::NotClean));
 
-pub const PASSTHROUGH: [Row; 6] = [
-    (
+pub const PASSTHROUGH: [&Row; 6] = [
+    &(
         "a write takes its block out of the cache, and writes on the origin alone",
         &[
             Line::Finishes(&[OPEN, PROMOTE, SUSPEND, PASS]),
@@ -43,7 +43,7 @@ pub const PASSTHROUGH: [Row; 6] = [
             Line::Shows(&[(0, 0x33)]),
         ],
     ),
-    (
+    &(
         "an invalidation takes it out without a copy",
         &[
             Line::Finishes(&[OPEN, PROMOTE, SUSPEND, PASS]),
@@ -53,7 +53,7 @@ pub const PASSTHROUGH: [Row; 6] = [
             Line::Opened(3, 0, 0),
         ],
     ),
-    (
+    &(
         "what a write took out is out of the next opening's cache once it was flushed, and the origin has it",
         &[
             Line::Finishes(&[OPEN, PROMOTE, SUSPEND, PASS]),
@@ -63,7 +63,7 @@ pub const PASSTHROUGH: [Row; 6] = [
             Line::Shows(&[(0, 0x33)]),
         ],
     ),
-    (
+    &(
         "an invalidation starts in passthrough alone, and not of a block that is not there",
         &[
             Line::Finishes(&[OPEN]),
@@ -78,7 +78,7 @@ pub const PASSTHROUGH: [Row; 6] = [
             Line::Finishes(&[Act::Invalidate(1, OBlock(9))]),
         ],
     ),
-    (
+    &(
         "nothing is promoted in passthrough",
         &[
             Line::Finishes(&[PASS]),
@@ -88,7 +88,7 @@ pub const PASSTHROUGH: [Row; 6] = [
             ),
         ],
     ),
-    (
+    &(
         "an opening in passthrough is refused where what it read was not left clean",
         &[
             Line::Finishes(&[OPEN]),

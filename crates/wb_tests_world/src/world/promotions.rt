@@ -11,8 +11,8 @@ const WRITE: Act = Act::WriteOf(0, FIRST_SECTOR, 0x11);
 /// Behind a promotion this is written to the cache.
 const WRITE_AGAIN: Act = Act::WriteOf(0, BOTH_SECTORS, 0x22);
 
-pub const PROMOTIONS: [Row; 6] = [
-    (
+pub const PROMOTIONS: [&Row; 6] = [
+    &(
         "a promoted block is shown from the cache, with what was written there",
         &[
             Line::Finishes(&[OPEN, WRITE, PROMOTE]),
@@ -23,7 +23,7 @@ pub const PROMOTIONS: [Row; 6] = [
             Line::Shows(&[(0, 0x22), (1, 0x22), (2, 0)]),
         ],
     ),
-    (
+    &(
         "after a crash each sector of the cache shows what it kept, and every block counts as dirty",
         &[
             Line::Finishes(&[OPEN, WRITE, PROMOTE, FLUSH, WRITE_AGAIN]),
@@ -32,7 +32,7 @@ pub const PROMOTIONS: [Row; 6] = [
             Line::Shows(&[(0, 0x11), (1, 0x22)]),
         ],
     ),
-    (
+    &(
         "a block that no flush has covered is on the origin after a crash",
         &[
             Line::Finishes(&[OPEN, WRITE, PROMOTE]),
@@ -41,7 +41,7 @@ pub const PROMOTIONS: [Row; 6] = [
             Line::Shows(&[(0, 0x11)]),
         ],
     ),
-    (
+    &(
         "a cache block takes one promotion, and a block has one at a time",
         &[
             Line::Finishes(&[OPEN]),
@@ -62,7 +62,7 @@ pub const PROMOTIONS: [Row; 6] = [
             Line::Opened(1, 1, 0),
         ],
     ),
-    (
+    &(
         "in write-through a write of a cached block reaches the origin too, and the block stays clean",
         &[
             Line::Finishes(&[OPEN_THROUGH, PROMOTE, FLUSH, WRITE]),
@@ -73,7 +73,7 @@ pub const PROMOTIONS: [Row; 6] = [
             Line::Shows(&[(0, 0x11)]),
         ],
     ),
-    (
+    &(
         "where a crash leaves that write on the origin alone the next opening shows the cache",
         &[
             Line::Finishes(&[OPEN_THROUGH, PROMOTE, FLUSH, WRITE]),

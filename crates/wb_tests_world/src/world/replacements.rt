@@ -23,8 +23,8 @@ const REPLACE: Act = Act::Replace(0, OLD, NEW);
 
 const FOLLOW: Act = Act::Promote(0, NEW, CBlock(0));
 
-pub const REPLACEMENTS: [Row; 4] = [
-    (
+pub const REPLACEMENTS: [&Row; 4] = [
+    &(
         "a block follows one that went home, after a flush of its actor",
         &[
             Line::Finishes(&[OPEN, PROMOTE, WRITE, REPLACE]),
@@ -39,7 +39,7 @@ pub const REPLACEMENTS: [Row; 4] = [
             Line::Shows(&[(64, 0x33)]),
         ],
     ),
-    (
+    &(
         "another's flush is not enough, nor may another follow",
         &[
             Line::Finishes(&[OPEN, PROMOTE, REPLACE, Act::Flush(1)]),
@@ -52,7 +52,7 @@ pub const REPLACEMENTS: [Row; 4] = [
             Line::Opened(3, 1, 0),
         ],
     ),
-    (
+    &(
         "only a mapped block makes way, and only for one that is nowhere; once it has left it does not again",
         &[
             Line::Finishes(&[OPEN]),
@@ -65,7 +65,7 @@ pub const REPLACEMENTS: [Row; 4] = [
             Line::Does(Act::Replace(0, OLD, NEW), BUSY),
         ],
     ),
-    (
+    &(
         "a crash ends an order that waits for a flush",
         &[
             Line::Finishes(&[OPEN, PROMOTE, REPLACE]),

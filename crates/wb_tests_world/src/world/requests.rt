@@ -33,8 +33,8 @@ pub const WRITTEN_AND_GIVEN: [Line; 6] = [
     Line::Gives(7),
 ];
 
-pub const REQUESTS: [Row; 5] = [
-    (
+pub const REQUESTS: [&Row; 5] = [
+    &(
         "a read or write is refused for its sectors, and a busy actor gets no other job",
         &[
             Line::Begins(0, Task::Open, 8),
@@ -71,7 +71,7 @@ pub const REQUESTS: [Row; 5] = [
             Line::Does(Act::Step(64), What::Skipped),
         ],
     ),
-    (
+    &(
         "a read takes one sector after the other",
         &[
             Line::Begins(0, Task::Open, 8),
@@ -80,7 +80,7 @@ pub const REQUESTS: [Row; 5] = [
             Line::Takes(0, &[READ_SECOND, COUNT_READ]),
         ],
     ),
-    (
+    &(
         "a read beside a write of its block is refused as busy, and one that loses its exchange, too",
         &[
             Line::Begins(0, Task::Open, 8),
@@ -94,7 +94,7 @@ pub const REQUESTS: [Row; 5] = [
             Line::Takes(2, &[BUSY]),
         ],
     ),
-    (
+    &(
         "two share a block",
         &[
             Line::Begins(0, Task::Open, 8),
@@ -104,7 +104,7 @@ pub const REQUESTS: [Row; 5] = [
             Line::Takes(2, &[SHARE_THE_SHARED]),
         ],
     ),
-    (
+    &(
         "a crash ends requests",
         &[
             Line::Begins(0, Task::Open, 8),
@@ -119,8 +119,8 @@ pub const REQUESTS: [Row; 5] = [
 ];
 
 /// Requests whose device step fails, or is lost to a crash.
-pub const FAILED_REQUESTS: [Row; 4] = [
-    (
+pub const FAILED_REQUESTS: [&Row; 4] = [
+    &(
         "a read that fails gives its block back",
         &[
             Line::Begins(0, Task::Open, 8),
@@ -136,7 +136,7 @@ pub const FAILED_REQUESTS: [Row; 4] = [
             Line::Does(Act::Write(0, FIRST_SECTOR), What::Started),
         ],
     ),
-    (
+    &(
         "a write that fails keeps its block, and fails the target, over which then an opening starts",
         &[
             Line::Begins(0, Task::Open, 8),
@@ -155,7 +155,7 @@ pub const FAILED_REQUESTS: [Row; 4] = [
             Line::Does(Act::CrashOf(Dev::Origin, 0, 1), What::Stopped),
         ],
     ),
-    (
+    &(
         "a write that fails has not landed where it is said",
         &[
             Line::Begins(0, Task::Open, 8),
@@ -167,7 +167,7 @@ pub const FAILED_REQUESTS: [Row; 4] = [
             Line::Does(Act::CrashOf(Dev::Origin, 0, 1), What::Skipped),
         ],
     ),
-    (
+    &(
         "a write that was done may be lost to a crash, or kept",
         &[
             Line::Begins(0, Task::Open, 8),

@@ -19,8 +19,8 @@ const NODE: Want = Want::Device(DeviceStep::WriteNode(0));
 
 const SET_SUSPENDED: Want = Want::Cell(CellStep::SetSuspended);
 
-pub const SUSPENDS: [Row; 6] = [
-    (
+pub const SUSPENDS: [&Row; 6] = [
+    &(
         "a suspend looks at the seal of what is mapped, commits, and sets the suspended bit, which each task finds",
         &[
             Line::Finishes(&[OPEN, PROMOTE, WRITE]),
@@ -34,7 +34,7 @@ pub const SUSPENDS: [Row; 6] = [
             Line::Takes(2, &[FAILED]),
         ],
     ),
-    (
+    &(
         "a block that was dirty is dirty after a suspend and an opening, and shows what was written",
         &[
             Line::Finishes(&[OPEN, PROMOTE, FLUSH, WRITE, SUSPEND, OPEN]),
@@ -42,14 +42,14 @@ pub const SUSPENDS: [Row; 6] = [
             Line::Shows(&[(0, 0x22)]),
         ],
     ),
-    (
+    &(
         "one that was clean is clean",
         &[
             Line::Finishes(&[OPEN, PROMOTE, SUSPEND, OPEN]),
             Line::Opened(3, 1, 0),
         ],
     ),
-    (
+    &(
         "a suspend is refused as busy while another has a task, and skipped for who has one",
         &[
             Line::Finishes(&[OPEN]),
@@ -58,7 +58,7 @@ pub const SUSPENDS: [Row; 6] = [
             Line::Does(Act::Suspend(1), What::Skipped),
         ],
     ),
-    (
+    &(
         "nothing starts before its answer, no opening either",
         &[
             Line::Finishes(&[OPEN]),
@@ -70,7 +70,7 @@ pub const SUSPENDS: [Row; 6] = [
             Line::Does(Act::Step(1), What::Stepped(BEGIN_CLEAN, Got::Began(0))),
         ],
     ),
-    (
+    &(
         "a suspend whose sync fails sets the failed bit, and the target may be opened once it has answered",
         &[
             Line::Finishes(&[OPEN]),

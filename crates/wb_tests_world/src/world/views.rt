@@ -3,8 +3,8 @@
 use super::line::{Act, Line, Row, Task};
 use wb_promise::What;
 
-pub const VIEWS: [Row; 2] = [
-    (
+pub const VIEWS: [&Row; 2] = [
+    &(
         "without a target nothing is shown",
         &[
             Line::Hides(0),
@@ -14,7 +14,7 @@ pub const VIEWS: [Row; 2] = [
             Line::Hides(0),
         ],
     ),
-    (
+    &(
         "a target shows the origin's sectors, and what was written last",
         &[
             Line::Begins(0, Task::Open, 8),
