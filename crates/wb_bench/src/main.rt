@@ -139,7 +139,11 @@ fn tell(rt: &HostRuntime, nodes: Result<u64, Refusal>) -> ExitCode {
 /// Prints of each image what it stands for, or the refusal.
 fn tell_images(rt: &HostRuntime, file: &mut FileDisk) -> ExitCode {
     let mut first = 0;
-    while first < file.sectors() {
+    // Each image has one sector at the least.
+    for _ in 0..file.sectors() {
+        if first >= file.sectors() {
+            break;
+        }
         let (read, behind) = read_image(rt.alloc(), file, first);
         first = behind;
         let said = match read {
