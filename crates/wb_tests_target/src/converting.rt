@@ -1,9 +1,10 @@
 //! Metadata of version 1 that are opened where version 2 is asked for.
 
 use crate::faults::{Failing, Trial, count_borne, crashed, unwrapped};
-use crate::fixture::{Memory, formatted, formatted_on, open, open_second};
+use crate::fixture::{
+    Asked, Lent, Memory, formatted, formatted_on, open, open_second, shows, worked, write_and_read,
+};
 use crate::questions::{Question, answered_of, answered_over, done_by};
-use crate::steps::{Count, Step};
 use std::alloc::Global;
 use std::sync::Wait;
 use std::test::Fail;
@@ -28,45 +29,34 @@ const CONVERTED_LINE: &str =
 const UNCONVERTED_LINE: &str =
     "1 3/5 64 4/4 0 0 0 0 0 0 1 1 writeback 2 migration_threshold 2048 tinylfu 2 promote_min 2 rw -";
 
-/// The first four blocks are cached, the second of which was asked for least, and the first is written then.
-const ONE_LEFT_DIRTY: [Step; 12] = [
-    Step::Accesses(0, 0x10),
-    Step::Shows(0, 0x10),
-    Step::CarriesOutOne,
-    Step::Accesses(64, 0x10),
-    Step::CarriesOutOne,
-    Step::Accesses(128, 0x10),
-    Step::Shows(128, 0x10),
-    Step::CarriesOutOne,
-    Step::Accesses(192, 0x10),
-    Step::Shows(192, 0x10),
-    Step::CarriesOutOne,
-    Step::Accesses(0, 0x22),
-];
+/// Whether the first four blocks are cached, the second of which was asked for least, and the first is written then.
+pub fn leaves_one_dirty(rt: &impl Wait, client: &mut Lent<'_>) -> bool {
+    (0..4).all(|block| {
+        let at = 64 * block;
+        write_and_read(rt, client, at, 0x10)
+            && (block == 1 || shows(rt, client, at, 0x10))
+            && worked(rt, client).is_some()
+    }) && write_and_read(rt, client, 0, 0x22)
+}
 
-/// Each of the four blocks shows what was left.
-const LEFT_SHOWN: [Step; 5] = [
-    Step::Counts(Count::Mapped(4)),
-    Step::Shows(0, 0x22),
-    Step::Shows(64, 0x10),
-    Step::Shows(128, 0x10),
-    Step::Shows(192, 0x10),
-];
+/// Whether a target of version 2 is as that was left: what is mapped and dirty, what each block shows, and which one makes way.
+pub fn is_converted(asked: &Asked<'_, impl Wait>, client: &mut Lent<'_>) -> bool {
+    let rt = asked.rt;
+    asked.tells(CONVERTED_LINE)
+        && write_and_read(rt, client, 256, 0x55)
+        && worked(rt, client) == Some(Order::Replace(OBlock(1), OBlock(4), CBlock(1)))
+        && shows_what_was_left(rt, client)
+}
 
-/// A target of version 2 is as that was left: each block shows it, and that which was asked for least makes way.
-const CONVERTED: [Step; 6] = [
-    Step::Accesses(256, 0x55),
-    Step::CarriesOut(Order::Replace(OBlock(1), OBlock(4), CBlock(1))),
-    Step::Shows(0, 0x22),
-    Step::Shows(64, 0x10),
-    Step::Shows(128, 0x10),
-    Step::Shows(192, 0x10),
-];
+/// Whether each of the four blocks shows what was left.
+pub fn shows_what_was_left(rt: &impl Wait, client: &mut Lent<'_>) -> bool {
+    shows(rt, client, 0, 0x22) && (1..4).all(|block| shows(rt, client, 64 * block, 0x10))
+}
 
 /// Devices with room for version 2, whose metadata are of version 1, after a life of one that was suspended.
 fn left(rt: &impl Wait, alloc: Global) -> Result<Memory, Refusal> {
     let (devices, target) = open(alloc, formatted_on(alloc, 5)?)?;
-    let (devices, done) = done_by(rt, alloc, &target, devices, Question::Does(&ONE_LEFT_DIRTY))?;
+    let (devices, done) = done_by(rt, alloc, &target, devices, Question::LeavesOneDirty)?;
     let (devices, answer) = target.suspend(rt, devices);
     answer?;
     if done {
@@ -81,7 +71,7 @@ fn answered_second(
     rt: &impl Wait,
     alloc: Global,
     devices: Memory,
-    question: Question<'_>,
+    question: Question,
 ) -> Result<bool, Refusal> {
     let (devices, target) = open_second(alloc, devices)?;
     answered_of(rt, alloc, &target, devices, question)
@@ -90,8 +80,7 @@ fn answered_second(
 #[test]
 fn a_converted_cache_is_opened_as_it_was(rt: HostRuntime) -> Result<(), Fail> {
     let devices = left(&rt, rt.alloc())?;
-    let converted = Question::TellsAndDoes(CONVERTED_LINE, &CONVERTED);
-    assert!(rt; answered_second(&rt, rt.alloc(), devices, converted)?);
+    assert!(rt; answered_second(&rt, rt.alloc(), devices, Question::IsConverted)?);
     Ok(())
 }
 
@@ -149,8 +138,8 @@ pub fn is_conversion_borne(
     } else {
         open(alloc, memory)?
     };
-    let shown = answered_of(rt, alloc, &target, memory, Question::Does(&LEFT_SHOWN))?;
-    Ok(Some(shown))
+    let shown = answered_of(rt, alloc, &target, memory, Question::ShowsWhatWasLeft)?;
+    Ok(Some(shown && target.counts(rt).mapped == 4))
 }
 
 #[test]
@@ -177,8 +166,7 @@ fn a_value_out_of_range_is_told_before_a_node_is_written(rt: HostRuntime) -> Res
     let keys = [(Key::PromoteMin, 18)];
     let devices = left(&rt, rt.alloc())?;
     let (devices, refusal, has_written) = tried(rt.alloc(), devices, &keys, FIRST_WRITE);
-    let stays = Question::DoesAndTells(&[], UNCONVERTED_LINE);
-    let stays = answered_over(&rt, rt.alloc(), devices, stays)?;
+    let stays = answered_over(&rt, rt.alloc(), devices, Question::Tells(UNCONVERTED_LINE))?;
     assert!(rt; refusal == Some(Refusal::BadMessage) && !has_written && stays);
     Ok(())
 }

@@ -42,8 +42,6 @@ mod retiring;
 #[cfg(test)]
 mod sharing;
 #[cfg(test)]
-mod steps;
-#[cfg(test)]
 mod suspends;
 #[cfg(test)]
 mod threads;

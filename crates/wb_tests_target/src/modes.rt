@@ -1,27 +1,29 @@
 //! Writes in write-through and in passthrough, and writes with FUA.
 
 use crate::faults::crashed;
-use crate::fixture::{Memory, formatted, open_passing, open_through};
+use crate::fixture::{
+    Asked, Lent, Memory, begun_with, formatted, open_passing, open_through, worked, write_and_read,
+};
 use crate::questions::{Question, answered_over, done_by};
-use crate::steps::Step;
 use crate::unclean::stored_as;
 use std::alloc::Global;
 use std::sync::Wait;
 use std::test::Fail;
 use wb_disk::{Base, CrashChoice, Disk, MemDisk};
 use wb_policy::Order;
-use wb_types::{CBlock, OBlock, Refusal, SECTOR_BYTES};
+use wb_target::Flushed;
+use wb_types::{CBlock, OBlock, Refusal, SECTOR_BYTES, Sector};
 
-/// The first block, once it is cached, is written, with nothing dirty.
-const WRITTEN_THROUGH: [Step; 3] = [
-    Step::Accesses(0, 0x11),
-    Step::CarriesOut(Order::Promote(OBlock(0), CBlock(0))),
-    Step::Writes(0, 0x22),
-];
-
-/// How the status line counts that.
-const WRITTEN_THROUGH_LINE: &str =
-    "1 2/4 64 1/4 0 1 1 1 0 1 0 1 writethrough 2 migration_threshold 2048 tinylfu 2 promote_min 2 rw -";
+/// Whether the first block, once it is cached, is written and counted as the status line of write-through says, with nothing dirty.
+pub fn writes_through(asked: &Asked<'_, impl Wait>, client: &mut Lent<'_>) -> bool {
+    let rt = asked.rt;
+    write_and_read(rt, client, 0, 0x11)
+        && worked(rt, client) == Some(Order::Promote(OBlock(0), CBlock(0)))
+        && client.write(rt, Sector(0), &[begun_with(0x22)]).is_ok()
+        && asked.tells(
+            "1 2/4 64 1/4 0 1 1 1 0 1 0 1 writethrough 2 migration_threshold 2048 tinylfu 2 promote_min 2 rw -",
+        )
+}
 
 /// Whether a device's first sector begins with this byte.
 fn holds(device: &mut MemDisk, byte: u8) -> bool {
@@ -32,8 +34,7 @@ fn holds(device: &mut MemDisk, byte: u8) -> bool {
 /// The devices of a target on which that was done, and whether it was.
 fn written_through(rt: &impl Wait, alloc: Global) -> Result<(Memory, bool), Refusal> {
     let (devices, target) = open_through(alloc, formatted(alloc)?)?;
-    let written = Question::DoesAndTells(&WRITTEN_THROUGH, WRITTEN_THROUGH_LINE);
-    done_by(rt, alloc, &target, devices, written)
+    done_by(rt, alloc, &target, devices, Question::WritesThrough)
 }
 
 #[test]
@@ -43,22 +44,21 @@ fn write_through_writes_a_cached_block_on_both_devices(rt: HostRuntime) -> Resul
     Ok(())
 }
 
-/// The first block, which is mapped, is written without a wait only once it has left the cache.
-const DISPLACED: [Step; 3] = [
-    Step::Tries(0, 1, 0x55, Err(Refusal::Defer)),
-    Step::Accesses(0, 0x66),
-    Step::Tries(1, 1, 0x77, Ok(())),
-];
-
-/// How the status line counts that: as a hit and a demotion.
-const DISPLACED_LINE: &str =
-    "1 3/4 64 3/4 0 1 1 1 1 0 0 1 passthrough 2 migration_threshold 2048 tinylfu 2 promote_min 2 rw -";
+/// Whether the first block, which is mapped, is written without a wait only once it has left the cache, and counted as a hit and a demotion.
+pub fn displaces(asked: &Asked<'_, impl Wait>, client: &mut Lent<'_>) -> bool {
+    let rt = asked.rt;
+    client.port.try_write(Sector(0), &[begun_with(0x55)]) == Err(Refusal::Defer)
+        && write_and_read(rt, client, 0, 0x66)
+        && client.port.try_write(Sector(1), &[begun_with(0x77)]) == Ok(())
+        && asked.tells(
+            "1 3/4 64 3/4 0 1 1 1 1 0 0 1 passthrough 2 migration_threshold 2048 tinylfu 2 promote_min 2 rw -",
+        )
+}
 
 /// The devices of a target on which that was done, and whether it was.
 fn displaced(rt: &impl Wait, alloc: Global) -> Result<(Memory, bool), Refusal> {
     let (devices, target) = open_passing(alloc, stored_as(alloc, 1, true, false)?)?;
-    let displaced = Question::DoesAndTells(&DISPLACED, DISPLACED_LINE);
-    done_by(rt, alloc, &target, devices, displaced)
+    done_by(rt, alloc, &target, devices, Question::Displaces)
 }
 
 #[test]
@@ -68,21 +68,20 @@ fn a_write_in_passthrough_takes_its_block_out_of_the_cache(rt: HostRuntime) -> R
     Ok(())
 }
 
-/// A write with FUA of two blocks is done.
-const WRITTEN_DURABLY: [Step; 1] = [Step::WritesDurably(63, 0x44)];
-
-/// Both sectors are found.
-const FOUND: [Step; 2] = [Step::Shows(63, 0x44), Step::Shows(64, 0x44)];
+/// Whether a write with FUA of two blocks is done.
+pub fn writes_durably(rt: &impl Wait, client: &mut Lent<'_>) -> bool {
+    let two = [begun_with(0x33), begun_with(0x44)];
+    matches!(client.write_fua(rt, Sector(63), &two), Ok(Flushed::Led))
+}
 
 /// Whether it is found after a crash that leaves what was durable alone.
 fn is_durable(rt: &impl Wait, alloc: Global) -> Result<bool, Refusal> {
     let (devices, target) = open_through(alloc, formatted(alloc)?)?;
-    let written = Question::Does(&WRITTEN_DURABLY);
-    let (mut devices, done) = done_by(rt, alloc, &target, devices, written)?;
+    let (mut devices, done) = done_by(rt, alloc, &target, devices, Question::WritesDurably)?;
     let choice = CrashChoice::new(Base::Durable, Vec::new(alloc));
     Ok(
         done && crashed(&mut devices, &choice)
-            && answered_over(rt, alloc, devices, Question::Does(&FOUND))?,
+            && answered_over(rt, alloc, devices, Question::Shows(64, 0x44))?,
     )
 }
 

@@ -1,16 +1,18 @@
 //! Openings that are refused, and what they leave.
 
-use crate::fixture::{Memory, formatted};
+use crate::fixture::{Lent, Memory, formatted, shows, worked, write_and_read};
 use crate::questions::{Question, answered, answered_over, answered_under};
-use crate::steps::{Count, Step};
 use std::alloc::Global;
+use std::sync::Wait;
 use std::test::Fail;
 use wb_policy::{Order, TinyLfu};
 use wb_target::Target;
 use wb_types::{CBlock, Key, Mode, OBlock, Refusal};
 
-/// The first root that an opening has written is the target's.
-const OPENED_ONCE: [Step; 1] = [Step::Counts(Count::Generation(1))];
+/// Whether the first root that an opening has written is a target's.
+pub fn was_opened(rt: &impl Wait, target: &Target<TinyLfu>) -> bool {
+    target.counts(rt).generation == 1
+}
 
 /// Whether an opening with these values is refused as a bad message, and the devices that it leaves.
 fn refused(alloc: Global, devices: Memory, keys: &[(Key, u64)]) -> (Memory, bool) {
@@ -29,7 +31,7 @@ fn refused(alloc: Global, devices: Memory, keys: &[(Key, u64)]) -> (Memory, bool
 fn a_value_out_of_range_is_refused_before_the_root_is_written(rt: HostRuntime) -> Result<(), Fail> {
     let keys = [(Key::PromoteMin, 18)];
     let (devices, is_refused) = refused(rt.alloc(), formatted(rt.alloc())?, &keys);
-    let was_opened = answered_over(&rt, rt.alloc(), devices, Question::Does(&OPENED_ONCE));
+    let was_opened = answered_over(&rt, rt.alloc(), devices, Question::WasOpened);
     assert!(rt; is_refused && was_opened?);
     Ok(())
 }
@@ -40,23 +42,22 @@ pub const NEW_LINE: &str =
 
 #[test]
 fn a_status_line_tells_how_a_target_is(rt: HostRuntime) -> Result<(), Fail> {
-    assert!(rt; answered(&rt, rt.alloc(), Question::DoesAndTells(&[], NEW_LINE))?);
+    assert!(rt; answered(&rt, rt.alloc(), Question::Tells(NEW_LINE))?);
     Ok(())
 }
 
-/// A block is cached at its third access, and at none before.
-const CACHED_AT_THE_THIRD: [Step; 4] = [
-    Step::Accesses(70, 0x11),
-    Step::Idles,
-    Step::Shows(70, 0x11),
-    Step::CarriesOut(Order::Promote(OBlock(1), CBlock(0))),
-];
+/// Whether a block is cached at its third access, and at none before.
+pub fn caches_at_the_third(rt: &impl Wait, client: &mut Lent<'_>) -> bool {
+    write_and_read(rt, client, 70, 0x11)
+        && worked(rt, client).is_none()
+        && shows(rt, client, 70, 0x11)
+        && worked(rt, client) == Some(Order::Promote(OBlock(1), CBlock(0)))
+}
 
 #[test]
 fn a_target_goes_by_the_values_that_its_opening_was_told(rt: HostRuntime) -> Result<(), Fail> {
     let keys = [(Key::PromoteMin, 3)];
     let devices = formatted(rt.alloc())?;
-    let cached = Question::Does(&CACHED_AT_THE_THIRD);
-    assert!(rt; answered_under(&rt, rt.alloc(), devices, &keys, cached)?);
+    assert!(rt; answered_under(&rt, rt.alloc(), devices, &keys, Question::CachesAtTheThird)?);
     Ok(())
 }

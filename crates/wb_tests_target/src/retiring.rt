@@ -1,8 +1,7 @@
 //! Clients that come and go.
 
-use crate::fixture::{Memory, client_of, formatted, open};
+use crate::fixture::{Lent, Memory, begun_with, client_of, formatted, open};
 use crate::questions::{Question, answered_of, done_by};
-use crate::steps::Step;
 use std::alloc::Global;
 use std::sync::Wait;
 use std::test::Fail;
@@ -10,20 +9,20 @@ use wb_devices::Devices;
 use wb_disk::MemDisk;
 use wb_policy::{Order, TinyLfu};
 use wb_target::{CLIENTS, Target};
-use wb_types::{CBlock, OBlock, Refusal};
+use wb_types::{CBlock, OBlock, Refusal, Sector};
 
-/// The first sector is written twice, none of which is settled.
-const WRITTEN_TWICE: [Step; 1] = [Step::TriesOften(0, 2)];
-
-/// The order that comes of that.
-const ORDERED: [Step; 1] = [Step::CarriesOut(Order::Promote(OBlock(0), CBlock(0)))];
+/// Whether the first sector is written twice, none of which is settled.
+pub fn writes_twice(client: &mut Lent<'_>) -> bool {
+    let sector = [begun_with(0x11)];
+    (0..2).all(|_| client.port.try_write(Sector(0), &sector) == Ok(()))
+}
 
 /// Whether the next client finds the order that the accesses of one gave that has gone.
 fn retiring_settles(rt: &impl Wait, alloc: Global) -> Result<bool, Refusal> {
     let (devices, target) = open(alloc, formatted(alloc)?)?;
-    let written = Question::Does(&WRITTEN_TWICE);
-    let (devices, written) = done_by(rt, alloc, &target, devices, written)?;
-    Ok(written && answered_of(rt, alloc, &target, devices, Question::Does(&ORDERED))?)
+    let (devices, written) = done_by(rt, alloc, &target, devices, Question::WritesTwice)?;
+    let order = Order::Promote(OBlock(0), CBlock(0));
+    Ok(written && answered_of(rt, alloc, &target, devices, Question::Finds(order))?)
 }
 
 #[test]

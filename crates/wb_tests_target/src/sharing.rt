@@ -3,10 +3,9 @@
 use crate::bounds::end_with;
 use crate::errands::sent_with_hook;
 use crate::files::{Images, Names, client_over, images, target_over};
-use crate::fixture::{begun_with, shows};
+use crate::fixture::{Lent, begun_with, shows};
 use crate::hooked::Hook;
 use crate::questions::{Question, answered};
-use crate::steps::{Count, Step};
 use std::alloc::AllocError;
 use std::process::Abort;
 use std::sync::Wait;
@@ -173,17 +172,15 @@ fn sixteen_clients_that_write_and_flush_share_commits(rt: HostRuntime) -> Result
     Ok(())
 }
 
-/// A client that is alone leads the commit of each of its flushes.
-const LED_ALONE: [Step; 5] = [
-    Step::Counts(Count::Generation(1)),
-    Step::Flushes,
-    Step::Flushes,
-    Step::Flushes,
-    Step::Counts(Count::Generation(4)),
-];
+/// Whether a client that is alone leads the commit of each of its flushes.
+pub fn leads_alone(rt: &impl Wait, target: &Target<TinyLfu>, client: &mut Lent<'_>) -> bool {
+    let before = target.counts(rt).generation;
+    (0..3).all(|_| matches!(client.flush(rt), Ok(Flushed::Led)))
+        && target.counts(rt).generation.wrapping_sub(before) == 3
+}
 
 #[test]
 fn a_client_that_is_alone_leads_its_flushes(rt: HostRuntime) -> Result<(), Fail> {
-    assert!(rt; answered(&rt, rt.alloc(), Question::Does(&LED_ALONE))?);
+    assert!(rt; answered(&rt, rt.alloc(), Question::LeadsAlone)?);
     Ok(())
 }

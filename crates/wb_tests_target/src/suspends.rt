@@ -1,49 +1,44 @@
 //! Suspends, and what the next opening finds.
 
-use crate::caching::CACHED_AND_FLUSHED;
-use crate::fixture::{Memory, client_of, formatted, open, tells};
+use crate::fixture::{Asked, Lent, Memory, client_of, formatted, open, shows};
 use crate::opening::NEW_LINE;
 use crate::questions::{Question, answered_over, done_by};
-use crate::steps::{Count, Step};
-use crate::ticks::WRITTEN_BACK;
 use std::alloc::Global;
 use std::sync::Wait;
 use std::test::Fail;
+use wb_policy::TinyLfu;
+use wb_target::Target;
 use wb_types::Refusal;
 
-/// The block that was cached and written there is mapped and dirty, and shows that.
-const KEPT: [Step; 3] = [
-    Step::Counts(Count::Mapped(1)),
-    Step::Counts(Count::Dirty(1)),
-    Step::Shows(70, 0x22),
-];
-
-const CLEAN: [Step; 1] = [Step::Counts(Count::Dirty(0))];
+/// Whether the block that was cached and written there is mapped and dirty, and shows that.
+pub fn is_kept(rt: &impl Wait, target: &Target<TinyLfu>, client: &mut Lent<'_>) -> bool {
+    target.counts(rt).mapped == 1 && target.dirty(rt) == 1 && shows(rt, client, 70, 0x22)
+}
 
 /// The devices of a target that was suspended once this was done, and whether both were.
 fn suspended_after(
     rt: &impl Wait,
     alloc: Global,
-    steps: &[Step],
+    question: Question,
 ) -> Result<(Memory, bool), Refusal> {
     let (devices, target) = open(alloc, formatted(alloc)?)?;
-    let (devices, done) = done_by(rt, alloc, &target, devices, Question::Does(steps))?;
+    let (devices, done) = done_by(rt, alloc, &target, devices, question)?;
     let (devices, answer) = target.suspend(rt, devices);
     Ok((devices, done && answer.is_ok()))
 }
 
 #[test]
 fn a_suspended_cache_is_opened_as_it_was(rt: HostRuntime) -> Result<(), Fail> {
-    let (dirty, done) = suspended_after(&rt, rt.alloc(), &CACHED_AND_FLUSHED)?;
-    let is_kept = answered_over(&rt, rt.alloc(), dirty, Question::Does(&KEPT));
+    let (dirty, done) = suspended_after(&rt, rt.alloc(), Question::CachesAndFlushes)?;
+    let is_kept = answered_over(&rt, rt.alloc(), dirty, Question::IsKept);
     assert!(rt; done && is_kept?);
     Ok(())
 }
 
 #[test]
 fn what_was_written_back_is_opened_clean(rt: HostRuntime) -> Result<(), Fail> {
-    let (clean, done) = suspended_after(&rt, rt.alloc(), &WRITTEN_BACK)?;
-    let is_clean = answered_over(&rt, rt.alloc(), clean, Question::Does(&CLEAN));
+    let (clean, done) = suspended_after(&rt, rt.alloc(), Question::Ticks)?;
+    let is_clean = answered_over(&rt, rt.alloc(), clean, Question::CountsDirty(0));
     assert!(rt; done && is_clean?);
     Ok(())
 }
@@ -68,7 +63,12 @@ fn is_over(rt: &impl Wait, alloc: Global) -> Result<bool, Refusal> {
     let (devices, target) = open(alloc, formatted(alloc)?)?;
     let (devices, first) = target.suspend(rt, devices);
     let (devices, again) = target.suspend(rt, devices);
-    let told = tells(rt, alloc, &target, NEW_LINE);
+    let asked = Asked {
+        rt,
+        alloc,
+        target: &target,
+    };
+    let told = asked.tells(NEW_LINE);
     let refused = matches!(target.client(rt, devices), Err((_, Refusal::Failed)));
     Ok(first.is_ok() && again == Err(Refusal::Failed) && told && refused)
 }

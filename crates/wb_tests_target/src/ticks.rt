@@ -1,45 +1,44 @@
 //! Ticks, by which dirty blocks are written back.
 
+use crate::caching::fills_and_flushes;
+use crate::fixture::{Lent, begun_with, shows, worked, write_and_read};
 use crate::questions::{Question, answered};
-use crate::steps::{Count, Step};
+use std::sync::Wait;
 use std::test::Fail;
-use wb_policy::Order;
-use wb_types::OBlock;
+use wb_policy::{Order, TinyLfu};
+use wb_target::{Flushed, Target};
+use wb_types::{OBlock, Sector};
 
-/// A tick orders that the dirty block be written back, after which none is dirty.
-pub const WRITTEN_BACK: [Step; 8] = [
-    Step::Accesses(70, 0x11),
-    Step::CarriesOutOne,
-    Step::Writes(70, 0x22),
-    Step::Counts(Count::Dirty(1)),
-    Step::Ticks,
-    Step::CarriesOut(Order::Clean(OBlock(1))),
-    Step::Counts(Count::Dirty(0)),
-    Step::Shows(70, 0x22),
-];
+/// Whether a tick orders that the dirty block be written back, after which none is dirty.
+pub fn ticks(rt: &impl Wait, target: &Target<TinyLfu>, client: &mut Lent<'_>) -> bool {
+    write_and_read(rt, client, 70, 0x11)
+        && worked(rt, client).is_some()
+        && client.write(rt, Sector(70), &[begun_with(0x22)]).is_ok()
+        && target.dirty(rt) == 1
+        && matches!(client.tick(rt), Ok(Flushed::Led))
+        && worked(rt, client) == Some(Order::Clean(OBlock(1)))
+        && target.dirty(rt) == 0
+        && shows(rt, client, 70, 0x22)
+}
+
+/// Whether a tick orders that the least recent of four dirty blocks be written back, and no other.
+pub fn ticks_once(rt: &impl Wait, target: &Target<TinyLfu>, client: &mut Lent<'_>) -> bool {
+    fills_and_flushes(rt, client)
+        && target.dirty(rt) == 4
+        && client.tick(rt).is_ok()
+        && worked(rt, client) == Some(Order::Clean(OBlock(0)))
+        && worked(rt, client).is_none()
+        && target.dirty(rt) == 3
+}
 
 #[test]
 fn a_tick_has_a_dirty_block_written_back(rt: HostRuntime) -> Result<(), Fail> {
-    assert!(rt; answered(&rt, rt.alloc(), Question::Does(&WRITTEN_BACK))?);
+    assert!(rt; answered(&rt, rt.alloc(), Question::Ticks)?);
     Ok(())
 }
 
-/// A tick orders that the least recent of four dirty blocks be written back, and no other.
-const ONE_WRITTEN_BACK: [Step; 10] = [
-    Step::Fills(0x10),
-    Step::Writes(0, 0x20),
-    Step::Writes(64, 0x21),
-    Step::Writes(128, 0x22),
-    Step::Writes(192, 0x23),
-    Step::Counts(Count::Dirty(4)),
-    Step::Ticks,
-    Step::CarriesOut(Order::Clean(OBlock(0))),
-    Step::Idles,
-    Step::Counts(Count::Dirty(3)),
-];
-
 #[test]
 fn a_tick_has_one_of_several_dirty_blocks_written_back(rt: HostRuntime) -> Result<(), Fail> {
-    assert!(rt; answered(&rt, rt.alloc(), Question::Does(&ONE_WRITTEN_BACK))?);
+    assert!(rt; answered(&rt, rt.alloc(), Question::TicksOnce)?);
     Ok(())
 }

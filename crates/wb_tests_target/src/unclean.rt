@@ -1,9 +1,9 @@
 //! What an opening takes of the entries that are stored: without the clean flag none of their hints, and each block as dirty.
 
-use crate::fixture::{Memory, formatted};
+use crate::fixture::{Lent, Memory, formatted, worked, write_and_read};
 use crate::questions::{Question, answered_over};
-use crate::steps::{Count, Step};
 use std::alloc::Global;
+use std::sync::Wait;
 use std::test::Fail;
 use wb_disk::{Disk, MemDisk};
 use wb_format::Root;
@@ -60,32 +60,31 @@ fn put(disk: &mut MemDisk, at: u64, content: &Content) -> Result<(), Refusal> {
     Ok(())
 }
 
-/// Metadata with or without the clean flag, which block makes way for one that is accessed four times, and how many blocks are dirty.
+/// Whether a block that is accessed four times gets this order.
+pub fn orders(rt: &impl Wait, client: &mut Lent<'_>, order: Order) -> bool {
+    write_and_read(rt, client, 320, 0x55)
+        && write_and_read(rt, client, 320, 0x55)
+        && worked(rt, client) == Some(order)
+}
+
+/// The block that makes way, and how many blocks are dirty.
 #[derive(Clone, Copy)]
 struct Row {
     clean: bool,
-    replaced: [Step; 3],
-    dirty: [Step; 1],
+    victim: u32,
+    dirty: u32,
 }
 
 const ROWS: [Row; 2] = [
     Row {
         clean: false,
-        replaced: [
-            Step::Accesses(320, 0x55),
-            Step::Accesses(320, 0x55),
-            Step::CarriesOut(Order::Replace(OBlock(0), OBlock(5), CBlock(0))),
-        ],
-        dirty: [Step::Counts(Count::Dirty(4))],
+        victim: 0,
+        dirty: 4,
     },
     Row {
         clean: true,
-        replaced: [
-            Step::Accesses(320, 0x55),
-            Step::Accesses(320, 0x55),
-            Step::CarriesOut(Order::Replace(OBlock(3), OBlock(5), CBlock(3))),
-        ],
-        dirty: [Step::Counts(Count::Dirty(0))],
+        victim: 3,
+        dirty: 0,
     },
 ];
 
@@ -93,7 +92,8 @@ const ROWS: [Row; 2] = [
 fn hints_are_taken_with_the_clean_flag_alone(rt: HostRuntime) -> Result<(), Fail> {
     for row in &ROWS {
         let devices = stored(rt.alloc(), row.clean)?;
-        assert!(rt; answered_over(&rt, rt.alloc(), devices, Question::Does(&row.replaced))?);
+        let order = Order::Replace(OBlock(row.victim), OBlock(5), CBlock(row.victim));
+        assert!(rt; answered_over(&rt, rt.alloc(), devices, Question::Orders(order))?);
     }
     Ok(())
 }
@@ -102,7 +102,8 @@ fn hints_are_taken_with_the_clean_flag_alone(rt: HostRuntime) -> Result<(), Fail
 fn dirty_bits_are_taken_with_the_clean_flag_alone(rt: HostRuntime) -> Result<(), Fail> {
     for row in &ROWS {
         let devices = stored(rt.alloc(), row.clean)?;
-        assert!(rt; answered_over(&rt, rt.alloc(), devices, Question::Does(&row.dirty))?);
+        let dirty = Question::CountsDirty(row.dirty);
+        assert!(rt; answered_over(&rt, rt.alloc(), devices, dirty)?);
     }
     Ok(())
 }

@@ -2,10 +2,9 @@
 
 use crate::bounds::end_with;
 use crate::breaking::flush_and_tell;
-use crate::caching::REPLACEMENT_ORDERED;
+use crate::caching::order_replacement;
 use crate::errands::Beside;
 use crate::files::{Images, Names, client_over, images, target_over};
-use crate::steps::comes_out;
 use crate::threads::all_tell;
 use crate::workers::{Signals, await_signal};
 use std::process::Abort;
@@ -71,7 +70,7 @@ fn failing(rt: &HostRuntime, names: &Names, call: Option<u64>) -> Result<Devices
 /// Has a replacement ordered by a client that then goes.
 fn order(rt: &impl Wait, target: &Target<TinyLfu>, images: Images) -> Result<bool, Refusal> {
     let mut client = client_over(rt, target, images)?;
-    let ordered = comes_out(rt, &mut client, &REPLACEMENT_ORDERED);
+    let ordered = order_replacement(rt, &mut client);
     target.retire(rt, client);
     Ok(ordered)
 }
