@@ -1,1 +1,2 @@
+pub mod FreePlaces
 pub mod OwnPlaces

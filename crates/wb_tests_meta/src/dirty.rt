@@ -1,0 +1,5 @@
+//! Trees of dirty bits.
+
+mod images;
+mod planning;
+mod reading;
