@@ -1,16 +1,5 @@
-//! Tests of the desk and of the crates that decide what is cached where, by their public contracts. They stand beside those crates, so that
-//! testing one does not prove it once more.
+//! Tests of the desk by its public contracts. They stand beside it, so that testing it does not prove it once more.
 #![tactic(auto)]
 
 #[cfg(test)]
-mod bits;
-#[cfg(test)]
 mod desk;
-#[cfg(test)]
-mod orders;
-#[cfg(test)]
-mod policy;
-#[cfg(test)]
-mod sketch;
-#[cfg(test)]
-mod space;

@@ -1,7 +1,7 @@
 use Rattle.std.proofs.Common.{rules}
 use Rattle.std.proofs.lemmas.List.Sorted.{IsNonDecreasingBy-from_sort_by_key}
 use Rattle.std.proofs.lemmas.Result.{on_ok_weaker}
-use Rattle.wb_tests_desk.proofs.policy.sort.Goals as goal
+use Rattle.wb_tests_policy.proofs.policy.sort.Goals as goal
 
 pub returns : goal.returns
 returns c =
