@@ -6,7 +6,7 @@ Each image begins as a good one, of either version and one of several sizes, wit
 often with a tree of dirty bits. Then bytes, words, fields and tops are changed, sectors swapped, copied, cleared or filled, and files cut or made longer.
 The slow reader below goes by docs/FORMATS.md, 'Metadata sectors', word for word, and uses nothing of the product. `wb_bench FILE images` reads many
 in one process, and says of each what it stands for or how it is refused. It prints what differs, how many there were of each answer and of each
-fault, and at the end 'N passed, N failed': a check for each thousand, one that each fault came first in some image, and one for all rows of
+fault, and at the end 'N passed, N failed': a check for each thousand, one that each fault came first in some image, where there are 5,000 or more, and one for all rows of
 scripts/cases/damage.txt, damaged images with what is said of each.
 """
 import collections
@@ -22,6 +22,7 @@ import tempfile
 SIZES = [(64, 4, 10), (64, 32, 40), (64, 40, 40), (64, 65, 70), (64, 150, 200)]
 LARGE_SIZES = [(64, 1025, 2048), (64, 2049, 2100), (64, 2100, 4096)]
 BATCH, SECTOR = 1000, 512
+LEAST_BATCHES = 5
 LAST_WORD = 4294967295
 MAPPING, DIRTY = b"WBCNODE1", b"WBCDIRT1"
 FAULTS = ("text", "other tree", "level", "index", "newer", "outside", "twice", "beyond", "past last", "past origin", "origin twice", "bit", "slot")
@@ -383,7 +384,8 @@ def main():
     if why:
         wrong += 1
         print(f"failed: {why}")
-    missing = [fault for fault in FAULTS if not faults[fault]]
+    # Of fewer images the rarest fault, five of a thousand, may come in none.
+    missing = [fault for fault in FAULTS if not faults[fault]] if batches >= LEAST_BATCHES else []
     if missing:
         wrong += 1
         print(f"failed: no image had as its first fault: {', '.join(missing)}")
