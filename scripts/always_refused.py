@@ -21,18 +21,18 @@ MEMORY = "return Err(Refusal::Memory);"
 BACK = "return (devices, Err(Refusal::Memory));"
 # The call, its file, the function there, what it then does (with `if` and a condition: then alone), the crate of tests, and the test.
 ROWS = [
-    ("Target::open", "wb_target/opening", "open", BACK, "wb_tests_target", "a_status_line_tells_how_a_target_is"),
+    ("Target::open", "wb_target/opening", "open", BACK, "wb_tests_target", "a_block_is_cached_at_its_second_access"),
     ("Target::client", "wb_target/target", "client", "return Err((devices, Refusal::Memory));", "wb_tests_target", "a_block_is_cached_at_its_second_access"),
-    ("Target::status", "wb_target/target", "status", MEMORY, "wb_tests_target", "a_status_line_tells_how_a_target_is"),
+    ("Target::status", "wb_target/target", "status", MEMORY, "wb_tests_target", "a_suspended_target_answers_failed_and_tells_its_status"),
     ("Target::suspend", "wb_target/target", "suspend", BACK, "wb_tests_target", "a_suspended_cache_is_opened_as_it_was"),
     ("Client::read", "wb_target/blocking", "read", "return Err(Stopped { done: 0, refusal: Refusal::Memory });", "wb_tests_target", "a_block_is_cached_at_its_second_access"),
     ("Client::write", "wb_target/blocking", "write", "return Err(Stopped { done: 0, refusal: Refusal::Memory });", "wb_tests_target", "a_block_is_cached_at_its_second_access"),
-    ("Client::message, a setting", "wb_target/messages", "set", MEMORY, "wb_tests_target", "a_setting_takes_the_values_in_its_range"),
+    ("Client::message, a setting", "wb_target/messages", "set", MEMORY, "wb_tests_target", "an_order_is_given_at_the_threshold_and_not_below"),
     ("Client::message, ranges", "wb_target/invalidating", "invalidate", MEMORY, "wb_tests_target", "invalidated_blocks_leave_the_cache"),
     ("Client::flush", "wb_target/carrying", "flush", MEMORY, "wb_tests_target", "what_was_flushed_is_found_in_the_cache"),
     ("Client::tick", "wb_target/carrying", "tick", MEMORY, "wb_tests_target", "a_tick_has_a_dirty_block_written_back"),
     ("Client::work_one, a promotion", "wb_target/carrying", "carry_out", "if matches!(order, Order::Promote(_, _)) " + MEMORY, "wb_tests_target", "a_block_is_cached_at_its_second_access"),
-    ("Client::work_one, a replacement", "wb_target/carrying", "carry_out", "if matches!(order, Order::Replace(_, _, _)) " + MEMORY, "wb_tests_target", "a_block_that_is_wanted_more_replaces_the_least_recent"),
+    ("Client::work_one, a replacement", "wb_target/carrying", "carry_out", "if matches!(order, Order::Replace(_, _, _)) " + MEMORY, "wb_tests_target", "the_least_recent_block_leaves_and_no_other"),
     ("Client::work_one, a write-back", "wb_target/carrying", "carry_out", "if matches!(order, Order::Clean(_)) " + MEMORY, "wb_tests_target", "a_tick_has_a_dirty_block_written_back"),
     ("Client::write_fua", "wb_target/durable", "write_fua", "return Err(Stopped { done: 0, refusal: wb_types::Refusal::Memory });", "wb_tests_target", "a_write_with_fua_is_durable"),
     ("Target::together", "wb_target/together", "together", "return Err(AllocError);", "wb_tests_target", "devices_come_back_each_in_its_place"),

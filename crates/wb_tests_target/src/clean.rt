@@ -108,10 +108,3 @@ fn a_refused_opening_leaves_the_roots_and_has_synced_them(rt: HostRuntime) -> Re
     }
     Ok(())
 }
-
-#[test]
-fn passthrough_opens_over_what_was_formatted(rt: HostRuntime) -> Result<(), Fail> {
-    let (_, refusal) = opened(rt.alloc(), formatted(rt.alloc())?);
-    assert!(rt; refusal.is_none());
-    Ok(())
-}

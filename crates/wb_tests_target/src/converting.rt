@@ -2,7 +2,7 @@
 
 use crate::faults::{Failing, Trial, count_borne, crashed, unwrapped};
 use crate::fixture::{
-    Asked, Lent, Memory, formatted, formatted_on, open, open_second, shows, worked, write_and_read,
+    Lent, Memory, formatted, formatted_on, open, open_second, shows, worked, write_and_read,
 };
 use crate::questions::{Question, answered_of, answered_over, done_by};
 use std::alloc::Global;
@@ -11,9 +11,9 @@ use std::test::Fail;
 use wb_devices::Devices;
 use wb_disk::{Base, CrashChoice};
 use wb_faults::FaultDisk;
-use wb_policy::{Order, TinyLfu};
+use wb_policy::TinyLfu;
 use wb_target::Target;
-use wb_types::{CBlock, Key, Mode, OBlock, Refusal};
+use wb_types::{Key, Mode, Refusal};
 
 /// The calls that a conversion of one node makes: a sync, and three that read; the node, a sync, the root and its sync.
 const CALLS: u64 = 8;
@@ -21,11 +21,7 @@ const CALLS: u64 = 8;
 /// The first of them that writes.
 const FIRST_WRITE: u64 = 4;
 
-/// The status line of a converted target: four blocks are mapped, and one is dirty.
-const CONVERTED_LINE: &str =
-    "1 3/5 64 4/4 0 0 0 0 0 0 1 2 metadata2 writeback 2 migration_threshold 2048 tinylfu 2 promote_min 2 rw -";
-
-/// That of one that was left in version 1.
+/// The status line of a target of version 1: four blocks are mapped, and one is dirty.
 const UNCONVERTED_LINE: &str =
     "1 3/5 64 4/4 0 0 0 0 0 0 1 1 writeback 2 migration_threshold 2048 tinylfu 2 promote_min 2 rw -";
 
@@ -37,15 +33,6 @@ pub fn leaves_one_dirty(rt: &impl Wait, client: &mut Lent<'_>) -> bool {
             && (block == 1 || shows(rt, client, at, 0x10))
             && worked(rt, client).is_some()
     }) && write_and_read(rt, client, 0, 0x22)
-}
-
-/// Whether a target of version 2 is as that was left: what is mapped and dirty, what each block shows, and which one makes way.
-pub fn is_converted(asked: &Asked<'_, impl Wait>, client: &mut Lent<'_>) -> bool {
-    let rt = asked.rt;
-    asked.tells(CONVERTED_LINE)
-        && write_and_read(rt, client, 256, 0x55)
-        && worked(rt, client) == Some(Order::Replace(OBlock(1), OBlock(4), CBlock(1)))
-        && shows_what_was_left(rt, client)
 }
 
 /// Whether each of the four blocks shows what was left.
@@ -64,24 +51,6 @@ fn left(rt: &impl Wait, alloc: Global) -> Result<Memory, Refusal> {
     } else {
         Err(Refusal::Range)
     }
-}
-
-/// The answer of a target of version 2 over these.
-fn answered_second(
-    rt: &impl Wait,
-    alloc: Global,
-    devices: Memory,
-    question: Question,
-) -> Result<bool, Refusal> {
-    let (devices, target) = open_second(alloc, devices)?;
-    answered_of(rt, alloc, &target, devices, question)
-}
-
-#[test]
-fn a_converted_cache_is_opened_as_it_was(rt: HostRuntime) -> Result<(), Fail> {
-    let devices = left(&rt, rt.alloc())?;
-    assert!(rt; answered_second(&rt, rt.alloc(), devices, Question::IsConverted)?);
-    Ok(())
 }
 
 /// Devices whose metadata fail at the call of this number.

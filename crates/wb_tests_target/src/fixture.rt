@@ -75,21 +75,6 @@ pub fn client_of<'t>(
     }
 }
 
-/// What a question about a target goes by.
-#[derive(Clone, Copy)]
-pub struct Asked<'a, R> {
-    pub rt: &'a R,
-    pub alloc: Global,
-    pub target: &'a Target<TinyLfu>,
-}
-
-impl<'a, R: Wait> Asked<'a, R> {
-    /// Whether this is the target's status line.
-    pub fn tells(&self, wanted: &str) -> bool {
-        tells(self.rt, self.alloc, self.target, wanted)
-    }
-}
-
 /// Whether this is a target's status line.
 pub fn tells(rt: &impl Wait, alloc: Global, target: &Target<TinyLfu>, wanted: &str) -> bool {
     let mut text = String::new(alloc);

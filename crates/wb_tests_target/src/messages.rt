@@ -1,46 +1,14 @@
-//! Messages: settings, and invalidations.
+//! Messages: a setting, and invalidations.
 
-use crate::fixture::{Asked, Lent, open_passing, shows, worked, write_and_read};
+use crate::fixture::{Lent, open_passing, shows, tells, worked, write_and_read};
 use crate::questions::{Question, answered, answered_of};
 use crate::unclean::stored_as;
 use std::alloc::{AllocError, Global};
 use std::sync::Wait;
 use std::test::Fail;
-use wb_policy::Order;
+use wb_policy::{Order, TinyLfu};
+use wb_target::Target;
 use wb_types::{CBlock, CBlockRange, CBlockRanges, Key, Message, OBlock, Refusal};
-
-/// Values of settings, each with its answer.
-const SETTINGS: [(Key, u64, Result<(), Refusal>); 7] = [
-    (Key::PromoteMin, 17, Ok(())),
-    (Key::PromoteMin, 18, Err(Refusal::BadMessage)),
-    (Key::PromoteMin, 0, Err(Refusal::BadMessage)),
-    (Key::MigrationThreshold, 0, Ok(())),
-    (Key::MigrationThreshold, 4_294_967_295, Ok(())),
-    (
-        Key::MigrationThreshold,
-        4_294_967_296,
-        Err(Refusal::BadMessage),
-    ),
-    (Key::MigrationThreshold, u64::MAX, Err(Refusal::BadMessage)),
-];
-
-/// Whether those are answered so, and the last ones that were taken are shown.
-pub fn takes_settings(asked: &Asked<'_, impl Wait>, client: &mut Lent<'_>) -> bool {
-    for (key, value, answer) in SETTINGS {
-        if client.message(asked.rt, &Message::Set(key, value)) != answer {
-            return false;
-        }
-    }
-    asked.tells(
-        "1 2/4 64 0/4 0 0 0 0 0 0 0 1 writeback 2 migration_threshold 4294967295 tinylfu 2 promote_min 17 rw -",
-    )
-}
-
-#[test]
-fn a_setting_takes_the_values_in_its_range(rt: HostRuntime) -> Result<(), Fail> {
-    assert!(rt; answered(&rt, rt.alloc(), Question::TakesSettings)?);
-    Ok(())
-}
 
 /// Whether a block of 64 sectors is not cached at a threshold of 63, and is at 64.
 pub fn goes_by_threshold(rt: &impl Wait, client: &mut Lent<'_>) -> bool {
@@ -91,13 +59,21 @@ const INVALIDATIONS: [(&[(u32, u32)], Result<(), Refusal>); 6] = [
 ];
 
 /// Whether three of four mapped blocks leave the cache by those, and are counted.
-pub fn invalidates(asked: &Asked<'_, impl Wait>, client: &mut Lent<'_>) -> bool {
+pub fn invalidates(
+    rt: &impl Wait,
+    alloc: Global,
+    target: &Target<TinyLfu>,
+    client: &mut Lent<'_>,
+) -> bool {
     for (pairs, answer) in INVALIDATIONS {
-        if invalidated(asked.rt, asked.alloc, client, pairs) != answer {
+        if invalidated(rt, alloc, client, pairs) != answer {
             return false;
         }
     }
-    asked.tells(
+    tells(
+        rt,
+        alloc,
+        target,
         "1 3/4 64 1/4 0 0 0 0 3 0 0 1 passthrough 2 migration_threshold 2048 tinylfu 2 promote_min 2 rw -",
     )
 }
@@ -111,23 +87,5 @@ fn invalidates_passing(rt: &impl Wait, alloc: Global) -> Result<bool, Refusal> {
 #[test]
 fn invalidated_blocks_leave_the_cache(rt: HostRuntime) -> Result<(), Fail> {
     assert!(rt; invalidates_passing(&rt, rt.alloc())?);
-    Ok(())
-}
-
-/// Lists of ranges, each with its answer in write-back.
-const REFUSED: [(&[(u32, u32)], Refusal); 3] = [
-    (&[(0, 1)], Refusal::WrongMode),
-    (&[], Refusal::WrongMode),
-    (&[(0, 1), (1, 0)], Refusal::BadMessage),
-];
-
-/// Whether those are answered so.
-pub fn is_in_another_mode(rt: &impl Wait, alloc: Global, client: &mut Lent<'_>) -> bool {
-    REFUSED.iter().all(|(pairs, refusal)| invalidated(rt, alloc, client, pairs) == Err(*refusal))
-}
-
-#[test]
-fn no_block_is_invalidated_in_write_back(rt: HostRuntime) -> Result<(), Fail> {
-    assert!(rt; answered(&rt, rt.alloc(), Question::IsInAnotherMode)?);
     Ok(())
 }

@@ -1,7 +1,6 @@
 //! Suspends, and what the next opening finds.
 
-use crate::fixture::{Asked, Lent, Memory, client_of, formatted, open, shows};
-use crate::opening::NEW_LINE;
+use crate::fixture::{Lent, Memory, client_of, formatted, open, shows, tells};
 use crate::questions::{Question, answered_over, done_by};
 use std::alloc::Global;
 use std::sync::Wait;
@@ -35,14 +34,6 @@ fn a_suspended_cache_is_opened_as_it_was(rt: HostRuntime) -> Result<(), Fail> {
     Ok(())
 }
 
-#[test]
-fn what_was_written_back_is_opened_clean(rt: HostRuntime) -> Result<(), Fail> {
-    let (clean, done) = suspended_after(&rt, rt.alloc(), Question::Ticks)?;
-    let is_clean = answered_over(&rt, rt.alloc(), clean, Question::CountsDirty(0));
-    assert!(rt; done && is_clean?);
-    Ok(())
-}
-
 /// Whether a suspend is refused as busy while a client is out.
 fn waits_for_clients(rt: &impl Wait, alloc: Global) -> Result<bool, Refusal> {
     let (devices, target) = open(alloc, formatted(alloc)?)?;
@@ -58,17 +49,16 @@ fn a_suspend_is_refused_while_a_client_is_out(rt: HostRuntime) -> Result<(), Fai
     Ok(())
 }
 
+/// The status line of a target that was formatted, opened and suspended.
+const NEW_LINE: &str =
+    "1 2/4 64 0/4 0 0 0 0 0 0 0 1 writeback 2 migration_threshold 2048 tinylfu 2 promote_min 2 rw -";
+
 /// Whether a suspended target refuses to be suspended once more, and clients, as failed, and tells its status all the same.
 fn is_over(rt: &impl Wait, alloc: Global) -> Result<bool, Refusal> {
     let (devices, target) = open(alloc, formatted(alloc)?)?;
     let (devices, first) = target.suspend(rt, devices);
     let (devices, again) = target.suspend(rt, devices);
-    let asked = Asked {
-        rt,
-        alloc,
-        target: &target,
-    };
-    let told = asked.tells(NEW_LINE);
+    let told = tells(rt, alloc, &target, NEW_LINE);
     let refused = matches!(target.client(rt, devices), Err((_, Refusal::Failed)));
     Ok(first.is_ok() && again == Err(Refusal::Failed) && told && refused)
 }

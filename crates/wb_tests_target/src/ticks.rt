@@ -1,6 +1,6 @@
 //! Ticks, by which dirty blocks are written back.
 
-use crate::caching::fills_and_flushes;
+use crate::caching::fill_cache;
 use crate::fixture::{Lent, begun_with, shows, worked, write_and_read};
 use crate::questions::{Question, answered};
 use std::sync::Wait;
@@ -21,14 +21,15 @@ pub fn ticks(rt: &impl Wait, target: &Target<TinyLfu>, client: &mut Lent<'_>) ->
         && shows(rt, client, 70, 0x22)
 }
 
-/// Whether a tick orders that the least recent of four dirty blocks be written back, and no other.
+/// Whether a tick orders that the least recent of two dirty blocks be written back, and no other.
 pub fn ticks_once(rt: &impl Wait, target: &Target<TinyLfu>, client: &mut Lent<'_>) -> bool {
-    fills_and_flushes(rt, client)
-        && target.dirty(rt) == 4
+    fill_cache(rt, client)
+        && [0, 64].iter().all(|at| client.write(rt, Sector(*at), &[begun_with(0x20)]).is_ok())
+        && target.dirty(rt) == 2
         && client.tick(rt).is_ok()
         && worked(rt, client) == Some(Order::Clean(OBlock(0)))
         && worked(rt, client).is_none()
-        && target.dirty(rt) == 3
+        && target.dirty(rt) == 1
 }
 
 #[test]

@@ -1,13 +1,15 @@
 //! The arguments of the program.
 
 use crate::help::{ABOUT, REPLAYS};
-use clap::{Arg, ArgAction, Command, Error};
-use std::alloc::Global;
-use wb_opened::{NoTask, VERSION, with_table};
+use clap::ArgMatches;
+use wb_arguments::{FromWords, Named, NoTask, Program, Subcommand};
+
+/// What is asked of who calls the program otherwise.
+pub const USAGE: &str = "usage: wbcache format TABLE | run TABLE | replay";
 
 /// What the program is asked to do.
 #[derive(Clone, Copy)]
-pub enum Asked<'a> {
+pub enum Task<'a> {
     /// To format the metadata over the files of a table, and whether that is wanted also where blocks are given up.
     Format(&'a str, bool),
     /// To run a script over the files of a table.
@@ -16,61 +18,85 @@ pub enum Asked<'a> {
     Replay,
 }
 
-/// Reads the words of the command line, the program's name first: what is asked, and whether reasons are to be told. Its help ends with these
-/// texts.
-pub fn read_arguments<'a>(
-    alloc: Global,
-    words: &'a [String],
-    texts: &'a str,
-) -> Result<(Asked<'a>, bool), NoTask> {
-    let matches = command(alloc, texts)?.try_get_matches_from(words)?;
-    let asked = match matches.subcommand() {
-        Some(("format", given)) => given.get_str("TABLE").map(|table| (
-            Asked::Format(table, given.get_flag("yes")),
-            given.get_flag("verbose"),
-        )),
-        Some(("run", given)) => given
-            .get_str("TABLE")
-            .map(|table| (Asked::Run(table), given.get_flag("verbose"))),
-        Some(("replay", given)) => Some((Asked::Replay, given.get_flag("verbose"))),
-        _ => None,
-    };
-    asked.ok_or(NoTask::Unknown)
+/// That, and whether reasons are to be told.
+#[derive(Clone, Copy)]
+pub struct Asked<'a> {
+    pub task: Task<'a>,
+    pub verbose: bool,
 }
 
-fn command<'a>(alloc: Global, texts: &'a str) -> Result<Command<'a>, Error> {
-    let verbose = Arg::new(alloc, "verbose")
-        .short('v')
-        .long("verbose")
-        .help(
-            "Say on standard error what was opened, how far a long request has come, and why something was refused",
-        )
-        .action(ArgAction::SetTrue)
-        .global(true);
-    let yes = Arg::new(alloc, "yes")
-        .long("yes")
-        .help("Do not ask, on a terminal, before blocks that are cached are given up")
-        .action(ArgAction::SetTrue);
-    Ok(
-        Command::new(alloc, "wbcache")
-            .about(ABOUT)
-            .version(VERSION)
-            .after_help(texts)
-            .disable_help_subcommand(true)
-            .subcommand_required(true)
-            .arg(verbose)?
-            .subcommand(with_table(
-                alloc,
-                "format",
-                "Make the metadata those of an empty cache",
-                texts,
-            )?
-            .arg(yes)?)?
-            .subcommand(with_table(alloc, "run", "Run a script over the files", texts)?)?
-            .subcommand(
-                Command::new(alloc, "replay")
-                    .about("Play a replay")
-                    .after_help(REPLAYS),
-            )?,
-    )
+impl<'a> FromWords<'a> for Asked<'a> {
+    fn from_words(given: &ArgMatches<'a>) -> Option<Asked<'a>> {
+        let (name, given) = given.subcommand()?;
+        let task = match name {
+            "format" => Task::Format(given.get_str("TABLE")?, given.get_flag("yes")),
+            "run" => Task::Run(given.get_str("TABLE")?),
+            "replay" => Task::Replay,
+            _ => return None,
+        };
+        Some(Asked {
+            task,
+            verbose: given.get_flag("verbose"),
+        })
+    }
+}
+
+const VERBOSE: Named = Named {
+    name: "verbose",
+    short: Some('v'),
+    help: "Say on standard error what was opened, how far a long request has come, and why something was refused",
+    takes_value: false,
+    is_global: true,
+};
+
+const YES: Named = Named {
+    name: "yes",
+    short: None,
+    help: "Do not ask, on a terminal, before blocks that are cached are given up",
+    takes_value: false,
+    is_global: false,
+};
+
+const FORMAT: Subcommand = Subcommand {
+    name: "format",
+    about: "Make the metadata those of an empty cache",
+    texts: None,
+    takes_table: true,
+    options: &[&YES],
+};
+
+const RUN: Subcommand = Subcommand {
+    name: "run",
+    about: "Run a script over the files",
+    texts: None,
+    takes_table: true,
+    options: &[],
+};
+
+const REPLAY: Subcommand = Subcommand {
+    name: "replay",
+    about: "Play a replay",
+    texts: Some(REPLAYS),
+    takes_table: false,
+    options: &[],
+};
+
+/// Its help ends with texts that are put together as it runs.
+const PROGRAM: Program = Program {
+    name: "wbcache",
+    about: ABOUT,
+    texts: "",
+    usage: USAGE,
+    options: &[&VERBOSE],
+    subcommands: &[&FORMAT, &RUN, &REPLAY],
+};
+
+/// Reads the words of the command line, the program's name first: what is asked. The program's help ends with these texts.
+pub fn read_arguments<'a, R: AllocGlobal + Print + Eprint>(
+    rt: &R,
+    words: &'a [String],
+    texts: &'a str,
+) -> Result<Asked<'a>, NoTask> {
+    let program = Program { texts, ..PROGRAM };
+    program.asked(rt, words)
 }

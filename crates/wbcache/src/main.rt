@@ -4,20 +4,18 @@
 mod arguments;
 mod help;
 
-use crate::arguments::{Asked, read_arguments};
+use crate::arguments::{Asked, Task, USAGE, read_arguments};
 use crate::help::texts;
 use std::io;
 use std::io::{BufReader, BufWriter, IsTerminal, Read};
 use std::process::ExitCode;
 use std::sync::Wait;
 use std::thread::Threads;
+use wb_arguments::{NoTask, STREAM_FAILED, command_words};
 use wb_files::{Alarm, Awaited, hold_streams};
-use wb_opened::{NoTask, STREAM_FAILED, Unserved, command_words};
+use wb_opened::Unserved;
 use wb_script::{Consent, Ended, GivenUp, Progress, format_files, refused, run};
 use wb_types::Refusal;
-
-/// What is asked of who calls the program otherwise.
-const USAGE: &str = "usage: wbcache format TABLE | run TABLE | replay";
 
 /// So many bytes of answers are held at most while further lines of a script are at hand: 64 KiB.
 const MOST_HELD: usize = 65_536;
@@ -33,20 +31,20 @@ fn main(rt: HostRuntime) -> ExitCode {
 /// Does what the arguments ask, and gives the exit status. Who waits or starts threads does so by the second handle.
 fn serve<T: Threads + Wait + Sync>(rt: &HostRuntime, waits: &T) -> u8 {
     let alloc = rt.alloc();
-    let words = match command_words(rt) {
+    let words = match command_words(rt, USAGE) {
         Ok(words) => words,
-        Err(why) => return no_task(rt, &why),
+        Err(why) => return no_task(rt, why),
     };
     let Ok(texts) = texts(alloc) else {
         return no_memory(rt);
     };
-    let (asked, verbose) = match read_arguments(alloc, words.as_slice(), texts.as_str()) {
-        Ok(read) => read,
-        Err(why) => return no_task(rt, &why),
+    let Asked { task, verbose } = match read_arguments(rt, words.as_slice(), texts.as_str()) {
+        Ok(asked) => asked,
+        Err(why) => return no_task(rt, why),
     };
     let alarm = Alarm::new(rt, "wbcache");
-    let ended = match asked {
-        Asked::Format(table, consents) => {
+    let ended = match task {
+        Task::Format(table, consents) => {
             format_files(
                 rt,
                 alloc,
@@ -56,7 +54,7 @@ fn serve<T: Threads + Wait + Sync>(rt: &HostRuntime, waits: &T) -> u8 {
                 &mut io::writer(rt),
             )
         }
-        Asked::Run(table) => {
+        Task::Run(table) => {
             let reader = BufReader::new(alloc, awaited(rt, rt.reader()));
             let writer = BufWriter::with_capacity(alloc, MOST_HELD, awaited(rt, rt.stdout()));
             match (reader, writer) {
@@ -75,7 +73,7 @@ fn serve<T: Threads + Wait + Sync>(rt: &HostRuntime, waits: &T) -> u8 {
                 _ => return no_memory(rt),
             }
         }
-        Asked::Replay => return replay(rt),
+        Task::Replay => return replay(rt),
     };
     tell(rt, &ended, verbose)
 }
@@ -128,11 +126,11 @@ fn tell(rt: &HostRuntime, ended: &Ended<'_>, verbose: bool) -> u8 {
     ended.code
 }
 
-/// Says why there is no task, and gives the exit status.
-fn no_task(rt: &HostRuntime, why: &NoTask) -> u8 {
-    match why.tell(rt, USAGE) {
-        Some(code) => code,
-        None => no_memory(rt),
+/// Gives the exit status where there is no task.
+fn no_task(rt: &HostRuntime, why: NoTask) -> u8 {
+    match why {
+        NoTask::Told(code) => code,
+        NoTask::Memory => no_memory(rt),
     }
 }
 

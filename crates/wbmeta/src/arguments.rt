@@ -1,8 +1,10 @@
 //! The arguments of the program.
 
-use clap::{Command, Error};
-use std::alloc::Global;
-use wb_opened::{NoTask, VERSION, with_table};
+use clap::ArgMatches;
+use wb_arguments::{FromWords, NoTask, Program, Subcommand};
+
+/// What is asked of who calls the program otherwise.
+pub const USAGE: &str = "usage: wbmeta check TABLE | dump TABLE | writeback TABLE";
 
 const ABOUT: &str =
     "Tells what lies on the metadata of a write-back cache over three files, or has what is dirty written home.";
@@ -36,40 +38,56 @@ pub enum Asked<'a> {
     Writeback(&'a str),
 }
 
-/// Reads the words of the command line, the program's name first.
-pub fn read_arguments<'a>(alloc: Global, words: &'a [String]) -> Result<Asked<'a>, NoTask> {
-    let matches = command(alloc)?.try_get_matches_from(words)?;
-    let asked = match matches.subcommand() {
-        Some(("check", given)) => given.get_str("TABLE").map(|table| Asked::Check(table)),
-        Some(("dump", given)) => given.get_str("TABLE").map(|table| Asked::Dump(table)),
-        Some(("writeback", given)) => {
-            given.get_str("TABLE").map(|table| Asked::Writeback(table))
+impl<'a> FromWords<'a> for Asked<'a> {
+    fn from_words(given: &ArgMatches<'a>) -> Option<Asked<'a>> {
+        let (name, given) = given.subcommand()?;
+        let table = given.get_str("TABLE")?;
+        match name {
+            "check" => Some(Asked::Check(table)),
+            "dump" => Some(Asked::Dump(table)),
+            "writeback" => Some(Asked::Writeback(table)),
+            _ => None,
         }
-        _ => None,
-    };
-    asked.ok_or(NoTask::Unknown)
+    }
 }
 
-fn command<'a>(alloc: Global) -> Result<Command<'a>, Error> {
-    Ok(
-        Command::new(alloc, "wbmeta")
-            .about(ABOUT)
-            .version(VERSION)
-            .after_help(TEXTS)
-            .disable_help_subcommand(true)
-            .subcommand_required(true)
-            .subcommand(with_table(
-                alloc,
-                "check",
-                "Tell whether the cache can be opened, and how it stands",
-                TEXTS,
-            )?)?
-            .subcommand(with_table(alloc, "dump", "List the blocks that are cached", TEXTS)?)?
-            .subcommand(with_table(
-                alloc,
-                "writeback",
-                "Write all dirty blocks to the origin, and leave the cache clean",
-                TEXTS,
-            )?)?,
-    )
+const CHECK: Subcommand = Subcommand {
+    name: "check",
+    about: "Tell whether the cache can be opened, and how it stands",
+    texts: None,
+    takes_table: true,
+    options: &[],
+};
+
+const DUMP: Subcommand = Subcommand {
+    name: "dump",
+    about: "List the blocks that are cached",
+    texts: None,
+    takes_table: true,
+    options: &[],
+};
+
+const WRITEBACK: Subcommand = Subcommand {
+    name: "writeback",
+    about: "Write all dirty blocks to the origin, and leave the cache clean",
+    texts: None,
+    takes_table: true,
+    options: &[],
+};
+
+const PROGRAM: Program = Program {
+    name: "wbmeta",
+    about: ABOUT,
+    texts: TEXTS,
+    usage: USAGE,
+    options: &[],
+    subcommands: &[&CHECK, &DUMP, &WRITEBACK],
+};
+
+/// Reads the words of the command line, the program's name first.
+pub fn read_arguments<'a, R: AllocGlobal + Print + Eprint>(
+    rt: &R,
+    words: &'a [String],
+) -> Result<Asked<'a>, NoTask> {
+    PROGRAM.asked(rt, words)
 }

@@ -6,7 +6,7 @@ mod draining;
 mod found;
 mod telling;
 
-use crate::arguments::{Asked, read_arguments};
+use crate::arguments::{Asked, USAGE, read_arguments};
 use crate::draining::{Drain, cleaning};
 use crate::found::{Counted, Found, count, read_metadata};
 use crate::telling::{MOST_HELD, Untold, dump, summarize, tell};
@@ -15,14 +15,12 @@ use std::io::{BufWriter, IsTerminal, Write};
 use std::process::ExitCode;
 use std::sync::Wait;
 use std::thread::Threads;
+use wb_arguments::{NoTask, STREAM_FAILED, command_words};
 use wb_disk::Disk;
 use wb_files::{Alarm, Hurry, hold_streams, open_table};
-use wb_opened::{NoTask, STREAM_FAILED, Unserved, command_words, serve_all};
+use wb_opened::{Unserved, serve_all};
 use wb_table::read_table;
 use wb_types::{Geometry, Mode, Refusal};
-
-/// What is asked of who calls the program otherwise.
-const USAGE: &str = "usage: wbmeta check TABLE | dump TABLE | writeback TABLE";
 
 /// The exit status of a refusal.
 const REFUSED: u8 = 1;
@@ -40,15 +38,15 @@ fn main(rt: HostRuntime) -> ExitCode {
 
 /// Does what the arguments ask, and gives the exit status. Who waits or starts threads does so by the second handle.
 fn serve<T: Threads + Wait + Eprint + Sync>(rt: &HostRuntime, waits: &T) -> u8 {
-    let words = match command_words(rt) {
+    let words = match command_words(rt, USAGE) {
         Ok(words) => words,
-        Err(why) => return no_task(rt, &why),
+        Err(why) => return no_task(rt, why),
     };
-    match read_arguments(rt.alloc(), words.as_slice()) {
+    match read_arguments(rt, words.as_slice()) {
         Ok(Asked::Check(table)) => read(rt, table, false),
         Ok(Asked::Dump(table)) => read(rt, table, true),
         Ok(Asked::Writeback(table)) => write_back(rt, waits, table),
-        Err(why) => no_task(rt, &why),
+        Err(why) => no_task(rt, why),
     }
 }
 
@@ -196,11 +194,11 @@ fn status_of(refusal: Refusal) -> u8 {
     }
 }
 
-/// Says why there is no task, and gives the exit status.
-fn no_task(rt: &HostRuntime, why: &NoTask) -> u8 {
-    match why.tell(rt, USAGE) {
-        Some(code) => code,
-        None => no_memory(rt),
+/// Gives the exit status where there is no task.
+fn no_task(rt: &HostRuntime, why: NoTask) -> u8 {
+    match why {
+        NoTask::Told(code) => code,
+        NoTask::Memory => no_memory(rt),
     }
 }
 

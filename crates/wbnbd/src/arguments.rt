@@ -1,8 +1,10 @@
 //! The arguments of the program.
 
-use clap::{Arg, ArgAction, Command, Error};
-use std::alloc::Global;
-use wb_opened::{NoTask, VERSION, table_argument};
+use clap::ArgMatches;
+use wb_arguments::{FromWords, Named, NoTask, Program};
+
+/// What is asked of who calls the program otherwise.
+pub const USAGE: &str = "usage: wbnbd [-q] [--wait SECONDS] [--control FILE] TABLE";
 
 const ABOUT: &str =
     "Serves a write-back cache over three files as a network block device, to one client on standard input and output.";
@@ -47,49 +49,58 @@ pub struct Asked<'a> {
     pub control: Option<&'a str>,
 }
 
-/// Reads the words of the command line, the program's name first.
-pub fn read_arguments<'a>(alloc: Global, words: &'a [String]) -> Result<Asked<'a>, NoTask> {
-    let matches = command(alloc)?.try_get_matches_from(words)?;
-    let Some(table) = matches.get_str("TABLE") else {
-        return Err(NoTask::Unknown);
-    };
-    let wait = match matches.get_str("wait") {
-        Some(seconds) => match seconds.parse() {
-            Ok(seconds) => seconds,
-            Err(_) => return Err(NoTask::Unknown),
-        },
-        None => WAIT,
-    };
-    Ok(Asked {
-        table,
-        wait,
-        quiet: matches.get_flag("quiet"),
-        control: matches.get_str("control"),
-    })
+impl<'a> FromWords<'a> for Asked<'a> {
+    fn from_words(given: &ArgMatches<'a>) -> Option<Asked<'a>> {
+        let wait = match given.get_str("wait") {
+            Some(seconds) => seconds.parse().ok()?,
+            None => WAIT,
+        };
+        Some(Asked {
+            table: given.get_str("TABLE")?,
+            wait,
+            quiet: given.get_flag("quiet"),
+            control: given.get_str("control"),
+        })
+    }
 }
 
-fn command<'a>(alloc: Global) -> Result<Command<'a>, Error> {
-    let wait = Arg::new(alloc, "wait")
-        .long("wait")
-        .help("Seconds to wait for files that another program holds [default: 5]")
-        .action(ArgAction::Set);
-    let control = Arg::new(alloc, "control")
-        .long("control")
-        .help("Answer the lines that are added to this file, as below")
-        .action(ArgAction::Set);
-    let quiet = Arg::new(alloc, "quiet")
-        .short('q')
-        .long("quiet")
-        .help("Say on standard error only what went wrong")
-        .action(ArgAction::SetTrue);
-    Ok(
-        Command::new(alloc, "wbnbd")
-            .about(ABOUT)
-            .version(VERSION)
-            .after_help(TEXTS)
-            .arg(wait)?
-            .arg(control)?
-            .arg(quiet)?
-            .arg(table_argument(alloc))?,
-    )
+const WAITS: Named = Named {
+    name: "wait",
+    short: None,
+    help: "Seconds to wait for files that another program holds [default: 5]",
+    takes_value: true,
+    is_global: false,
+};
+
+const CONTROL: Named = Named {
+    name: "control",
+    short: None,
+    help: "Answer the lines that are added to this file, as below",
+    takes_value: true,
+    is_global: false,
+};
+
+const QUIET: Named = Named {
+    name: "quiet",
+    short: Some('q'),
+    help: "Say on standard error only what went wrong",
+    takes_value: false,
+    is_global: false,
+};
+
+const PROGRAM: Program = Program {
+    name: "wbnbd",
+    about: ABOUT,
+    texts: TEXTS,
+    usage: USAGE,
+    options: &[&WAITS, &CONTROL, &QUIET],
+    subcommands: &[],
+};
+
+/// Reads the words of the command line, the program's name first.
+pub fn read_arguments<'a, R: AllocGlobal + Print + Eprint>(
+    rt: &R,
+    words: &'a [String],
+) -> Result<Asked<'a>, NoTask> {
+    PROGRAM.asked(rt, words)
 }

@@ -4,8 +4,9 @@ ghost use Rattle.std.specs.Prelude.{◌≡◌, ◌<◌};
 
 use std::fmt::{Display, Formatter};
 use std::{fmt, io};
+use wb_arguments::STREAM_FAILED;
 use wb_nbd::Broken;
-use wb_opened::{STREAM_FAILED, Unserved};
+use wb_opened::Unserved;
 use wb_types::Refusal;
 
 /// The exit status, and why it is not 0.

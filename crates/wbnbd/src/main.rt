@@ -10,19 +10,16 @@ mod pace;
 mod server;
 mod teller;
 
-use crate::arguments::read_arguments;
+use crate::arguments::{USAGE, read_arguments};
 use crate::ended::Ended;
 use std::io::{BufReader, BufWriter};
 use std::process::ExitCode;
 use std::sync::Wait;
 use std::thread::Threads;
 use std::time::Clock;
+use wb_arguments::{NoTask, STREAM_FAILED, command_words};
 use wb_files::{Awaited, hold_streams};
-use wb_opened::{NoTask, STREAM_FAILED, command_words};
 use wb_types::Refusal;
-
-/// What is asked of who calls the program otherwise.
-const USAGE: &str = "usage: wbnbd [-q] [--wait SECONDS] [--control FILE] TABLE";
 
 /// Bytes of what the client sends, and of what it is told, that are kept for one call of the system: 256 KiB.
 const BUFFER: usize = 262_144;
@@ -38,13 +35,13 @@ fn main(rt: HostRuntime) -> ExitCode {
 /// Does what the arguments ask, and gives the exit status. Who waits or starts threads does so by the second handle.
 fn serve<T: Threads + Wait + Clock + Eprint + Sync>(rt: &HostRuntime, waits: &T) -> u8 {
     let alloc = rt.alloc();
-    let words = match command_words(rt) {
+    let words = match command_words(rt, USAGE) {
         Ok(words) => words,
-        Err(why) => return no_task(rt, &why),
+        Err(why) => return no_task(rt, why),
     };
-    let asked = match read_arguments(alloc, words.as_slice()) {
+    let asked = match read_arguments(rt, words.as_slice()) {
         Ok(asked) => asked,
-        Err(why) => return no_task(rt, &why),
+        Err(why) => return no_task(rt, why),
     };
     let input = Awaited {
         clock: waits,
@@ -72,10 +69,10 @@ fn tell<R: Eprint>(rt: &R, ended: &Ended<'_>) -> u8 {
     ended.code
 }
 
-/// Says why there is no task, and gives the exit status.
-fn no_task(rt: &HostRuntime, why: &NoTask) -> u8 {
-    match why.tell(rt, USAGE) {
-        Some(code) => code,
-        None => tell(rt, &Ended::refused(Refusal::Memory)),
+/// Gives the exit status where there is no task.
+fn no_task(rt: &HostRuntime, why: NoTask) -> u8 {
+    match why {
+        NoTask::Told(code) => code,
+        NoTask::Memory => tell(rt, &Ended::refused(Refusal::Memory)),
     }
 }
