@@ -167,7 +167,8 @@ fn slots_of<'t, D: Disk + Drop, P: Policy>(
 ) -> Result<Vec<Slot<'t, D, P>>, AllocError> {
     let mut slots = Vec::new(alloc);
     for _ in 0..LANES {
-        slots.push(Mutex::new(None)).map_err(|_| AllocError)?;
+        slots.reserve(1)?;
+        slots.push_reserved(Mutex::new(None));
     }
     Ok(slots)
 }
@@ -204,20 +205,31 @@ where
     't: 's,
 {
     scope
-        .spawn(move || serve_lane(waits, slot, lanes, lane))
+        .spawn(move || take_turn(waits, slot, lanes, lane, Turn::Serve))
         .is_ok()
 }
 
-/// What the thread of a lane does.
-fn serve_lane<'t, T: Wait, D: Disk + Drop, P: Policy, L: Lanes>(
+/// What the client of a lane does: all that comes on its thread, or without one what waits.
+#[derive(Clone, Copy)]
+enum Turn {
+    Serve,
+    CatchUp,
+}
+
+/// Has the client of a lane do that, if it has begun.
+fn take_turn<'t, T: Wait, D: Disk + Drop, P: Policy, L: Lanes>(
     waits: &T,
     slot: &Slot<'t, D, P>,
     lanes: &L,
     lane: usize,
+    turn: Turn,
 ) {
     let mut held = slot.lock(waits);
     if let Some(client) = held.as_mut() {
-        lanes.serve(waits, lane, client);
+        match turn {
+            Turn::Serve => lanes.serve(waits, lane, client),
+            Turn::CatchUp => lanes.catch_up(waits, lane, client),
+        }
     }
 }
 
@@ -230,10 +242,7 @@ fn catch_up<'t, T: Wait, D: Disk + Drop, P: Policy, L: Lanes>(
 ) {
     for (lane, slot) in slots.iter().enumerate() {
         if has_thread.get(lane) == Some(&false) {
-            let mut held = slot.lock(waits);
-            if let Some(client) = held.as_mut() {
-                lanes.catch_up(waits, lane, client);
-            }
+            take_turn(waits, slot, lanes, lane, Turn::CatchUp);
         }
     }
 }

@@ -264,10 +264,11 @@ fn errands_of<'a, 'w, R: Files<File = File>, N: Watch, S: Service + Drop>(
 {
     let mut errands = Vec::new(alloc);
     for service in services {
-        let devices = open_unlocked(rt, table, watch)?;
-        if errands.push(sent(devices, service)).is_err() {
+        if errands.reserve(1).is_err() {
             return Err(Unserved::Refused(Refusal::Memory));
         }
+        let devices = open_unlocked(rt, table, watch)?;
+        errands.push_reserved(sent(devices, service));
     }
     Ok(errands)
 }
@@ -281,8 +282,9 @@ fn all_told<D: Drop, X: Drop>(
 {
     let mut all = Vec::new(alloc);
     for one in returned {
+        all.reserve(1)?;
         let Returned { told, .. } = one;
-        all.push(told).map_err(|_| AllocError)?;
+        all.push_reserved(told);
     }
     Ok(all)
 }

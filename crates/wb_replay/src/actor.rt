@@ -62,7 +62,8 @@ impl Actor {
 pub(crate) fn actors_of(alloc: Global, count: u64) -> Result<Vec<Actor>, AllocError> {
     let mut actors = Vec::new(alloc);
     for _ in 0..count {
-        actors.push(Actor::new(alloc)).map_err(|_| AllocError)?;
+        actors.reserve(1)?;
+        actors.push_reserved(Actor::new(alloc));
     }
     Ok(actors)
 }

@@ -144,11 +144,10 @@ pub struct Beside {
 impl Beside {
     /// Those of nobody yet.
     pub fn new(alloc: Global) -> Result<Beside, AllocError> {
-        let mut lanes = Vec::with_capacity(alloc, LANES)?;
+        let mut lanes = Vec::new(alloc);
         for client in 1..=8 {
-            lanes
-                .push(Lane::new(alloc, client))
-                .map_err(|_| AllocError)?;
+            lanes.reserve(1)?;
+            lanes.push_reserved(Lane::new(alloc, client));
         }
         Ok(Beside { lanes })
     }
@@ -166,7 +165,8 @@ impl Beside {
     /// Waits until all clients have answered all, and adds what each told since the last time, in their order.
     pub fn join<R: Wait>(&self, rt: &R, all: &mut Vec<Told>) -> Result<(), AllocError> {
         for lane in &self.lanes {
-            all.push(lane.join(rt)).map_err(|_| AllocError)?;
+            all.reserve(1)?;
+            all.push_reserved(lane.join(rt));
         }
         Ok(())
     }

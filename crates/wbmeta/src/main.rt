@@ -121,7 +121,8 @@ fn drain<T: Threads + Wait + Eprint + Sync>(
         rt: waits,
         is_shown: rt.stderr().is_terminal(),
     };
-    services.push(service).map_err(|_| Refusal::Memory)?;
+    services.reserve(1)?;
+    services.push_reserved(service);
     match serve_all(rt, waits, rt.alloc(), text, &mut Hurry, &alarm, services) {
         Ok((told, suspended)) => match told.as_slice() {
             [Ok(Ok(blocks))] => suspended.map(|_| *blocks),

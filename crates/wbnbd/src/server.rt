@@ -76,19 +76,17 @@ fn services_of<'a, T, I, O>(
     connection: &'a Connection<I, O>,
 ) -> Result<Vec<Beside<'a, T, I, O>>, AllocError> {
     let mut services = Vec::new(alloc);
-    services
-        .push(Beside::Work(teller, pace))
-        .map_err(|_| AllocError)?;
+    services.reserve(1)?;
+    services.push_reserved(Beside::Work(teller, pace));
     if let Some(lines) = lines {
+        services.reserve(1)?;
         let control = Control {
             alloc,
             lines,
             pace,
             teller,
         };
-        services
-            .push(Beside::Answer(control))
-            .map_err(|_| AllocError)?;
+        services.push_reserved(Beside::Answer(control));
     }
     for _ in 0..SERVERS {
         let peer = Peer {
@@ -97,7 +95,8 @@ fn services_of<'a, T, I, O>(
             place: Place { pace },
             teller,
         };
-        services.push(Beside::Serve(peer)).map_err(|_| AllocError)?;
+        services.reserve(1)?;
+        services.push_reserved(Beside::Serve(peer));
     }
     Ok(services)
 }
