@@ -76,17 +76,19 @@ fn services_of<'a, T, I, O>(
     connection: &'a Connection<I, O>,
 ) -> Result<Vec<Beside<'a, T, I, O>>, AllocError> {
     let mut services = Vec::new(alloc);
-    services.reserve(1)?;
-    services.push_reserved(Beside::Work(teller, pace));
+    services
+        .push(Beside::Work(teller, pace))
+        .map_err(|_| AllocError)?;
     if let Some(lines) = lines {
-        services.reserve(1)?;
         let control = Control {
             alloc,
             lines,
             pace,
             teller,
         };
-        services.push_reserved(Beside::Answer(control));
+        services
+            .push(Beside::Answer(control))
+            .map_err(|_| AllocError)?;
     }
     for _ in 0..SERVERS {
         let peer = Peer {
@@ -95,8 +97,7 @@ fn services_of<'a, T, I, O>(
             place: Place { pace },
             teller,
         };
-        services.reserve(1)?;
-        services.push_reserved(Beside::Serve(peer));
+        services.push(Beside::Serve(peer)).map_err(|_| AllocError)?;
     }
     Ok(services)
 }
