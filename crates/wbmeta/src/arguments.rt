@@ -3,9 +3,6 @@
 use clap::ArgMatches;
 use wb_arguments::{FromWords, NoTask, Program, Subcommand};
 
-/// What is asked of who calls the program otherwise.
-pub const USAGE: &str = "usage: wbmeta check TABLE | dump TABLE | writeback TABLE";
-
 const ABOUT: &str =
     "Tells what lies on the metadata of a write-back cache over three files, or has what is dirty written home.";
 
@@ -26,6 +23,9 @@ written by the next call.
 All three files are locked meanwhile; what another program holds is refused.
 Status: 0 it can be opened, 1 it was refused, 2 the arguments, 3 a device
 failed or a file is held, 4 the output failed.";
+
+/// What is asked of who calls the program otherwise.
+pub const USAGE: &str = "usage: wbmeta check TABLE | dump TABLE | writeback TABLE";
 
 /// What the program is asked to do.
 #[derive(Clone, Copy)]
