@@ -1,6 +1,6 @@
 //! Metadata of version 1 that are opened where version 2 is asked for.
 
-use crate::faults::{Failing, Trial, count_borne, crashed, unwrapped};
+use crate::faults::{Failing, crashed, unwrapped};
 use crate::fixture::{
     Lent, Memory, formatted, formatted_on, open, open_second, shows, worked, write_and_read,
 };
@@ -17,6 +17,9 @@ use wb_types::{Key, Mode, Refusal};
 
 /// The calls that a conversion of one node makes: a sync, and three that read; the node, a sync, the root and its sync.
 const CALLS: u64 = 8;
+
+/// No conversion makes as many.
+const MOST_CALLS: u64 = 200;
 
 /// The first of them that writes.
 const FIRST_WRITE: u64 = 4;
@@ -87,7 +90,7 @@ fn tried(
 
 /// Whether all is shown where this call of a conversion fails, and the metadata are opened again then, version 2 asked for or not. None where
 /// the call never comes.
-pub fn is_conversion_borne(
+fn is_borne(
     rt: &impl Wait,
     alloc: Global,
     call: u64,
@@ -111,13 +114,28 @@ pub fn is_conversion_borne(
     Ok(Some(shown && target.counts(rt).mapped == 4))
 }
 
+/// How many calls were made to fail, one in each conversion, if each was borne.
+fn count_borne(
+    rt: &impl Wait,
+    alloc: Global,
+    base: Base,
+    second: bool,
+) -> Result<Option<u64>, Refusal> {
+    for call in 0..MOST_CALLS {
+        match is_borne(rt, alloc, call, base, second)? {
+            None => return Ok(Some(call)),
+            Some(true) => {}
+            Some(false) => return Ok(None),
+        }
+    }
+    Ok(None)
+}
+
 #[test]
 fn a_conversion_that_fails_leaves_all_that_is_cached(rt: HostRuntime) -> Result<(), Fail> {
     for base in [Base::Durable, Base::Newest] {
         for second in [false, true] {
-            assert!(rt;
-                count_borne(&rt, rt.alloc(), Trial::Converts(second), base)? == Some(CALLS)
-            );
+            assert!(rt; count_borne(&rt, rt.alloc(), base, second)? == Some(CALLS));
         }
     }
     Ok(())

@@ -1,7 +1,6 @@
 //! What clients do beside one another, each of which ends well or is told why not.
 
 use crate::bounds::end_with;
-use crate::breaking::{Arrivals, flush_and_tell, flush_behind};
 use crate::crashing::go_rounds;
 use crate::files::{Names, images};
 use crate::hooked::{Hooked, with_hook};
@@ -20,18 +19,14 @@ use wb_types::Refusal;
 
 #[derive(Drop)]
 pub enum Beside<'a, C> {
-    /// Leads a commit.
-    Leads(&'a Arrivals),
-    /// Flushes while it runs.
-    Waits(&'a C, &'a Arrivals),
     /// Goes its rounds on a sector, and tells how far it has come, and that it has ended.
     GoesRounds(u64, &'a Progress, &'a AtomicU64),
     /// Carries out a replacement, whose flush begins a commit, and is held in it.
     Replaces(&'a C, &'a Signals),
     /// Flushes once that commit runs, and tells that it is answered.
     Flushes(&'a C, &'a Signals, &'a AtomicU64),
-    /// Lets that commit go on after a while, if the flush is not answered by then, and ends the test if it never is.
-    LetsGo(&'a C, &'a Signals, &'a AtomicU64),
+    /// Lets that commit go on after a while, if no flush is answered by then, and ends the test if so many never are.
+    LetsGo(&'a C, &'a Signals, &'a AtomicU64, u64),
     /// Ends the test if so many never end.
     Watches(&'a C, &'a AtomicU64, u64),
 }
@@ -47,8 +42,6 @@ impl<'a, C: Clock + Abort> Errand for Beside<'a, C> {
         client: &mut Client<'_, D, P>,
     ) -> Result<(), Refusal> {
         match self {
-            Beside::Leads(arrivals) => flush_and_tell(rt, client, &arrivals.ended),
-            Beside::Waits(clock, arrivals) => flush_behind(rt, client, clock, arrivals),
             Beside::GoesRounds(at, progress, ended) => {
                 let told = go_rounds(rt, client, at, progress);
                 ended.fetch_add(1, Ordering::SeqCst);
@@ -58,7 +51,9 @@ impl<'a, C: Clock + Abort> Errand for Beside<'a, C> {
             Beside::Flushes(clock, signals, answered) => {
                 flush_in_it(rt, client, clock, signals, answered)
             }
-            Beside::LetsGo(clock, signals, answered) => let_go(clock, signals, answered),
+            Beside::LetsGo(clock, signals, answered, wanted) => let_go(
+                clock, signals, answered, wanted,
+            ),
             Beside::Watches(clock, ended, wanted) => {
                 end_with(clock, ended, wanted);
                 Ok(())

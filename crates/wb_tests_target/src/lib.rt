@@ -4,8 +4,6 @@
 #[cfg(test)]
 mod bounds;
 #[cfg(test)]
-mod breaking;
-#[cfg(test)]
 mod caching;
 #[cfg(test)]
 mod clean;

@@ -2,7 +2,6 @@
 
 use crate::caching::{caches, caches_and_flushes, replaces};
 use crate::converting::{leaves_one_dirty, shows_what_was_left};
-use crate::faults::{Rounds, shows_allowed};
 use crate::fixture::{Lent, Memory, client_of, formatted, open_with, shows, tells, worked};
 use crate::messages::{goes_by_threshold, invalidates};
 use crate::modes::writes_durably;
@@ -34,8 +33,6 @@ pub enum Question {
     Shows(u64, u8),
     /// Whether this is its status line.
     Tells(&'static str),
-    /// Whether each of five sectors is shown as one of these rounds wrote it.
-    ShowsAllowed(Rounds),
     /// Whether the first sector is written twice without a wait.
     WritesTwice,
     /// Whether an order is given where the threshold has room for its block, and not below.
@@ -126,7 +123,6 @@ fn answer(
         Question::TakesNoMore => takes_no_more(rt, client),
         Question::CarriesOutAll => carries_out_all(rt, target, client),
         Question::Shows(at, byte) => shows(rt, client, at, byte),
-        Question::ShowsAllowed(rounds) => shows_allowed(rt, client, rounds),
         Question::Tells(line) => tells(rt, alloc, target, line),
         Question::WritesTwice => writes_twice(client),
         Question::GoesByThreshold => goes_by_threshold(rt, client),

@@ -1,7 +1,7 @@
-//! A flush beside a commit that runs: it waits for it, and is told where it fails.
+//! Flushes beside a commit that runs: they wait for it, and where it fails who led it is told why, and all who wait are woken and told that
+//! the target has failed.
 
 use crate::bounds::end_with;
-use crate::breaking::flush_and_tell;
 use crate::caching::order_replacement;
 use crate::errands::Beside;
 use crate::files::{Images, Names, client_over, images, target_over};
@@ -29,21 +29,27 @@ pub fn flush_in_it<D: Disk + Drop, P: Policy>(
     answered: &AtomicU64,
 ) -> Result<(), Refusal> {
     let stands = await_signal(clock, &signals.stands);
-    flush_and_tell(rt, client, answered)?;
-    if stands { Ok(()) } else { Err(Refusal::Busy) }
+    let flushed = client.flush(rt);
+    answered.fetch_add(1, Ordering::SeqCst);
+    match flushed {
+        Ok(_) if stands => Ok(()),
+        Ok(_) => Err(Refusal::Busy),
+        Err(refusal) => Err(refusal),
+    }
 }
 
-/// Lets the commit go on after a while. `Busy` where the flush is answered by then.
+/// Lets the commit go on after a while, and ends the test if so many flushes are not answered then. `Busy` where one was answered before.
 pub fn let_go<C: Clock + Abort>(
     clock: &C,
     signals: &Signals,
     answered: &AtomicU64,
+    wanted: u64,
 ) -> Result<(), Refusal> {
     let stands = await_signal(clock, &signals.stands);
     thread::sleep(clock, Duration::from_millis(200));
     let waits = answered.load(Ordering::SeqCst) == 0;
     signals.goes.store(1, Ordering::SeqCst);
-    end_with(clock, answered, 1);
+    end_with(clock, answered, wanted);
     if stands && waits {
         Ok(())
     } else {
@@ -53,18 +59,29 @@ pub fn let_go<C: Clock + Abort>(
 
 type Failing = FaultDisk<FileDisk>;
 
-/// These files, of which the cache fails at its call of this number.
-fn failing(rt: &HostRuntime, names: &Names, call: Option<u64>) -> Result<Devices<Failing>, Fail> {
+/// These files, of which this device fails at its call of this number.
+fn failing(
+    rt: &HostRuntime,
+    names: &Names,
+    fails: Option<(Dev, u64)>,
+) -> Result<Devices<Failing>, Fail> {
     let Devices {
         metadata,
         cache,
         origin,
     } = images(rt, names)?;
     Ok(Devices {
-        metadata: FaultDisk::new(metadata, None),
-        cache: FaultDisk::new(cache, call),
-        origin: FaultDisk::new(origin, None),
+        metadata: FaultDisk::new(metadata, call_of(Dev::Metadata, fails)),
+        cache: FaultDisk::new(cache, call_of(Dev::Cache, fails)),
+        origin: FaultDisk::new(origin, call_of(Dev::Origin, fails)),
     })
+}
+
+fn call_of(device: Dev, fails: Option<(Dev, u64)>) -> Option<u64> {
+    match fails {
+        Some((failing, call)) if failing == device => Some(call),
+        _ => None,
+    }
 }
 
 /// Has a replacement ordered by a client that then goes.
@@ -75,53 +92,77 @@ fn order(rt: &impl Wait, target: &Target<TinyLfu>, images: Images) -> Result<boo
     Ok(ordered)
 }
 
-/// The three of them, the worker's cache failing at this call.
-fn all_three<'a>(
+/// The worker, a call of whose devices may fail, those who flush, and who lets the commit go on.
+fn all_of_them<'a>(
     rt: &'a HostRuntime,
-    names: &Names,
-    call: Option<u64>,
+    fails: Option<(Dev, u64)>,
+    flushes: u64,
     signals: &'a Signals,
     answered: &'a AtomicU64,
 ) -> Result<Vec<Sent<Failing, Beside<'a, HostRuntime>>>, Fail> {
     let mut sent = Vec::new(rt.alloc());
-    let errands = [
-        (call, Beside::Replaces(rt, signals)),
-        (None, Beside::Flushes(rt, signals, answered)),
-        (None, Beside::LetsGo(rt, signals, answered)),
-    ];
-    for (call, errand) in errands {
-        let devices = failing(rt, names, call)?;
-        sent.push(Sent { devices, errand })?;
+    sent.push(Sent {
+        devices: failing(rt, &WAITED, fails)?,
+        errand: Beside::Replaces(rt, signals),
+    })?;
+    for _ in 0..flushes {
+        sent.push(Sent {
+            devices: failing(rt, &WAITED, None)?,
+            errand: Beside::Flushes(rt, signals, answered),
+        })?;
     }
+    sent.push(Sent {
+        devices: failing(rt, &WAITED, None)?,
+        errand: Beside::LetsGo(rt, signals, answered, flushes),
+    })?;
     Ok(sent)
 }
 
-/// Files, the call of the worker's cache that fails, if any, and how the three end: a flush waits for the commit that runs, and is told where
-/// that fails.
-const ROWS: [(Names, Option<u64>, [Result<(), Refusal>; 3]); 2] = [
-    (
-        ["waited_m.img", "waited_c.img", "waited_o.img"],
-        None,
-        [Ok(()), Ok(()), Ok(())],
-    ),
-    (
-        ["broken_m.img", "broken_c.img", "broken_o.img"],
-        Some(0),
-        [Err(Refusal::Io(Dev::Cache)), Err(Refusal::Failed), Ok(())],
-    ),
+/// How they end.
+fn wanted(
+    rt: &HostRuntime,
+    fails: Option<(Dev, u64)>,
+    flushes: u64,
+) -> Result<Vec<Result<(), Refusal>>, Fail> {
+    let (leads, waits) = match fails {
+        Some((device, _)) => (Err(Refusal::Io(device)), Err(Refusal::Failed)),
+        None => (Ok(()), Ok(())),
+    };
+    let mut all = Vec::new(rt.alloc());
+    all.push(leads)?;
+    for _ in 0..flushes {
+        all.push(waits)?;
+    }
+    all.push(Ok(()))?;
+    Ok(all)
+}
+
+const WAITED: Names = ["waited_m.img", "waited_c.img", "waited_o.img"];
+
+/// The call of the worker's devices that fails, if any: its commit syncs the cache and the origin, and writes and syncs first a node of the
+/// metadata and then the root; and how many flush meanwhile.
+const ROWS: [(Option<(Dev, u64)>, u64); 7] = [
+    (None, 1),
+    (Some((Dev::Cache, 0)), 15),
+    (Some((Dev::Origin, 0)), 15),
+    (Some((Dev::Metadata, 0)), 15),
+    (Some((Dev::Metadata, 1)), 15),
+    (Some((Dev::Metadata, 2)), 15),
+    (Some((Dev::Metadata, 3)), 15),
 ];
 
 #[test]
 fn a_flush_waits_for_the_commit_that_runs(rt: HostRuntime) -> Result<(), Fail> {
-    for (names, call, wanted) in &ROWS {
-        let target = target_over(&rt, names)?;
+    for (fails, flushes) in ROWS {
+        let target = target_over(&rt, &WAITED)?;
         let signals = Signals::new();
         let answered = AtomicU64::new(0);
-        let ordered = order(&rt, &target, images(&rt, names)?);
-        let errands = all_three(&rt, names, *call, &signals, &answered)?;
-        let ended = all_tell(&rt, &target, errands, wanted);
+        let ordered = order(&rt, &target, images(&rt, &WAITED)?);
+        let errands = all_of_them(&rt, fails, flushes, &signals, &answered)?;
+        let wanted = wanted(&rt, fails, flushes)?;
+        let ended = all_tell(&rt, &target, errands, wanted.as_slice());
         drop(target);
-        assert!(rt; ordered? && ended?);
+        assert!(rt; ordered? && ended?, "{fails:?}");
     }
     Ok(())
 }
