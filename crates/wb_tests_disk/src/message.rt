@@ -6,10 +6,14 @@ use wb_types::{CBlockRange, Key, Message, Refusal};
 
 /// Whether a text gives a key this value.
 fn sets(alloc: Global, text: &str, key: Key, value: u64) -> bool {
-    match read_message(alloc, text) {
-        Ok(Message::Set(told, given)) => told == key && given == value,
-        _ => false,
-    }
+    let Ok(Message::Set(told, given)) = read_message(alloc, text) else {
+        return false;
+    };
+    let is_that = match key {
+        Key::MigrationThreshold => matches!(told, Key::MigrationThreshold),
+        Key::PromoteMin => matches!(told, Key::PromoteMin),
+    };
+    is_that && given == value
 }
 
 /// Whether a text names these ranges of cache blocks, each from one up to, and without, another.
