@@ -10,14 +10,14 @@ use wb_table::read_table;
 pub const MOST_SECTORS: u64 = 2_048;
 
 /// Which way the sectors go.
-#[derive(Clone, Copy, Debug, PartialEq, Eq)]
+#[derive(Clone, Copy)]
 pub enum Direction {
     Read,
     Write,
 }
 
 /// A file, and the requests to drive over it.
-#[derive(Clone, Copy, Debug)]
+#[derive(Clone, Copy)]
 pub struct Requests<'a> {
     pub file: &'a str,
     pub direction: Direction,
@@ -28,7 +28,7 @@ pub struct Requests<'a> {
 }
 
 /// What is to be timed.
-#[derive(Clone, Copy, Debug)]
+#[derive(Clone, Copy)]
 pub enum Asked<'a> {
     Requests(Requests<'a>),
     /// Settle so many accesses, or tick so often, over a cache of so many blocks.

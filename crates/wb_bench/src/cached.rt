@@ -31,7 +31,7 @@ const BETWEEN_LOOKS: u64 = 16;
 const NANOSECONDS_OF_A_MILLISECOND: u64 = 1_000_000;
 
 /// Which call is timed.
-#[derive(Clone, Copy, Debug, PartialEq, Eq)]
+#[derive(Clone, Copy, PartialEq, Eq)]
 pub enum Call {
     TryRead,
     TryWrite,
@@ -48,7 +48,7 @@ pub enum Call {
 }
 
 /// The table of a formatted cache, and the requests over it.
-#[derive(Clone, Copy, Debug)]
+#[derive(Clone, Copy)]
 pub struct Cached<'a> {
     /// Its blocks are of `BLOCK` sectors.
     pub table: Table<'a>,
@@ -62,7 +62,7 @@ pub struct Cached<'a> {
 }
 
 /// How long it took, in nanoseconds.
-#[derive(Clone, Copy, Debug)]
+#[derive(Clone, Copy)]
 pub struct Took {
     pub promotions: u64,
     pub promoting: u64,
@@ -87,7 +87,7 @@ struct Load<'c, C> {
 }
 
 /// The requests that were answered, and the nanoseconds that they took.
-#[derive(Clone, Copy, Debug)]
+#[derive(Clone, Copy)]
 struct Answered {
     requests: u64,
     serving: u64,

@@ -1,7 +1,7 @@
 //! What a desk counts.
 
 /// What a desk counts.
-#[derive(Clone, Copy, Debug)]
+#[derive(Clone, Copy)]
 pub struct Counts {
     /// The generation of the root that stands.
     pub generation: u64,

@@ -12,7 +12,7 @@ use wb_tree::{PlacedNode, Reached};
 use wb_types::{Place, Refusal};
 
 /// A word of a node that is no leaf, and the node that it names: of level 1 or 2, and as which of its level, counted from 0.
-#[derive(Clone, Copy, Debug)]
+#[derive(Clone, Copy)]
 pub(crate) struct Child {
     level: u32,
     index: u64,

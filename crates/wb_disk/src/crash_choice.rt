@@ -7,7 +7,7 @@ use std::marker::Model;
 use wb_types::Dev;
 
 /// What is kept of a sector that is not named.
-#[derive(Clone, Copy, Debug, PartialEq, Eq)]
+#[derive(Clone, Copy)]
 pub enum Base {
     /// What it held at the last sync.
     Durable,
@@ -17,7 +17,7 @@ pub enum Base {
 
 /// A content of a sector of a device, by its position in the sector's list: 0 is the durable one, and each write
 /// since has the next.
-#[derive(Clone, Copy, Debug, PartialEq, Eq)]
+#[derive(Clone, Copy)]
 pub struct NamedContent {
     pub device: Dev,
     pub sector: u64,
@@ -35,7 +35,7 @@ impl NamedContent {
 }
 
 /// A content for each sector of the devices. Of two names for one sector the later counts.
-#[derive(Debug, Drop)]
+#[derive(Drop)]
 pub struct CrashChoice {
     base: Base,
     named: Vec<NamedContent>,

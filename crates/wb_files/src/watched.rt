@@ -13,7 +13,7 @@ use wb_disk::FileDisk;
 use wb_types::Dev;
 
 /// A step on a file.
-#[derive(Clone, Copy, Debug, PartialEq, Eq)]
+#[derive(Clone, Copy)]
 pub enum Step {
     Read,
     Write,

@@ -16,7 +16,7 @@ const MAPPING: [u8; 8] = *b"WBCNODE1";
 const DIRTY: [u8; 8] = *b"WBCDIRT1";
 
 /// A node of the mapping tree, or of the tree of dirty bits that metadata of the second version have.
-#[derive(Clone, Copy, Debug, PartialEq, Eq)]
+#[derive(Clone, Copy)]
 pub struct Node {
     /// The generation of the commit that wrote it.
     pub generation: u64,

@@ -13,7 +13,7 @@ use wb_types::{Content, Geometry, Place, SECTOR_BYTES, Version};
 const MAGIC: [u8; 8] = *b"WBCROOT1";
 
 /// A root: which mapping the metadata device stands for, and in the second version which of its blocks are dirty.
-#[derive(Clone, Copy, Debug, PartialEq, Eq)]
+#[derive(Clone, Copy, PartialEq, Eq)]
 pub struct Root {
     /// The number of this root: 0 from formatting, and one more with each root that follows.
     pub generation: u64,

@@ -118,7 +118,7 @@ fn is_reserved(desk: &Desk<Quiet>, cache: CBlock) -> bool
     ensures other { OnFalse result (¬ (slice_get desk.now.space.blocks cache.0 ≡ Some Reserved)) }
 {
     see_desk(desk);
-    cache.0 < desk.geometry().cache_blocks && desk.holding(cache) == Holding::Reserved
+    cache.0 < desk.geometry().cache_blocks && matches!(desk.holding(cache), Holding::Reserved)
 }
 
 /// What holds of every desk. It does nothing.

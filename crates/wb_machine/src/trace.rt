@@ -10,7 +10,7 @@ use wb_promise::Record;
 use wb_types::Refusal;
 
 /// The records of a machine, one for each event, in order. A contract sees also for how many there is memory.
-#[derive(Debug, Drop)]
+#[derive(Drop)]
 pub struct Trace {
     records: Vec<Record>,
 }

@@ -15,7 +15,7 @@ use wb_disk::Disk;
 use wb_types::{Place, Refusal};
 
 /// One step of a commit.
-#[derive(Clone, Copy, Debug, PartialEq, Eq)]
+#[derive(Clone, Copy, PartialEq, Eq)]
 pub enum CommitStep {
     /// A node is written to this place.
     WriteNode(Place),
@@ -27,7 +27,7 @@ pub enum CommitStep {
 
 /// A commit by single steps of the metadata device: it writes each node, syncs, writes the root, and syncs. What
 /// is done to other devices between the steps changes nothing of it.
-#[derive(Clone, Copy, Debug, PartialEq, Eq)]
+#[derive(Clone, Copy)]
 pub enum CommitSteps {
     /// So many nodes were written.
     NodesWritten(usize),

@@ -4,7 +4,7 @@ ghost use Rattle.std.specs.Prelude.{◌≡◌};
 ghost use Rattle.wb_nbd.specs.Replies.{error_number};
 
 /// Why a request is answered with an error.
-#[derive(Clone, Copy, Debug, PartialEq, Eq)]
+#[derive(Clone, Copy)]
 pub enum Errno {
     /// A device failed: `NBD_EIO`.
     Io,

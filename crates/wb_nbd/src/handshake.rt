@@ -14,7 +14,7 @@ use crate::terms::Terms;
 use std::io::{Read, Write};
 
 /// What a handshake leads to.
-#[derive(Clone, Copy, Debug, PartialEq, Eq)]
+#[derive(Clone, Copy, PartialEq, Eq)]
 pub enum Agreed {
     /// Requests come next.
     Serve,

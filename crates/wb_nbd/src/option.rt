@@ -14,7 +14,7 @@ use crate::words::{
 use std::io::Read;
 
 /// The first bytes of an option.
-#[derive(Clone, Copy, Debug, PartialEq, Eq)]
+#[derive(Clone, Copy)]
 pub(crate) struct OptionHeader {
     pub(crate) number: u32,
     /// How many bytes follow.
@@ -22,7 +22,7 @@ pub(crate) struct OptionHeader {
 }
 
 /// What an option wants.
-#[derive(Clone, Copy, Debug, PartialEq, Eq)]
+#[derive(Clone, Copy)]
 pub(crate) enum Wish {
     /// To begin with requests, in the way that is answered by what is told of the export alone.
     Start,
@@ -41,7 +41,7 @@ pub(crate) enum Wish {
 }
 
 /// Why an option is refused.
-#[derive(Clone, Copy, Debug, PartialEq, Eq)]
+#[derive(Clone, Copy)]
 pub(crate) enum OptionError {
     Unsupported,
     /// Its data are not as they have to be.
@@ -50,7 +50,7 @@ pub(crate) enum OptionError {
 }
 
 /// An option: its number, and what it wants.
-#[derive(Clone, Copy, Debug, PartialEq, Eq)]
+#[derive(Clone, Copy)]
 pub(crate) struct Asked {
     pub(crate) number: u32,
     pub(crate) wish: Wish,

@@ -10,11 +10,11 @@ use crate::bytes::{u16_at, u32_at, u64_at};
 use crate::words::REQUEST_MAGIC;
 
 /// What a client calls a request by; its reply has the same.
-#[derive(Clone, Copy, Debug, PartialEq, Eq)]
+#[derive(Clone, Copy)]
 pub struct Cookie(pub u64);
 
 /// What a request asks for.
-#[derive(Clone, Copy, Debug, PartialEq, Eq)]
+#[derive(Clone, Copy, PartialEq, Eq)]
 pub enum Command {
     Read,
     Write,
@@ -28,7 +28,7 @@ pub enum Command {
 }
 
 /// The flags of a request.
-#[derive(Clone, Copy, Debug, PartialEq, Eq)]
+#[derive(Clone, Copy, PartialEq, Eq)]
 pub enum Flags {
     None,
     /// What is written has to be durable before it is answered: `NBD_CMD_FLAG_FUA`.
@@ -38,7 +38,7 @@ pub enum Flags {
 }
 
 /// A request, without the bytes that it writes.
-#[derive(Clone, Copy, Debug, PartialEq, Eq)]
+#[derive(Clone, Copy)]
 pub struct Request {
     pub flags: Flags,
     pub command: Command,

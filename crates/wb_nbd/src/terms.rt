@@ -1,7 +1,7 @@
 //! What a client is told of the export.
 
 /// What is told of the export before it is served.
-#[derive(Clone, Copy, Debug, PartialEq, Eq)]
+#[derive(Clone, Copy)]
 pub struct Terms {
     /// Bytes.
     pub size: u64,

@@ -12,7 +12,7 @@ use wb_types::{CBlock, Entry, Geometry, Key, Mode, OBlock, Refusal};
 
 /// Promotes nothing and writes back every dirty block, for a cache that is to be taken away (the kernel's `cache.rst`,
 /// "cleaner"). Its hints are 0.
-#[derive(Debug, Drop)]
+#[derive(Drop)]
 pub struct Cleaner {
     /// The cache block that it ordered last.
     last: Option<u32>,

@@ -3,7 +3,7 @@
 use wb_types::{CBlock, OBlock};
 
 /// What is to be done with a block.
-#[derive(Clone, Copy, Debug, PartialEq, Eq)]
+#[derive(Clone, Copy, PartialEq, Eq)]
 pub enum Order {
     /// The origin block is copied into the free cache block.
     Promote(OBlock, CBlock),

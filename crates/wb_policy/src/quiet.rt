@@ -7,7 +7,7 @@ use std::alloc::Global;
 use wb_types::{CBlock, Entry, Geometry, Key, OBlock, Refusal};
 
 /// Orders nothing, for a cache whose migrations are started by hand.
-#[derive(Debug, Drop)]
+#[derive(Drop)]
 pub struct Quiet;
 
 impl Policy for Quiet {

@@ -8,7 +8,7 @@ ghost use Rattle.wb_policy.specs.Recency.{is_dirty as is_seen_dirty};
 use wb_types::{CBlock, Mode, OBlock};
 
 /// An access that is settled, and what the desk knows then. All of it is lent; nothing is copied for it.
-#[derive(Clone, Copy, Debug)]
+#[derive(Clone, Copy)]
 pub struct Settled<'a> {
     /// The block of which a part was accessed.
     pub block: OBlock,
@@ -22,7 +22,7 @@ pub struct Settled<'a> {
 }
 
 /// A tick, and what the desk knows then.
-#[derive(Clone, Copy, Debug)]
+#[derive(Clone, Copy)]
 pub struct Tick<'a> {
     pub mode: Mode,
     /// How many sectors further orders may have.

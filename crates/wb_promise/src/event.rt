@@ -6,7 +6,7 @@ use wb_tasks::{Got, Want};
 use wb_types::{Content, Refusal};
 
 /// What is to happen. Actors are counted from 0.
-#[derive(Debug, Drop)]
+#[derive(Drop)]
 pub enum Event {
     /// An actor that has no task gets one.
     Start(usize, Job),
@@ -20,7 +20,7 @@ pub enum Event {
 }
 
 /// What an event did.
-#[derive(Clone, Copy, Debug, PartialEq, Eq)]
+#[derive(Clone, Copy, PartialEq, Eq)]
 pub enum What {
     /// It doesn't apply, and changed nothing.
     Skipped,
@@ -33,7 +33,7 @@ pub enum What {
 }
 
 /// An event, what it did, and what a step of a read was given: one content a sector, and none of anything else.
-#[derive(Debug, Drop)]
+#[derive(Drop)]
 pub struct Record {
     pub event: Event,
     pub what: What,

@@ -4,7 +4,7 @@ use wb_tasks::Migration;
 use wb_types::{Content, Extent, Mode, OBlock};
 
 /// A task with its arguments.
-#[derive(Clone, Copy, Debug, PartialEq, Eq)]
+#[derive(Clone, Copy)]
 pub enum Job {
     Read(Extent),
     /// Writes this content to each sector.

@@ -4,7 +4,7 @@ use std::alloc::{AllocError, Global};
 use wb_types::Content;
 
 /// What an actor was told to do last.
-#[derive(Clone, Copy, PartialEq, Eq)]
+#[derive(Clone, Copy)]
 pub(crate) enum Given {
     Read,
     Open,

@@ -16,7 +16,7 @@ const MOST_OF_A_LINE: u64 = 1_048_576;
 const OUT_OF_MEMORY: &[u8] = b"refused 7 Memory\n";
 
 /// How a replay ended.
-#[derive(Clone, Copy, Debug, PartialEq, Eq)]
+#[derive(Clone, Copy)]
 pub enum Ended {
     /// Each line was played.
     Played,

@@ -7,7 +7,7 @@ use std::marker::Model;
 use wb_types::Refusal;
 
 /// A Bloom filter's bits, sixty-four to a word.
-#[derive(Debug, Drop)]
+#[derive(Drop)]
 pub(crate) struct Doorkeeper {
     words: Vec<u64>,
 }

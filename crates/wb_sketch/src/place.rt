@@ -20,7 +20,7 @@ pub const DOOR1: u64 = 0xFF51_AFD7_ED55_8CCD;
 pub const DOOR2: u64 = 0xC4CE_B9FE_1A85_EC53;
 
 /// Where a block has its counters, one in each row.
-#[derive(Clone, Copy, Debug)]
+#[derive(Clone, Copy)]
 pub(crate) struct Places {
     pub(crate) row1: usize,
     pub(crate) row2: usize,

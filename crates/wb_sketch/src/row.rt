@@ -12,7 +12,7 @@ use wb_types::Refusal;
 const LOW_THREE_BITS: u64 = 0x7777_7777_7777_7777;
 
 /// Counters from 0 to 15, four bits each: those of a word lie from its lowest bits up.
-#[derive(Debug, Drop)]
+#[derive(Drop)]
 pub(crate) struct Row {
     words: Vec<u64>,
 }

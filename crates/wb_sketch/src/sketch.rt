@@ -16,7 +16,7 @@ use wb_types::{OBlock, Refusal};
 /// How often blocks were accessed lately, estimated: the sketch of TinyLFU (Einziger, Friedman and Manes,
 /// ACM Transactions on Storage 2017). In a contract its value is a function of the list of accesses since
 /// it was made, `after_accesses`: `new` gives it for none, and `add` for one more.
-#[derive(Debug, Drop)]
+#[derive(Drop)]
 pub struct Sketch {
     cache_blocks: u32,
     /// How many bits a place in a row has.

@@ -7,7 +7,7 @@ ghost use Rattle.std.specs.Bool.{OnTrue, OnFalse};
 use crate::Holding;
 
 /// The state of one cache block.
-#[derive(Clone, Copy, Debug, PartialEq, Eq)]
+#[derive(Clone, Copy)]
 pub enum Block {
     /// An order may take it.
     Free,

@@ -1,7 +1,7 @@
 //! What a cache block is held for.
 
 /// What a cache block is held for.
-#[derive(Clone, Copy, Debug, PartialEq, Eq)]
+#[derive(Clone, Copy)]
 pub enum Holding {
     /// An order may take it.
     Free,

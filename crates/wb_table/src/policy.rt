@@ -8,7 +8,7 @@ ghost use Rattle.wb_table.specs.declared.policy.PolicyName.{PolicyName as Named}
 use wb_types::Key;
 
 /// A policy that a table can name.
-#[derive(Clone, Copy, Debug, PartialEq, Eq)]
+#[derive(Clone, Copy, PartialEq, Eq)]
 pub enum PolicyName {
     /// `tinylfu`, or `default`.
     TinyLfu,

@@ -15,7 +15,7 @@ use crate::words::SplitSpaces;
 use wb_types::{Key, Mode, Refusal};
 
 /// The files of a target, the size of its blocks, its mode, and its policy with the keys that are given.
-#[derive(Clone, Copy, Debug, PartialEq, Eq)]
+#[derive(Clone, Copy, PartialEq, Eq)]
 pub struct Table<'a> {
     pub metadata: &'a str,
     pub cache: &'a str,
@@ -30,7 +30,7 @@ pub struct Table<'a> {
 }
 
 /// The keys that a table gives, each with the last value that it was given.
-#[derive(Clone, Copy, Debug, PartialEq, Eq)]
+#[derive(Clone, Copy, PartialEq, Eq)]
 pub struct Keys {
     pub migration_threshold: Option<u64>,
     pub promote_min: Option<u64>,

@@ -2,7 +2,6 @@ pub mod Readying
 pub mod Committing
 pub mod Tasks
 pub mod Tries
-pub mod Busy
 pub mod Parts
 pub mod Trying
 pub mod Carried

@@ -7,7 +7,6 @@ use Rattle.wb_words.specs.declared.card.Card.{Card}
 use Rattle.wb_words.specs.declared.word.Word.{Word}
 use Rattle.wb_words.specs.declared.word.Word.TheVariants.{Seal as SealWord}
 use Rattle.wb_types.specs.declared.entry.Entry.{Entry}
-use Rattle.wb_types.specs.declared.number.OBlock.{OBlock}
 use Rattle.wb_target.specs.Suspends.{mapped_block}
 use Rattle.wb_target.specs.Shown.{SawDirty, dirty_among, seals_latest_first}
 

@@ -13,7 +13,7 @@ use wb_policy::Policy;
 use wb_types::{Content, Extent, Refusal, Sector};
 
 /// Why a request ended early, and how many of its blocks were finished.
-#[derive(Clone, Copy, Debug, PartialEq, Eq)]
+#[derive(Clone, Copy)]
 pub struct Stopped {
     pub done: u64,
     pub refusal: Refusal,
@@ -126,7 +126,7 @@ impl<'t, D: Disk + Drop, P: Policy> Client<'t, D, P> {
                     return Ok(());
                 }
                 Err(refusal) => {
-                    if refusal == Refusal::Busy {
+                    if refusal.is_busy() {
                         thread::yield_now();
                         continue;
                     }
@@ -155,7 +155,7 @@ impl<'t, D: Disk + Drop, P: Policy> Client<'t, D, P> {
                     return Ok(());
                 }
                 Err(refusal) => {
-                    if refusal == Refusal::Busy {
+                    if refusal.is_busy() {
                         thread::yield_now();
                         continue;
                     }

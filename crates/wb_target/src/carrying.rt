@@ -31,7 +31,7 @@ use wb_tasks::{Answer, BlockTask, Migration, Task};
 use wb_types::{OBlock, Refusal, SECTOR_BYTES};
 
 /// How a flush was answered done.
-#[derive(Debug, Drop)]
+#[derive(Drop)]
 pub enum Flushed {
     /// By a commit of its own.
     Led,
@@ -119,7 +119,7 @@ fn migrate<R: Wait, D: Disk + Drop, P: Policy, G: Gate>(
         match answer {
             Answer::Done => return Ok(()),
             Answer::Refused(refusal) => {
-                if refusal == Refusal::Busy {
+                if refusal.is_busy() {
                     thread::yield_now();
                     continue;
                 }
@@ -158,7 +158,7 @@ fn flush<R: Wait, D: Disk + Drop, P: Policy, G: Gate>(
         match answer {
             Answer::Done => return Ok(answered(share)),
             Answer::Refused(refusal) => {
-                if refusal == Refusal::Busy {
+                if refusal.is_busy() {
                     thread::yield_now();
                     continue;
                 }

@@ -4,7 +4,7 @@ ghost use Rattle.std.specs.Prelude.{◌≡◌, Bool, true};
 ghost use Rattle.wb_target.specs.declared.gate.Point.{Point as WorkPoint};
 
 /// Where a worker asks its gate.
-#[derive(Clone, Copy, Debug, PartialEq, Eq)]
+#[derive(Clone, Copy, PartialEq, Eq)]
 pub enum Point {
     /// Before it takes an order.
     Order,

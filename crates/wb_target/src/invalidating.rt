@@ -196,7 +196,7 @@ impl<'t, D: Disk + Drop, P: Policy> Client<'t, D, P> {
             match invalidate_port(rt, target, &mut self.port, block) {
                 Ok(()) => return Ok(()),
                 Err(refusal) => {
-                    if refusal == Refusal::Busy {
+                    if refusal.is_busy() {
                         thread::yield_now();
                     } else {
                         return Err(refusal);

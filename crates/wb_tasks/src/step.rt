@@ -4,7 +4,7 @@ use wb_types::{CBlock, Dev, Extent, OBlock, Refusal};
 use wb_words::{CellResult, CellStep};
 
 /// A migration of a block.
-#[derive(Clone, Copy, Debug, PartialEq, Eq)]
+#[derive(Clone, Copy, PartialEq, Eq)]
 pub enum Migration {
     /// Brings the block into this cache block.
     Promote(CBlock),
@@ -16,7 +16,7 @@ pub enum Migration {
 
 /// A step on one device. Sectors are counted from 0 on each device. What a read gives, and what a write writes, is
 /// with the performer.
-#[derive(Clone, Copy, Debug, PartialEq, Eq)]
+#[derive(Clone, Copy, PartialEq, Eq)]
 pub enum DeviceStep {
     Read(Dev, Extent),
     Write(Dev, Extent),
@@ -31,7 +31,7 @@ pub enum DeviceStep {
 }
 
 /// A call on the desk, under its lock.
-#[derive(Clone, Copy, Debug, PartialEq, Eq)]
+#[derive(Clone, Copy, PartialEq, Eq)]
 pub enum DeskStep {
     /// Enters a block into the mapping.
     Map(OBlock, CBlock),
@@ -52,14 +52,14 @@ pub enum DeskStep {
 }
 
 /// How a task ends.
-#[derive(Clone, Copy, Debug, PartialEq, Eq)]
+#[derive(Clone, Copy, PartialEq, Eq)]
 pub enum Answer {
     Done,
     Refused(Refusal),
 }
 
 /// What a task wants next: one atomic step, or to answer.
-#[derive(Clone, Copy, Debug, PartialEq, Eq)]
+#[derive(Clone, Copy, PartialEq, Eq)]
 pub enum Want {
     Cell(CellStep),
     Device(DeviceStep),
@@ -68,7 +68,7 @@ pub enum Want {
 }
 
 /// What came of a step.
-#[derive(Clone, Copy, Debug, PartialEq, Eq)]
+#[derive(Clone, Copy, PartialEq, Eq)]
 pub enum Got {
     /// Nothing yet: the task has just begun.
     Begin,

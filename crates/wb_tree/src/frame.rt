@@ -9,7 +9,7 @@ use wb_format::Root;
 use wb_types::{Place, Refusal};
 
 /// A node above the leaves, and which of its words is the next to be read.
-#[derive(Clone, Copy, Debug)]
+#[derive(Clone, Copy)]
 pub(crate) struct Frame {
     pub(crate) node: PlacedNode,
     pub(crate) words: [u64; 32],

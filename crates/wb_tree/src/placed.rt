@@ -9,7 +9,7 @@ use std::alloc::Global;
 use wb_types::{Entry, Place, Refusal};
 
 /// A node of the mapping tree, and the sector of the metadata device at which it stands.
-#[derive(Clone, Copy, Debug, PartialEq, Eq)]
+#[derive(Clone, Copy)]
 pub struct PlacedNode {
     /// 1 for a leaf, up to 4.
     pub level: u32,

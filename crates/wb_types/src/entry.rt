@@ -3,7 +3,7 @@
 use crate::OBlock;
 
 /// The entry of a mapped cache block.
-#[derive(Clone, Copy, Debug, PartialEq, Eq)]
+#[derive(Clone, Copy, PartialEq, Eq)]
 pub struct Entry {
     /// The origin block that it holds.
     pub origin: OBlock,

@@ -9,7 +9,7 @@ ghost use Rattle.wb_types.specs.Versions.{version_asked, version_number};
 use crate::{Refusal, Version};
 
 /// The sizes of a cache and its devices, always within the limits, and the version of its metadata.
-#[derive(Clone, Copy, Debug, PartialEq, Eq)]
+#[derive(Clone, Copy, PartialEq, Eq)]
 pub struct Geometry {
     /// Sectors of a block: 64 to 2,097,152, a multiple of 64.
     pub block: u32,

@@ -6,7 +6,7 @@ use crate::CBlock;
 use std::marker::Model;
 
 /// A setting with a number.
-#[derive(Clone, Copy, Debug, PartialEq, Eq)]
+#[derive(Clone, Copy)]
 pub enum Key {
     /// The greatest sum of sectors that live orders may have.
     MigrationThreshold,
@@ -15,14 +15,14 @@ pub enum Key {
 }
 
 /// Cache blocks from one up to, and without, another.
-#[derive(Clone, Copy, Debug, PartialEq, Eq)]
+#[derive(Clone, Copy, PartialEq, Eq)]
 pub struct CBlockRange {
     pub begin: CBlock,
     pub end: CBlock,
 }
 
 /// Ranges of cache blocks, in the order in which they were named.
-#[derive(Debug, Drop)]
+#[derive(Drop)]
 pub struct CBlockRanges {
     ranges: Vec<CBlockRange>,
 }
@@ -58,7 +58,7 @@ impl CBlockRanges {
 }
 
 /// A message to a target (the kernel's `cache.rst`, "Messages").
-#[derive(Debug, Drop)]
+#[derive(Drop)]
 pub enum Message {
     /// Gives a setting a value.
     Set(Key, u64),

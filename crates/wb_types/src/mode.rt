@@ -3,7 +3,7 @@
 use std::fmt;
 
 /// How writes to cached blocks reach the devices (the kernel's `cache.rst`, "Cache operating modes").
-#[derive(Clone, Copy, Debug, PartialEq, Eq)]
+#[derive(Clone, Copy, PartialEq, Eq)]
 pub enum Mode {
     /// A write to a cached block goes to the cache alone, and the block becomes dirty.
     Writeback,

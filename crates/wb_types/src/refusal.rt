@@ -1,7 +1,9 @@
 //! Why a call is refused.
 
-ghost use Rattle.std.specs.Prelude.{◌≡◌};
+ghost use Rattle.std.specs.Prelude.{◌≡◌, ◌≢◌};
+ghost use Rattle.std.specs.Bool.{OnTrue, OnFalse};
 ghost use Rattle.wb_types.specs.Refusals.{number_of};
+ghost use Rattle.wb_types.specs.declared.refusal.Refusal.TheVariants.{Busy};
 
 use crate::{Dev, Place};
 use std::alloc::AllocError;
@@ -88,6 +90,14 @@ impl Refusal {
             Refusal::BadTable => 16,
             Refusal::GenerationEnd => 17,
         }
+    }
+
+    /// Whether another held what the call asks for, so that the same call may be answered later.
+    pub fn is_busy(&self) -> bool
+        ensures busy { OnTrue result (self.now ≡ Busy) }
+        ensures other { OnFalse result (self.now ≢ Busy) }
+    {
+        matches!(self, Refusal::Busy)
     }
 }
 

@@ -12,7 +12,7 @@ use crate::{Access, Word, can_take, is_dirty, place_in};
 use wb_types::{OBlock, Refusal};
 
 /// Which of its five steps a grip makes next.
-#[derive(Clone, Copy, Debug, PartialEq, Eq)]
+#[derive(Clone, Copy)]
 pub enum GripStage {
     /// A look at the fail word.
     LookFail,
@@ -28,7 +28,7 @@ pub enum GripStage {
 
 /// A block that is being taken: a look at the fail word, a look at its lock word, the exchange that shares or owns it,
 /// a look at its seal, a look at its number.
-#[derive(Clone, Copy, Debug, PartialEq, Eq)]
+#[derive(Clone, Copy)]
 pub struct Grip {
     pub access: Access,
     pub block: OBlock,
@@ -36,7 +36,7 @@ pub struct Grip {
 }
 
 /// What a step of a grip tells.
-#[derive(Debug, Drop)]
+#[derive(Drop)]
 pub enum Gripped {
     /// The word that was found; the grip goes on.
     More(u64),

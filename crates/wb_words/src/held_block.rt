@@ -5,7 +5,7 @@ use wb_types::{CBlock, OBlock};
 /// A block that a pass shares, and its words, which stay so while it is shared.
 ///
 /// It is plain data: what the pass holds is on its card.
-#[derive(Debug, Drop)]
+#[derive(Drop)]
 pub struct Share {
     pub block: OBlock,
     /// Where the block's newest copy stands: none is the origin.
@@ -19,7 +19,7 @@ pub struct Share {
 /// A block that a pass owns, and its words, which the owner alone changes.
 ///
 /// It is plain data: what the pass holds is on its card.
-#[derive(Debug, Drop)]
+#[derive(Drop)]
 pub struct Own {
     pub block: OBlock,
     /// Where the block's newest copy stands: none is the origin.

@@ -4,7 +4,7 @@ use crate::{Access, Kind, Word};
 use wb_types::{CBlock, OBlock};
 
 /// A step on one shared word.
-#[derive(Clone, Copy, Debug, PartialEq, Eq)]
+#[derive(Clone, Copy, PartialEq, Eq)]
 pub enum CellStep {
     /// Loads a word.
     Look(Word),
@@ -25,7 +25,7 @@ pub enum CellStep {
 }
 
 /// What came of a step on one shared word.
-#[derive(Clone, Copy, Debug, PartialEq, Eq)]
+#[derive(Clone, Copy, PartialEq, Eq)]
 pub enum CellResult {
     Done,
     /// The word that was looked at.

@@ -6,7 +6,7 @@ ghost use Rattle.wb_words.specs.SharedWords.{can_take as may_take, place_in as p
 use wb_types::{CBlock, OBlock};
 
 /// What a part of a request counts as when its device steps have ended.
-#[derive(Clone, Copy, Debug, PartialEq, Eq)]
+#[derive(Clone, Copy, PartialEq, Eq)]
 pub enum Kind {
     ReadHit,
     ReadMiss,
@@ -15,14 +15,14 @@ pub enum Kind {
 }
 
 /// How a block is held: many may share it, one alone may own it.
-#[derive(Clone, Copy, Debug, PartialEq, Eq)]
+#[derive(Clone, Copy, PartialEq, Eq)]
 pub enum Access {
     Shared,
     Owned,
 }
 
 /// A bit of the fail word.
-#[derive(Clone, Copy, Debug, PartialEq, Eq)]
+#[derive(Clone, Copy)]
 pub enum FailBit {
     /// Bit 0: a device has failed.
     Failed,
@@ -31,7 +31,7 @@ pub enum FailBit {
 }
 
 /// A shared word: three for each origin block, four statistics, and one that tells of failure.
-#[derive(Clone, Copy, Debug, PartialEq, Eq)]
+#[derive(Clone, Copy, PartialEq, Eq)]
 pub enum Word {
     /// The lock word of a block: twice the number of its sharers, and one where it is owned.
     Cell(OBlock),

@@ -15,7 +15,7 @@ use wb_types::Refusal;
 /// A flush's place in the line: the number of the first commit that covers it, which begins after the flush has come.
 ///
 /// `Desk::arrive` alone makes one, and it cannot be copied.
-#[derive(Debug, Drop)]
+#[derive(Drop)]
 pub struct Ticket {
     /// The number of the commit that ran when the flush came.
     after: u64,
@@ -32,7 +32,7 @@ impl Model for Ticket {
 /// That a commit ended which covers its holder's flush.
 ///
 /// `Desk::ask` alone makes one, and it cannot be copied.
-#[derive(Debug, Drop)]
+#[derive(Drop)]
 pub struct Receipt {
     number: u64,
 }
