@@ -37,14 +37,6 @@ pub struct Receipt {
     number: u64,
 }
 
-impl Model for Receipt {
-    ghost use Rattle.std.specs.Prelude.{ℕ};
-
-    ghost Value = { ℕ };
-
-    ghost view = { λ receipt. receipt.number };
-}
-
 impl Receipt {
     /// The number of the last commit that had ended, counted from 1 since the opening.
     pub fn number(&self) -> u64
@@ -52,6 +44,14 @@ impl Receipt {
     {
         self.number
     }
+}
+
+impl Model for Receipt {
+    ghost use Rattle.std.specs.Prelude.{ℕ};
+
+    ghost Value = { ℕ };
+
+    ghost view = { λ receipt. receipt.number };
 }
 
 /// What a flush is told that comes.
