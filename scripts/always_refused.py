@@ -1,10 +1,10 @@
-"""Bodies that always refuse memory, and the tests that refuse them.
+"""Bodies that always refuse memory, and the tests, or lines of a script, that refuse them.
 
     always_refused.py [together] [WORD ..]
 
 A body that answers `Memory` and does nothing meets a contract that says `Memory`. Each row here is a public call with the answer that it then gives, put in
-front of its body in a copy of the sources, and a test that asks for the answer there is with ample memory: it has to fail. The copy is compiled
-without a proof by `rt try`. With words, the rows whose call has
+front of its body in a copy of the sources, and a test that asks for the answer there is with ample memory: it has to fail; or a script, for which
+wbcache prints then what the right one does not. The copy is compiled without a proof by `rt try`. With words, the rows whose call has
 one of them are tried; 'together' tries those of one crate of tests in one copy, which says what it says where none of these calls is made by the tests of
 another one of them. It prints for each row which tests failed, and at the end 'N passed, N failed'. One row takes half a minute or more, all of
 them some 40 minutes, so the gate does not call it.
@@ -19,22 +19,23 @@ import tempfile
 TOP = os.path.dirname(os.path.dirname(os.path.abspath(__file__)))
 MEMORY = "return Err(Refusal::Memory);"
 BACK = "return (devices, Err(Refusal::Memory));"
-# The call, its file, the function there, what it then does (with `if` and a condition: then alone), the crate of tests, and the test.
+# The call, its file, the function there, what it then does (with `if` and a condition: then alone), the crate of tests, and the test; or
+# `wbcache`, and what the right one prints for a script, as caught.txt has them.
 ROWS = [
     ("Target::open", "wb_target/opening", "open", BACK, "wb_tests_target", "a_block_is_cached_at_its_second_access"),
     ("Target::client", "wb_target/target", "client", "return Err((devices, Refusal::Memory));", "wb_tests_target", "a_block_is_cached_at_its_second_access"),
-    ("Target::status", "wb_target/target", "status", MEMORY, "wb_tests_target", "a_suspended_target_answers_failed_and_tells_its_status"),
+    ("Target::status", "wb_target/target", "status", MEMORY, "wb_tests_target", "four_clients_read_one_sector"),
     ("Target::suspend", "wb_target/target", "suspend", BACK, "wb_tests_target", "a_suspended_cache_is_opened_as_it_was"),
     ("Client::read", "wb_target/blocking", "read", "return Err(Stopped { done: 0, refusal: Refusal::Memory });", "wb_tests_target", "a_block_is_cached_at_its_second_access"),
     ("Client::write", "wb_target/blocking", "write", "return Err(Stopped { done: 0, refusal: Refusal::Memory });", "wb_tests_target", "a_block_is_cached_at_its_second_access"),
-    ("Client::message, a setting", "wb_target/messages", "set", MEMORY, "wb_tests_target", "an_order_is_given_at_the_threshold_and_not_below"),
-    ("Client::message, ranges", "wb_target/invalidating", "invalidate", MEMORY, "wb_tests_target", "invalidated_blocks_leave_the_cache"),
+    ("Client::message, a setting", "wb_target/messages", "set", MEMORY, "wbcache", r"message promote_min 3\nr 0 1\n|ok\n0 00\n"),
+    ("Client::message, ranges", "wb_target/invalidating", "invalidate", MEMORY, "wbcache", r"message invalidate_cblocks 0-2\nr 0 1\n|ok\n0 00\n|1 passthrough tinylfu 0"),
     ("Client::flush", "wb_target/carrying", "flush", MEMORY, "wb_tests_target", "what_was_flushed_is_found_in_the_cache"),
-    ("Client::tick", "wb_target/carrying", "tick", MEMORY, "wb_tests_target", "a_tick_has_a_dirty_block_written_back"),
+    ("Client::tick", "wb_target/carrying", "tick", MEMORY, "wbcache", r"tick\nr 0 1\n|ok\n0 00\n"),
     ("Client::work_one, a promotion", "wb_target/carrying", "carry_out", "if matches!(order, Order::Promote(_, _)) " + MEMORY, "wb_tests_target", "a_block_is_cached_at_its_second_access"),
     ("Client::work_one, a replacement", "wb_target/carrying", "carry_out", "if matches!(order, Order::Replace(_, _, _)) " + MEMORY, "wb_tests_target", "the_least_recent_block_leaves_and_no_other"),
-    ("Client::work_one, a write-back", "wb_target/carrying", "carry_out", "if matches!(order, Order::Clean(_)) " + MEMORY, "wb_tests_target", "a_tick_has_a_dirty_block_written_back"),
-    ("Client::write_fua", "wb_target/durable", "write_fua", "return Err(Stopped { done: 0, refusal: wb_types::Refusal::Memory });", "wb_tests_target", "a_write_with_fua_is_durable"),
+    ("Client::work_one, a write-back", "wb_target/carrying", "carry_out", "if matches!(order, Order::Clean(_)) " + MEMORY, "wbcache", r"w 0 1 11\nr 0 1\nwork\nw 0 1 22\ntick\nwork\n|ok\ncleaned 0\n"),
+    ("Client::write_fua", "wb_target/durable", "write_fua", "return Err(Stopped { done: 0, refusal: wb_types::Refusal::Memory });", "wbcache", r"wf 0 1 11\nr 0 1\n|ok\n0 11\n"),
     ("Target::together", "wb_target/together", "together", "return Err(AllocError);", "wb_tests_target", "devices_come_back_each_in_its_place"),
     ("Desk::new", "wb_desk/desk", "new", MEMORY, "wb_tests_desk", "orders_are_given_and_given_up"),
     ("Desk::map", "wb_desk/desk/mapping", "map", MEMORY, "wb_tests_desk", "orders_are_given_and_given_up"),
@@ -100,20 +101,27 @@ def copy_of(folder):
 
 
 def main():
+    # It stands on this one.
+    from caught import is_caught_by
+
     words, passed, failed = sys.argv[1:], 0, 0
     is_together = words[:1] == ["together"]
     chosen = [row for row in ROWS if not words[is_together:] or any(word in row[0] for word in words[is_together:])]
-    crates = sorted({row[4] for row in chosen})
-    for rows in [[row for row in chosen if row[4] == crate] for crate in crates] if is_together else [[row] for row in chosen]:
+    crates = sorted({row[4] for row in chosen if row[4].startswith("wb_tests_")}) if is_together else []
+    alone = [row for row in chosen if row[4] not in crates]
+    for rows in [[row for row in chosen if row[4] == crate] for crate in crates] + [[row] for row in alone]:
         with tempfile.TemporaryDirectory() as folder:
             copy_of(folder)
             for _, path, function, what, _, _ in rows:
                 refuse(folder, path, function, what)
-            tests, said = failing(folder, rows[0][4])
-        for call, *_, crate, test in rows:
-            is_right = test in tests
+            if len(rows) == 1:
+                outcomes = [is_caught_by(folder, *rows[0][4:])]
+            else:
+                tests, said = failing(folder, rows[0][4])
+                outcomes = [(row[5] in tests, f"{len(tests)} of {row[4]}: {' '.join(tests)}" if tests else said) for row in rows]
+        for row, (is_right, told) in zip(rows, outcomes):
             passed, failed = passed + is_right, failed + (not is_right)
-            print(f"{'ok' if is_right else 'failed'}: {call}: {len(tests)} of {crate}: {' '.join(tests)}" if tests else f"failed: {call}: {said}", flush=True)
+            print(f"{'ok' if is_right else 'failed'}: {row[0]}: {told}", flush=True)
     print(f"{passed} passed, {failed} failed")
     sys.exit(failed > 0)
 

@@ -3,8 +3,8 @@
     caught.py [WORD ..]
 
 Each line of scripts/cases/caught.txt is an edit, a crate of tests, and one of its tests; or an edit, `wbcache`, and a script, a bar and what the right
-program prints for it, over files as scripts.txt has them; or an edit, `wbnbd`, a bar and how the right one leaves these files where its client
-says nothing: `clean`. The edit is made in a copy of the sources, which is compiled
+program prints for it, over files as scripts.txt has them, and where a second bar stands, what stands behind the block's size in its table; or an edit, `wbnbd`, a bar
+and how the right one leaves these files where its client says nothing: `clean`. The edit is made in a copy of the sources, which is compiled
 without a proof by `rt try`; that test has to fail there, or the program not to print that. With words, the lines that have one of them are tried. It prints for each which tests failed, or
 what was said where the copy was not compiled, and at the end 'N passed, N failed'. Each takes a minute and a half of processor time, so the gate does not call it.
 """
@@ -48,14 +48,14 @@ def newest_is_clean(metadata):
     return max(first, second)[2] == 1
 
 
-def printed(folder, program, script):
+def printed(folder, program, script, behind_size="0 tinylfu 0"):
     """What a program of the copy prints for a script, over four cache blocks and ten origin blocks of zeros, and how it leaves them; None where it did not run."""
-    files = {"metadata": root_sector(0, 1, (64, 4, 10, 4), 0).ljust(4 * 512, b"\0"), "cache": bytes(256 * 512), "origin": bytes(640 * 512)}
+    files = {"metadata": root_sector(0, 1, 1, 64, 4, 10, 4, 0, 0).ljust(4 * 512, b"\0"), "cache": bytes(256 * 512), "origin": bytes(640 * 512)}
     for name, content in files.items():
         with open(f"{folder}/{name}", "wb") as file:
             file.write(content)
     words = ["run"] if program == "wbcache" else []
-    table = f"cache {folder}/metadata {folder}/cache {folder}/origin 64 0 tinylfu 0"
+    table = f"cache {folder}/metadata {folder}/cache {folder}/origin 64 {behind_size}"
     with open(f"{folder}/script", "w+", encoding="utf-8") as lines:
         lines.write(script)
         lines.seek(0)
@@ -72,8 +72,8 @@ def is_caught_by(folder, crate, test):
     if crate.startswith("wb_tests_"):
         tests, said = failing(folder, crate)
         return test in tests, f"{len(tests)} of {crate}: {' '.join(tests)}" if tests else said
-    script, wanted = (text.replace("\\n", "\n") for text in test.split("|"))
-    told, said = printed(folder, crate, script)
+    script, wanted, *behind_size = (text.replace("\\n", "\n") for text in test.split("|"))
+    told, said = printed(folder, crate, script, *behind_size)
     return told is not None and wanted not in told, f"{crate} {test}" if told is not None else said
 
 

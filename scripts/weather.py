@@ -114,8 +114,11 @@ def each_call_fails(mode):
     return tried
 
 
-ROW = [line for s in (0, 64, 128, 192) for line in (f"r {s} 1", f"r {s} 1", "work", "flush")]
-ROW += ["r 256 1", "r 256 1", "work", "flush", "r 256 1", "work", "flush", "status", "w 256 1 44", "flush"]
+# Four blocks are promoted; the first two are written there, one behind the last flush, and replaced by others: each is written home first.
+ROW = ["r 0 1", "r 0 1", "work", "flush", "w 0 1 41", "flush", "r 64 1", "r 64 1", "work", "flush", "w 64 1 42"]
+ROW += [line for s in (128, 192) for line in (f"r {s} 1", f"r {s} 1", "work")]
+ROW += [line for s in (256, 320) for line in (*(f"r {s} 1",) * 4, "work", "r 128 1", "r 192 1")]
+ROW += ["flush", "status", "w 256 1 44", "flush"]
 ORIGIN = {sector: f"{0x80 + i:02x}" for i, sector in enumerate(WATCHED)}
 
 
@@ -142,6 +145,8 @@ def each_crash(mode, on):
             weather = {"WEATHER_FILE": name, "WEATHER_CALL": call, "WEATHER_ON": on, "WEATHER_DURABLE": 1}
             status, told, _, came = run_lines(mode, ROW, weather)
             if not came:
+                replaced = sum(line.startswith("replaced ") for line in told.splitlines())
+                need(replaced == (0 if mode == "passthrough" else 2), f"in good weather {replaced} blocks are replaced: {told}")
                 break
             tried += 1
             told, book = told.splitlines(), Book(ORIGIN)
@@ -158,6 +163,42 @@ def each_crash(mode, on):
             except Wrong as wrong:
                 raise Wrong(f"call {call} of {name}: {wrong}") from None
     return tried
+
+
+# A life that caches four blocks, one of which is dirty at its end, and what each of them shows then.
+LIFE = [line for s in (0, 64, 128, 192) for line in (f"w {s} 1 10", f"r {s} 1", "work")] + ["w 0 1 22", "suspend"]
+LEFT = "0 22\n64 10\n128 10\n192 10\n"
+
+
+def each_conversion_fails():
+    """Each call of the metadata fails in an opening of its own that writes them anew in version 2; then power is lost. All that was cached is there,
+    whichever version is asked for then."""
+    for name, sectors in ("m.img", 5), ("c.img", 256), ("o.img", 640):
+        with open(name, "wb") as file:
+            file.truncate(512 * sectors)
+    first, second = table("writeback"), "cache m.img c.img o.img 64 1 metadata2 tinylfu 0"
+    need(run(PROGRAMS.cache, ["format", first])[0] == 0, "formatting")
+    need(run(PROGRAMS.cache, ["run", first], "\n".join(LIFE) + "\n")[0] == 0, "a first life")
+    for name in DEVICES:
+        shutil.copy(name, name + ".kept")
+    for call in range(1, 100):
+        restore()
+        for name in DEVICES:
+            shutil.copy(name, name + ".durable")
+        status, told, _, came = run(PROGRAMS.cache, ["run", second], "status\n", {"WEATHER_FILE": "m.img", "WEATHER_CALL": call, "WEATHER_DURABLE": 1})
+        if not came:
+            need(call > 5 and status == 0, f"{call - 1} calls, and then {status} {told}")
+            return call - 1
+        need((status, told) == (3, "refused 5 Io metadata\n"), f"call {call}: {status} {told}")
+        for name in DEVICES:
+            shutil.copy(name, name + ".newest")
+        for base in "durable", "newest":
+            for asked in first, second:
+                for name in DEVICES:
+                    shutil.copy(f"{name}.{base}", name)
+                found = run(PROGRAMS.cache, ["run", asked], "r 0 1\nr 64 1\nr 128 1\nr 192 1\nstatus\n")
+                need(found[0] == 0 and found[1].startswith(LEFT) and " 4/4 " in found[1], f"call {call}, {base}, then '{asked}': {found[:2]}")
+    raise Wrong("it makes no end of calls")
 
 
 def each_format_fails():
@@ -341,6 +382,7 @@ def kinds(is_long):
         yield f"each call of a server's device fails, {mode}", lambda mode=mode: server.each_call_fails_server(mode)
         for on, what in enumerate(("call", "call from one on") if is_long or mode == "writeback" else ()):
             yield f"each {what} of a device fails and power is lost, {mode}", lambda mode=mode, on=on: each_crash(mode, on)
+    yield "each call fails while metadata are converted and power is lost", each_conversion_fails
     yield "each call fails while it is formatted", each_format_fails
     yield "each request for memory refused to a formatting", each_request_refused_to_a_formatting
     yield "each request for memory refused to clients", each_request_refused_to_lanes

@@ -36,7 +36,7 @@ pub fn caches_and_flushes(rt: &impl Wait, client: &mut Lent<'_>) -> bool {
 /// The devices of a target on which that was done, and whether it was.
 fn cached_and_flushed(rt: &impl Wait, alloc: Global) -> Result<(Memory, bool), Refusal> {
     let (devices, target) = open(alloc, formatted(alloc)?)?;
-    done_by(rt, alloc, &target, devices, Question::CachesAndFlushes)
+    done_by(rt, &target, devices, Question::CachesAndFlushes)
 }
 
 #[test]

@@ -11,7 +11,7 @@ use wb_policy::{Order, TinyLfu};
 use wb_target::{Client, Target};
 use wb_types::{CBlock, Dev, Mode, OBlock, Refusal, Sector};
 
-pub type Failing = Devices<FaultDisk<MemDisk>>;
+type Failing = Devices<FaultDisk<MemDisk>>;
 
 /// Formatted devices, of which this one fails at its call of this number.
 fn failing(alloc: Global, device: Dev, call: u64) -> Result<Failing, Refusal> {
@@ -30,22 +30,6 @@ fn call_of(this: Dev, device: Dev, call: u64) -> Option<u64> {
 /// A target that is opened over these, and they.
 fn opened(alloc: Global, devices: Failing) -> (Failing, Result<Target<TinyLfu>, Refusal>) {
     Target::open(alloc, devices, 64, Mode::Writeback, &[], false)
-}
-
-/// What these devices hold, and whether a call of them failed.
-pub fn unwrapped(devices: Failing) -> (Memory, bool) {
-    let Devices {
-        metadata,
-        cache,
-        origin,
-    } = devices;
-    let has_failed = metadata.has_failed() || cache.has_failed() || origin.has_failed();
-    let memory = Devices {
-        metadata: metadata.into_inner(),
-        cache: cache.into_inner(),
-        origin: origin.into_inner(),
-    };
-    (memory, has_failed)
 }
 
 /// Crashes devices, each sector at its oldest or its newest content.

@@ -7,7 +7,7 @@ use wb_disk::{Disk, MemDisk};
 use wb_meta::format;
 use wb_policy::{Order, Policy, TinyLfu};
 use wb_target::{Client, Target};
-use wb_types::{Content, Geometry, Key, Mode, Refusal, SECTOR_BYTES, Sector};
+use wb_types::{Content, Geometry, Mode, Refusal, SECTOR_BYTES, Sector};
 
 pub type Memory = Devices<MemDisk>;
 
@@ -15,13 +15,8 @@ pub type Lent<'t> = Client<'t, MemDisk, TinyLfu>;
 
 /// Devices whose metadata are formatted.
 pub fn formatted(alloc: Global) -> Result<Memory, Refusal> {
-    formatted_on(alloc, 4)
-}
-
-/// The same, on so many sectors.
-pub fn formatted_on(alloc: Global, sectors: u64) -> Result<Memory, Refusal> {
-    let geometry = Geometry::new(64, 4, 10, sectors)?;
-    let mut metadata = MemDisk::new(alloc, sectors)?;
+    let geometry = Geometry::new(64, 4, 10, 4)?;
+    let mut metadata = MemDisk::new(alloc, 4)?;
     format(&mut metadata, &geometry)?;
     Ok(Devices {
         metadata,
@@ -32,34 +27,7 @@ pub fn formatted_on(alloc: Global, sectors: u64) -> Result<Memory, Refusal> {
 
 /// A target that is opened over devices.
 pub fn open(alloc: Global, devices: Memory) -> Result<(Memory, Target<TinyLfu>), Refusal> {
-    open_with(alloc, devices, &[])
-}
-
-/// One that is told these values.
-pub fn open_with(
-    alloc: Global,
-    devices: Memory,
-    keys: &[(Key, u64)],
-) -> Result<(Memory, Target<TinyLfu>), Refusal> {
-    let (devices, target) = Target::open(alloc, devices, 64, Mode::Writeback, keys, false);
-    Ok((devices, target?))
-}
-
-/// One that asks for metadata of version 2.
-pub fn open_second(alloc: Global, devices: Memory) -> Result<(Memory, Target<TinyLfu>), Refusal> {
-    let (devices, target) = Target::open(alloc, devices, 64, Mode::Writeback, &[], true);
-    Ok((devices, target?))
-}
-
-/// One that writes through.
-pub fn open_through(alloc: Global, devices: Memory) -> Result<(Memory, Target<TinyLfu>), Refusal> {
-    let (devices, target) = Target::open(alloc, devices, 64, Mode::Writethrough, &[], false);
-    Ok((devices, target?))
-}
-
-/// One in passthrough.
-pub fn open_passing(alloc: Global, devices: Memory) -> Result<(Memory, Target<TinyLfu>), Refusal> {
-    let (devices, target) = Target::open(alloc, devices, 64, Mode::Passthrough, &[], false);
+    let (devices, target) = Target::open(alloc, devices, 64, Mode::Writeback, &[], false);
     Ok((devices, target?))
 }
 

@@ -8,8 +8,6 @@ mod caching;
 #[cfg(test)]
 mod clean;
 #[cfg(test)]
-mod converting;
-#[cfg(test)]
 mod crashing;
 #[cfg(test)]
 mod errands;
@@ -24,12 +22,6 @@ mod hooked;
 #[cfg(test)]
 mod memory;
 #[cfg(test)]
-mod messages;
-#[cfg(test)]
-mod modes;
-#[cfg(test)]
-mod opening;
-#[cfg(test)]
 mod photos;
 #[cfg(test)]
 mod questions;
@@ -43,8 +35,6 @@ mod sharing;
 mod suspends;
 #[cfg(test)]
 mod threads;
-#[cfg(test)]
-mod ticks;
 #[cfg(test)]
 mod unclean;
 #[cfg(test)]

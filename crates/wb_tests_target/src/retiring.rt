@@ -20,9 +20,9 @@ pub fn writes_twice(client: &mut Lent<'_>) -> bool {
 /// Whether the next client finds the order that the accesses of one gave that has gone.
 fn retiring_settles(rt: &impl Wait, alloc: Global) -> Result<bool, Refusal> {
     let (devices, target) = open(alloc, formatted(alloc)?)?;
-    let (devices, written) = done_by(rt, alloc, &target, devices, Question::WritesTwice)?;
+    let (devices, written) = done_by(rt, &target, devices, Question::WritesTwice)?;
     let order = Order::Promote(OBlock(0), CBlock(0));
-    Ok(written && answered_of(rt, alloc, &target, devices, Question::Finds(order))?)
+    Ok(written && answered_of(rt, &target, devices, Question::Finds(order))?)
 }
 
 #[test]
