@@ -19,6 +19,8 @@ import tempfile
 TOP = os.path.dirname(os.path.dirname(os.path.abspath(__file__)))
 MEMORY = "return Err(Refusal::Memory);"
 BACK = "return (devices, Err(Refusal::Memory));"
+# A script that has a block replaced, and what is printed of it.
+REPLACEMENT = "".join(rf"r {block * 64} 1\nr {block * 64} 1\nwork\n" for block in range(4)) + r"r 256 1\nr 256 1\nr 256 1\nwork\n|replaced 0 by 4 at 0\n"
 # The call, its file, the function there, what it then does (with `if` and a condition: then alone), the crate of tests, and the test; or
 # `wbcache`, and what the right one prints for a script, as caught.txt has them.
 ROWS = [
@@ -30,10 +32,10 @@ ROWS = [
     ("Client::write", "wb_target/blocking", "write", "return Err(Stopped { done: 0, refusal: Refusal::Memory });", "wb_tests_target", "a_block_is_cached_at_its_second_access"),
     ("Client::message, a setting", "wb_target/messages", "set", MEMORY, "wbcache", r"message promote_min 3\nr 0 1\n|ok\n0 00\n"),
     ("Client::message, ranges", "wb_target/invalidating", "invalidate", MEMORY, "wbcache", r"message invalidate_cblocks 0-2\nr 0 1\n|ok\n0 00\n|1 passthrough tinylfu 0"),
-    ("Client::flush", "wb_target/carrying", "flush", MEMORY, "wb_tests_target", "what_was_flushed_is_found_in_the_cache"),
+    ("Client::flush", "wb_target/carrying", "flush", MEMORY, "wbcache", r"flush\nr 0 1\n|ok\n0 00\n"),
     ("Client::tick", "wb_target/carrying", "tick", MEMORY, "wbcache", r"tick\nr 0 1\n|ok\n0 00\n"),
     ("Client::work_one, a promotion", "wb_target/carrying", "carry_out", "if matches!(order, Order::Promote(_, _)) " + MEMORY, "wb_tests_target", "a_block_is_cached_at_its_second_access"),
-    ("Client::work_one, a replacement", "wb_target/carrying", "carry_out", "if matches!(order, Order::Replace(_, _, _)) " + MEMORY, "wb_tests_target", "the_least_recent_block_leaves_and_no_other"),
+    ("Client::work_one, a replacement", "wb_target/carrying", "carry_out", "if matches!(order, Order::Replace(_, _, _)) " + MEMORY, "wbcache", REPLACEMENT),
     ("Client::work_one, a write-back", "wb_target/carrying", "carry_out", "if matches!(order, Order::Clean(_)) " + MEMORY, "wbcache", r"w 0 1 11\nr 0 1\nwork\nw 0 1 22\ntick\nwork\n|ok\ncleaned 0\n"),
     ("Client::write_fua", "wb_target/durable", "write_fua", "return Err(Stopped { done: 0, refusal: wb_types::Refusal::Memory });", "wbcache", r"wf 0 1 11\nr 0 1\n|ok\n0 11\n"),
     ("Target::together", "wb_target/together", "together", "return Err(AllocError);", "wb_tests_target", "devices_come_back_each_in_its_place"),

@@ -8,8 +8,6 @@ mod caching;
 #[cfg(test)]
 mod clean;
 #[cfg(test)]
-mod crashing;
-#[cfg(test)]
 mod errands;
 #[cfg(test)]
 mod faults;
@@ -21,8 +19,6 @@ mod fixture;
 mod hooked;
 #[cfg(test)]
 mod memory;
-#[cfg(test)]
-mod photos;
 #[cfg(test)]
 mod questions;
 #[cfg(test)]

@@ -1,7 +1,7 @@
 //! What is asked of a target over formatted devices in memory, and of a client of it, which are then let go.
 
-use crate::caching::{caches, caches_and_flushes, replaces};
-use crate::fixture::{Lent, Memory, client_of, formatted, open, shows, worked};
+use crate::caching::{caches, caches_and_flushes};
+use crate::fixture::{Lent, Memory, client_of, formatted, open, worked};
 use crate::requests::settles_alone;
 use crate::retiring::writes_twice;
 use crate::sharing::leads_alone;
@@ -17,12 +17,9 @@ use wb_types::Refusal;
 pub enum Question {
     Caches,
     CachesAndFlushes,
-    Replaces,
     SettlesAlone,
     TakesNoMore,
     CarriesOutAll,
-    /// Whether a sector begins with this byte.
-    Shows(u64, u8),
     /// Whether the first sector is written twice without a wait.
     WritesTwice,
     /// Whether this order waits.
@@ -81,11 +78,9 @@ fn answer(
     match question {
         Question::Caches => caches(rt, target, client),
         Question::CachesAndFlushes => caches_and_flushes(rt, client),
-        Question::Replaces => replaces(rt, target, client),
         Question::SettlesAlone => settles_alone(rt, client),
         Question::TakesNoMore => takes_no_more(rt, client),
         Question::CarriesOutAll => carries_out_all(rt, target, client),
-        Question::Shows(at, byte) => shows(rt, client, at, byte),
         Question::WritesTwice => writes_twice(client),
         Question::Finds(order) => worked(rt, client) == Some(order),
         Question::IsKept => is_kept(rt, target, client),

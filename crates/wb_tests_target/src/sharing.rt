@@ -1,10 +1,9 @@
 //! Clients that write and flush in turns, beside one another: a commit serves several of them.
 
 use crate::bounds::end_with;
-use crate::errands::sent_with_hook;
 use crate::files::{Images, Names, client_over, images, target_over};
 use crate::fixture::{Lent, begun_with, shows};
-use crate::hooked::Hook;
+use crate::hooked::{Hook, Hooked, with_hook};
 use crate::questions::{Question, answered};
 use std::alloc::AllocError;
 use std::process::Abort;
@@ -14,19 +13,19 @@ use std::test::Fail;
 use std::thread;
 use std::thread::Threads;
 use std::time::{Clock, Duration};
-use wb_disk::Disk;
+use wb_disk::{Disk, FileDisk};
 use wb_policy::{Policy, TinyLfu};
 use wb_target::{Client, Errand, Flushed, Returned, Sent, Target};
 use wb_types::{Dev, Refusal, Sector};
 
 /// How many clients there are.
-pub const FLUSHERS: u64 = 16;
+const FLUSHERS: u64 = 16;
 
 /// How often each writes and flushes.
 const TURNS: u8 = 8;
 
 /// Of a client its own sector, and so of the sixteen some in each block.
-pub fn own_sector(client: u64) -> u64 {
+fn own_sector(client: u64) -> u64 {
     client.wrapping_mul(40)
 }
 
@@ -116,6 +115,20 @@ fn all_of_them<'a>(
     Ok(errands)
 }
 
+/// Each of these over files that it opens for itself, whose syncs are slow.
+fn sent_slowly<'h, E: Drop>(
+    rt: &HostRuntime,
+    slow: &'h Slow<'h, HostRuntime>,
+    errands: Vec<E>,
+) -> Result<Vec<Sent<Hooked<'h, FileDisk, Slow<'h, HostRuntime>>, E>>, Fail> {
+    let mut sent = Vec::new(rt.alloc());
+    for errand in errands {
+        let devices = with_hook(images(rt, &SHARED)?, slow);
+        sent.push(Sent { devices, errand })?;
+    }
+    Ok(sent)
+}
+
 /// How all flushes were answered, if each was.
 fn count_flushes<D>(returned: &[Returned<D, Result<Flushes, Refusal>>]) -> Option<Flushes> {
     let mut all = Flushes { led: 0, served: 0 };
@@ -164,7 +177,7 @@ fn sixteen_clients_that_write_and_flush_share_commits(rt: HostRuntime) -> Result
     let target = target_over(&rt, &SHARED)?;
     let ended = AtomicU64::new(0);
     let slow = Slow { clock: &rt };
-    let errands = sent_with_hook(&rt, &SHARED, &slow, all_of_them(&rt, &ended)?)?;
+    let errands = sent_slowly(&rt, &slow, all_of_them(&rt, &ended)?)?;
     let shared = are_shared(&rt, &target, errands);
     let shown = shows_last(&rt, &target, images(&rt, &SHARED)?);
     drop(target);
