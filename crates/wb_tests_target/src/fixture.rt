@@ -13,16 +13,20 @@ pub type Memory = Devices<MemDisk>;
 
 pub type Lent<'t> = Client<'t, MemDisk, TinyLfu>;
 
+/// Devices of zeros, of so many sectors.
+pub fn zeros(alloc: Global, metadata: u64, cache: u64, origin: u64) -> Result<Memory, Refusal> {
+    Ok(Devices {
+        metadata: MemDisk::new(alloc, metadata)?,
+        cache: MemDisk::new(alloc, cache)?,
+        origin: MemDisk::new(alloc, origin)?,
+    })
+}
+
 /// Devices whose metadata are formatted.
 pub fn formatted(alloc: Global) -> Result<Memory, Refusal> {
-    let geometry = Geometry::new(64, 4, 10, 4)?;
-    let mut metadata = MemDisk::new(alloc, 4)?;
-    format(&mut metadata, &geometry)?;
-    Ok(Devices {
-        metadata,
-        cache: MemDisk::new(alloc, 256)?,
-        origin: MemDisk::new(alloc, 640)?,
-    })
+    let mut devices = zeros(alloc, 4, 256, 640)?;
+    format(&mut devices.metadata, &Geometry::new(64, 4, 10, 4)?)?;
+    Ok(devices)
 }
 
 /// A target that is opened over devices.

@@ -1,12 +1,10 @@
 //! Clients that come and go.
 
-use crate::fixture::{Lent, Memory, begun_with, client_of, formatted, open};
+use crate::fixture::{Lent, Memory, begun_with, client_of, formatted, open, zeros};
 use crate::questions::{Question, answered_of, done_by};
 use std::alloc::Global;
 use std::sync::Wait;
 use std::test::Fail;
-use wb_devices::Devices;
-use wb_disk::MemDisk;
 use wb_policy::{Order, TinyLfu};
 use wb_target::{CLIENTS, Target};
 use wb_types::{CBlock, OBlock, Refusal, Sector};
@@ -61,11 +59,7 @@ fn told(
     origin: u64,
 ) -> Result<Option<Refusal>, Refusal> {
     let (_, target) = open(alloc, formatted(alloc)?)?;
-    let devices = Devices {
-        metadata: MemDisk::new(alloc, metadata)?,
-        cache: MemDisk::new(alloc, cache)?,
-        origin: MemDisk::new(alloc, origin)?,
-    };
+    let devices = zeros(alloc, metadata, cache, origin)?;
     let refused = match target.client(rt, devices) {
         Ok(_) => None,
         Err((_, refusal)) => Some(refusal),
