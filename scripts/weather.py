@@ -114,11 +114,16 @@ def each_call_fails(mode):
     return tried
 
 
+# Four blocks are promoted and one replaced, with a flush behind each order.
+CLEAN_ROW = [line for s in (0, 64, 128, 192) for line in (f"r {s} 1", f"r {s} 1", "work", "flush")]
+CLEAN_ROW += ["r 256 1", "r 256 1", "work", "flush", "r 256 1", "work", "flush", "status", "w 256 1 44", "flush"]
 # Four blocks are promoted; the first two are written there, one behind the last flush, and replaced by others: each is written home first.
-ROW = ["r 0 1", "r 0 1", "work", "flush", "w 0 1 41", "flush", "r 64 1", "r 64 1", "work", "flush", "w 64 1 42"]
-ROW += [line for s in (128, 192) for line in (f"r {s} 1", f"r {s} 1", "work")]
-ROW += [line for s in (256, 320) for line in (*(f"r {s} 1",) * 4, "work", "r 128 1", "r 192 1")]
-ROW += ["flush", "status", "w 256 1 44", "flush"]
+DIRTY_ROW = ["r 0 1", "r 0 1", "work", "flush", "w 0 1 41", "flush", "r 64 1", "r 64 1", "work", "flush", "w 64 1 42"]
+DIRTY_ROW += [line for s in (128, 192) for line in (f"r {s} 1", f"r {s} 1", "work")]
+DIRTY_ROW += [line for s in (256, 320) for line in (*(f"r {s} 1",) * 4, "work", "r 128 1", "r 192 1")]
+DIRTY_ROW += ["flush", "status", "w 256 1 44", "flush"]
+# Each with how many blocks are replaced in good weather, outside passthrough.
+ROWS = (CLEAN_ROW, 1), (DIRTY_ROW, 2)
 ORIGIN = {sector: f"{0x80 + i:02x}" for i, sector in enumerate(WATCHED)}
 
 
@@ -138,21 +143,25 @@ def prepare_for_crashes():
 def each_crash(mode, on):
     """Each call of each device fails in a run of its own, and with `on` all behind it; then power is lost: each file is as it was
     synced last, or as it was written last."""
+    return sum(each_crash_of(row, replaces, mode, on) for row, replaces in ROWS)
+
+
+def each_crash_of(row, replaces, mode, on):
     tried = 0
     for name in DEVICES:
         for call in range(1, 1000):
             prepare_for_crashes()
             weather = {"WEATHER_FILE": name, "WEATHER_CALL": call, "WEATHER_ON": on, "WEATHER_DURABLE": 1}
-            status, told, _, came = run_lines(mode, ROW, weather)
+            status, told, _, came = run_lines(mode, row, weather)
             if not came:
                 replaced = sum(line.startswith("replaced ") for line in told.splitlines())
-                need(replaced == (0 if mode == "passthrough" else 2), f"in good weather {replaced} blocks are replaced: {told}")
+                need(replaced == (0 if mode == "passthrough" else replaces), f"in good weather {replaced} blocks are replaced: {told}")
                 break
             tried += 1
             told, book = told.splitlines(), Book(ORIGIN)
             try:
                 if told[0] not in {f"refused 5 Io {device}" for device in DEVICES.values()} or len(told) > 1:
-                    refused = judge(ROW, told, book, {5, 6})
+                    refused = judge(row, told, book, {5, 6})
                     need((refused[5] > 0 if on else refused[5] == 1) and status == 3, f"status {status}, refused {dict(refused)}")
                 for file in DEVICES:
                     shutil.copy(file, file + ".newest")
@@ -168,6 +177,8 @@ def each_crash(mode, on):
 # A life that caches four blocks, one of which is dirty at its end, and what each of them shows then.
 LIFE = [line for s in (0, 64, 128, 192) for line in (f"w {s} 1 10", f"r {s} 1", "work")] + ["w 0 1 22", "suspend"]
 LEFT = "0 22\n64 10\n128 10\n192 10\n"
+# The calls that a conversion of one node makes: a sync, and three that read; the node, a sync, the root and its sync.
+CALLS = 8
 
 
 def each_conversion_fails():
@@ -187,7 +198,7 @@ def each_conversion_fails():
             shutil.copy(name, name + ".durable")
         status, told, _, came = run(PROGRAMS.cache, ["run", second], "status\n", {"WEATHER_FILE": "m.img", "WEATHER_CALL": call, "WEATHER_DURABLE": 1})
         if not came:
-            need(call > 5 and status == 0, f"{call - 1} calls, and then {status} {told}")
+            need(call - 1 == CALLS and status == 0, f"{call - 1} calls, and then {status} {told}")
             return call - 1
         need((status, told) == (3, "refused 5 Io metadata\n"), f"call {call}: {status} {told}")
         for name in DEVICES:
