@@ -3,9 +3,12 @@
 one file and the one before it is what that module took, with what was read for it.
 
     python3 scripts/slowest_modules.py CRATE [HOW_MANY]      20 of them where no number is given
+    python3 scripts/slowest_modules.py CRATE kinds           by the last part of their names: what each kind took, and its share
 
 Run it behind `rt check --jobs 1` of a crate without out/ (with more jobs several modules are checked at once, and a check over kept work writes only what
-it proved anew). The seconds before the first file are not seen: reading the libraries. It prints a line for each module: its seconds, when it ended, its name."""
+it proved anew). The seconds before the first file are not seen: reading the libraries. It prints a line for each module: its seconds, when it ended, its name. Of a function `Lts` are the steps of its compiled code, `Proof` is that of its contract, and
+`Tie` joins both."""
+import collections
 import os
 import sys
 
@@ -31,6 +34,13 @@ def main():
     for time, name in files:
         taken.append((time - last, time - begun, name.removesuffix(".oantt").removesuffix(".decls")))
         last = time
+    if sys.argv[2:] == ["kinds"]:
+        seconds = collections.Counter()
+        for took, _, name in taken:
+            seconds[name.rsplit(".", 1)[-1]] += took
+        for kind, took in seconds.most_common(20):
+            print(f"{took:6.1f} {took / (last - begun):7.1%} {kind}")
+        return
     for seconds, end, name in sorted(taken, reverse=True)[: int(sys.argv[2]) if len(sys.argv) == 3 else 20]:
         print(f"{seconds:6.1f} {end:7.1f} {name}")
 
