@@ -7,7 +7,7 @@ often with a tree of dirty bits. Then bytes, words, fields and tops are changed,
 The slow reader below goes by docs/FORMATS.md, 'Metadata sectors', word for word, and uses nothing of the product. `wb_bench FILE images` reads many
 in one process, and says of each what it stands for or how it is refused. It prints what differs, how many there were of each answer and of each
 fault, and at the end 'N passed, N failed': a check for each thousand, one that each fault came first in some image, where there are 5,000 or more, and one for all rows of
-scripts/cases/damage.txt, damaged images with what is said of each.
+scripts/cases/damage.txt and damaged_bits.txt, damaged images with what is said of each.
 """
 import collections
 import multiprocessing
@@ -305,24 +305,57 @@ def change(dice, sectors):
 
 
 # --- Images as rows.
+def mapping_of_two():
+    """Version 1: cache blocks 0 and 33 of 40 hold origin blocks 0 and 7; leaves at 2 and 3, the top at 4."""
+    return [
+        bytes(SECTOR),
+        root_sector(1, 1, 1, 64, 40, 40, 8, 4, 0),
+        node_of(MAPPING, 1, 0, {0: 1}),
+        node_of(MAPPING, 1, 1, {1: 1 | 7 << 16}),
+        node_of(MAPPING, 2, 0, {0: 2, 1: 3}),
+    ] + [bytes(SECTOR)] * 3
+
+
+def dirty_blocks_of_two_leaves():
+    """Version 2: cache blocks 0 and 2,048 of 2,049 hold origin blocks 0 and 7, and are dirty; the mapping's leaves at 2 and 3, above them 4 and 5, its top
+    at 6; the leaves of dirty bits at 7 and 8, their top at 9."""
+    return [
+        bytes(SECTOR),
+        root_sector(3, 2, 1, 64, 2049, 4096, 143, 6, 9),
+        node_of(MAPPING, 1, 0, {0: 1}),
+        node_of(MAPPING, 1, 64, {0: 1 | 7 << 16}),
+        node_of(MAPPING, 2, 0, {0: 2}),
+        node_of(MAPPING, 2, 2, {0: 3}),
+        node_of(MAPPING, 3, 0, {0: 4, 2: 5}),
+        node_of(DIRTY, 1, 0, {0: 1}),
+        node_of(DIRTY, 1, 1, {0: 1}),
+        node_of(DIRTY, 2, 0, {0: 7, 1: 8}),
+    ] + [bytes(SECTOR)] * 133
+
+
+def node_of(letters, level, index, words):
+    """A node of generation 1 with these words, by their places in it."""
+    return node_sector(letters, 1, level, index, [words.get(j, 0) for j in range(32)])
+
+
+def changed(sectors, place, changes):
+    """These sectors with other bytes: of the one at a place, or of one that a change names before a colon."""
+    for one in changes.split():
+        where, byte = one.split("=")
+        other, _, at = where.rpartition(":")
+        number = int(other or place)
+        sectors[number] = put(sectors[number], int(at), bytes.fromhex(byte))
+    return sectors
+
+
 def rows_of_damage():
-    """The rows of scripts/cases/damage.txt: the sectors of each, what is said of them, and the row."""
-    with open(os.path.join(os.path.dirname(os.path.abspath(__file__)), "cases", "damage.txt"), encoding="utf-8") as file:
-        for row in file.read().splitlines():
-            if row and not row.startswith("#"):
-                place, changes, told = row.split("|")
-                words = [0] * 32
-                sectors = [
-                    bytes(SECTOR),
-                    root_sector(1, 1, 1, 64, 40, 40, 8, 4, 0),
-                    node_sector(MAPPING, 1, 1, 0, [1] + words[1:]),
-                    node_sector(MAPPING, 1, 1, 1, [0, 1 | 7 << 16] + words[2:]),
-                    node_sector(MAPPING, 1, 2, 0, [2, 3] + words[2:]),
-                ] + [bytes(SECTOR)] * 3
-                for one in changes.split():
-                    at, byte = one.split("=")
-                    sectors[int(place)] = put(sectors[int(place)], int(at), bytes.fromhex(byte))
-                yield sectors, told, row
+    """The rows of damaged images: the sectors of each, what is said of them, and the row."""
+    for name, good in (("damage.txt", mapping_of_two), ("damaged_bits.txt", dirty_blocks_of_two_leaves)):
+        with open(os.path.join(os.path.dirname(os.path.abspath(__file__)), "cases", name), encoding="utf-8") as file:
+            for row in file.read().splitlines():
+                if row and not row.startswith("#"):
+                    place, changes, told = row.split("|")
+                    yield changed(good(), place, changes), told, row
 
 
 def write_image(file, sectors):
@@ -338,9 +371,9 @@ def first_wrong_row(program):
         file.flush()
         told = subprocess.run([program, file.name, "images"], capture_output=True, text=True, timeout=300).stdout.splitlines()
     for (sectors, wanted, row), found in zip(rows, told + [""] * len(rows)):
-        for answer in (found, slow_answer(sectors)[0]):
-            if wanted != (answer if answer.startswith("refused") else answer.split(" ")[2:3][0] if answer else ""):
-                return f"the row '{row}': '{answer}'"
+        answer = slow_answer(sectors)[0]
+        if found != answer or wanted != (answer if answer.startswith("refused") else answer.split(" ")[2]):
+            return f"the row '{row}': '{found}', by the format '{answer}'"
     return None
 
 

@@ -1,8 +1,8 @@
-//! Messages: what they say, and which texts are none.
+//! Messages: what they say. Texts that are none stand in scripts/cases/stories.txt.
 
 use std::alloc::Global;
 use wb_table::read_message;
-use wb_types::{CBlockRange, Key, Message, Refusal};
+use wb_types::{CBlockRange, Key, Message};
 
 /// Whether a text gives a key this value.
 fn sets(alloc: Global, text: &str, key: Key, value: u64) -> bool {
@@ -28,13 +28,6 @@ fn are(told: Vec<CBlockRange>, ranges: &[(u32, u32)]) -> bool {
     told.len() == ranges.len()
         && told.as_slice().iter().zip(ranges).all(|(range, (begin, end))| range.begin.0 == *begin
             && range.end.0 == *end)
-}
-
-fn is_bad(alloc: Global, text: &str) -> bool {
-    match read_message(alloc, text) {
-        Ok(_) => false,
-        Err(refusal) => refusal == Refusal::BadMessage,
-    }
 }
 
 #[test]
@@ -70,27 +63,4 @@ fn ranges_are_named_in_their_order(rt: HostRuntime) {
             &[(4_294_967_294, 4_294_967_295)]
         )
     );
-}
-
-#[test]
-fn other_texts_are_no_messages(rt: HostRuntime) {
-    for text in [
-        "",
-        "  ",
-        "threshold 1",
-        "migration_threshold",
-        "migration_threshold 1 2",
-        "migration_threshold -1",
-        "promote_min 18446744073709551616",
-        "invalidate_cblocks 3-3",
-        "invalidate_cblocks 4-3",
-        "invalidate_cblocks 0-2-3",
-        "invalidate_cblocks 0-",
-        "invalidate_cblocks -2",
-        "invalidate_cblocks 0 x",
-        "invalidate_cblocks 4294967295",
-        "Invalidate_cblocks 0",
-    ] {
-        assert!(rt; is_bad(rt.alloc(), text));
-    }
 }

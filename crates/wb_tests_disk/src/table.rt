@@ -1,7 +1,7 @@
-//! Constructor lines: what they give, and which are none.
+//! Constructor lines: what they give. Which are none stands in scripts/cases/tables.txt.
 
 use wb_table::{Keys, PolicyName, Table, read_table};
-use wb_types::{Mode, Refusal};
+use wb_types::Mode;
 
 /// A table of the files m, c and o with blocks of 64 sectors, in this mode, with metadata of version 2 or not, this policy and these keys.
 fn table_of(mode: Mode, metadata2: bool, policy: PolicyName, keys: Keys) -> Table<'static> {
@@ -22,13 +22,6 @@ fn gives(line: &str, table: Table<'_>) -> bool {
     match read_table(line) {
         Ok(read) => read == table,
         Err(_) => false,
-    }
-}
-
-fn is_bad(line: &str) -> bool {
-    match read_table(line) {
-        Ok(_) => false,
-        Err(refusal) => refusal == Refusal::BadTable,
     }
 }
 
@@ -99,38 +92,5 @@ fn metadata2_stands_once_before_or_behind_a_mode(rt: HostRuntime) {
         ),
     ] {
         assert!(rt; gives(line, table_of(mode, true, PolicyName::TinyLfu, Keys::new())));
-    }
-}
-
-#[test]
-fn features_that_are_no_mode_and_metadata2_are_bad(rt: HostRuntime) {
-    for line in [
-        "cache m c o 64 2 writethrough passthrough tinylfu 0",
-        "cache m c o 64 2 writeback writeback tinylfu 0",
-        "cache m c o 64 2 metadata2 metadata2 tinylfu 0",
-        "cache m c o 64 3 metadata2 writeback metadata2 tinylfu 0",
-        "cache m c o 64 2 metadata2 tinylfu 0",
-        "cache m c o 64 0 metadata2 tinylfu 0",
-        "cache m c o 64 1 metadata3 tinylfu 0",
-        "cache m c o 64 1 tinylfu 0",
-        "cache m c o 64 writeback tinylfu 0",
-    ] {
-        assert!(rt; is_bad(line));
-    }
-}
-
-#[test]
-fn arguments_that_are_no_keys_with_values_are_bad(rt: HostRuntime) {
-    for line in [
-        "cache m c o 64 0 smq 0",
-        "cache m c o 64 1 writethrough tinylfu 1 promote_min",
-        "cache m c o 64 0 tinylfu 1 promote_min 2",
-        "cache m c o 64 0 tinylfu 4 promote_min 2",
-        "cache m c o 64 0 tinylfu 2 promote_min 2 0",
-        "cache m c o 64 0 cleaner 2 promote_min 2",
-        "cache m c o 64 0 tinylfu 2 promote_min 18446744073709551616",
-        "cache m c o 64 0 tinylfu 0 0",
-    ] {
-        assert!(rt; is_bad(line));
     }
 }

@@ -1,5 +1,5 @@
-//! Trees of dirty bits.
+//! Trees of dirty bits. Which damage of them is told by which place stands in scripts/cases/damaged_bits.txt.
 
-mod images;
+mod blocks;
 mod planning;
-mod reading;
+mod root;

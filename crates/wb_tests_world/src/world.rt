@@ -1,40 +1,26 @@
-//! What happens to a small world by hand, and what it does.
+//! What happens to a small world by hand, and what it does. What a replay can play stands in scripts/cases/replays.txt.
 
 ghost use Rattle.std.specs.Prelude.{◌≡◌, IfOk};
 ghost use Rattle.wb_types.specs.declared.version.Version.TheVariants.{One};
 
-mod demotions;
-mod flushes;
+mod faults;
+mod invalidations;
 mod line;
-mod openings;
-mod passthrough;
-mod promotions;
-mod replacements;
-mod requests;
 mod runs;
-mod suspends;
-mod views;
 
-use self::demotions::DEMOTIONS;
-use self::flushes::{FLUSHES, SHARED};
+use self::faults::{OPENINGS, REQUESTS};
+use self::invalidations::INVALIDATIONS;
 use self::line::{
-    ARRIVE, Act, FIRST_SECTOR, LOOK_FAIL, LOOK_LOCK, LOOK_NUMBER, LOOK_SEAL, Line, OPEN, OPENING,
-    OWN, READING, Row, Task, WRITING,
+    Act, FIRST_SECTOR, LOOK_FAIL, LOOK_LOCK, LOOK_NUMBER, LOOK_SEAL, Line, OPENING, OWN, READING,
+    Row, Task, WRITING,
 };
-use self::openings::{CRASHES, FAILURES, OPENINGS, ROOTS};
-use self::passthrough::PASSTHROUGH;
-use self::promotions::PROMOTIONS;
-use self::replacements::REPLACEMENTS;
-use self::requests::{FAILED_REQUESTS, REQUESTS, WRITE_AND_READ, WRITTEN_AND_GIVEN};
-use self::runs::{FLUSHING, ran};
-use self::suspends::SUSPENDS;
-use self::views::VIEWS;
+use self::runs::ran;
 use std::alloc::Global;
 use std::test::Fail;
 use wb_disk::{Base, CrashChoice, NamedContent};
 use wb_promise::{Event, Job, What};
 use wb_tasks::{Answer, Got, Migration, Want};
-use wb_types::{Content, Dev, Extent, Geometry, Mode, Refusal, SECTOR_BYTES};
+use wb_types::{Dev, Extent, Geometry, Mode, Refusal, SECTOR_BYTES};
 use wb_world::World;
 
 /// Ten blocks of 64 sectors, and a cache of four.
@@ -76,7 +62,6 @@ fn named(
 fn event_of(alloc: Global, act: Act) -> Result<Event, Refusal> {
     match act {
         Act::Open(actor, mode) => Ok(Event::Start(actor, Job::Open(mode, false))),
-        Act::OpenSecond(actor, mode) => Ok(Event::Start(actor, Job::Open(mode, true))),
         Act::Read(actor, sectors) => Ok(Event::Start(actor, Job::Read(sectors))),
         Act::Write(actor, sectors) => Ok(Event::Start(actor, write(sectors, 7))),
         Act::WriteOf(actor, sectors, byte) => Ok(Event::Start(actor, write(sectors, byte))),
@@ -87,20 +72,12 @@ fn event_of(alloc: Global, act: Act) -> Result<Event, Refusal> {
             actor,
             Job::Migrate(Migration::Promote(cache), block),
         )),
-        Act::Demote(actor, block) => {
-            Ok(Event::Start(actor, Job::Migrate(Migration::Demote, block)))
-        }
-        Act::Clean(actor, block) => {
-            Ok(Event::Start(actor, Job::Migrate(Migration::Clean, block)))
-        }
-        Act::Replace(actor, old, new) => Ok(Event::Start(actor, Job::Replace(old, new))),
         Act::Step(actor) => Ok(Event::Step(actor)),
         Act::Fault(actor, base) => Ok(Event::FaultStep(actor, unnamed(alloc, base))),
         Act::FaultOf(actor, device, sector, position) => Ok(Event::FaultStep(
             actor,
             named(alloc, Base::Newest, device, sector, position)?,
         )),
-        Act::Crash => Ok(Event::Stop(unnamed(alloc, Base::Newest))),
         Act::CrashOf(device, sector, position) => {
             let choice = named(alloc, Base::Newest, device, sector, position)?;
             Ok(Event::Stop(choice))
@@ -159,35 +136,6 @@ fn owns(world: &mut World, actor: usize, seal: u64, number: u64) -> bool {
         && sees(world, actor, &[(LOOK_SEAL, seal), (LOOK_NUMBER, number)])
 }
 
-/// Whether these contents are one, and each byte of it this one.
-fn is_one_of(contents: &[Content], byte: u8) -> bool {
-    contents.len() == 1
-        && contents
-            .iter()
-            .all(|content| *content == [byte; SECTOR_BYTES])
-}
-
-/// Whether the last event read one sector full of this byte.
-fn has_read(world: &World, byte: u8) -> bool {
-    match world.trace().records().last() {
-        Some(record) => is_one_of(record.read.as_slice(), byte),
-        None => false,
-    }
-}
-
-/// Whether the target shows this sector full of this byte.
-fn shows(world: &mut World, at: u64, byte: u8) -> bool {
-    match world.view(at) {
-        Some(content) => content == [byte; SECTOR_BYTES],
-        None => false,
-    }
-}
-
-/// Whether it shows each of these so.
-fn shows_all(world: &mut World, sectors: &[(u64, u8)]) -> bool {
-    sectors.iter().all(|(at, byte)| shows(world, *at, *byte))
-}
-
 /// A write of this byte.
 fn write(sectors: Extent, byte: u8) -> Job {
     Job::Write(sectors, [byte; SECTOR_BYTES])
@@ -198,7 +146,6 @@ fn job_of(task: Task) -> Job {
         Task::Open => Job::Open(Mode::Writeback, false),
         Task::Read => Job::Read(FIRST_SECTOR),
         Task::Write => write(FIRST_SECTOR, 7),
-        Task::Flush => Job::Flush,
     }
 }
 
@@ -208,7 +155,6 @@ fn steps_of(task: Task) -> &'static [(Want, Got)] {
         Task::Open => &OPENING,
         Task::Read => &READING,
         Task::Write => &WRITING,
-        Task::Flush => &FLUSHING,
     }
 }
 
@@ -224,20 +170,6 @@ fn steps_as(world: &mut World, actor: usize, task: Task, count: usize) -> bool {
 fn begins(world: &mut World, actor: usize, task: Task, count: usize) -> bool {
     let start = Event::Start(actor, job_of(task));
     does(world, start, What::Started) && steps_as(world, actor, task, count)
-}
-
-/// Whether a flush of an actor starts, gets a ticket, and has to wait.
-fn waits(world: &mut World, actor: usize) -> bool {
-    begins(world, actor, Task::Flush, 1)
-        && stepped(world, actor, ARRIVE, Got::Ticket)
-        && does(world, Event::Step(actor), What::Skipped)
-}
-
-/// Whether a target is opened, a flush takes its first steps, so many, and those of these actors wait for it.
-fn queue(world: &mut World, count: usize, actors: &[usize]) -> bool {
-    begins(world, 0, Task::Open, 8)
-        && begins(world, 1, Task::Flush, count)
-        && actors.iter().all(|actor| waits(world, *actor))
 }
 
 /// More steps than any task of a small world has.
@@ -273,12 +205,6 @@ fn all_finish(world: &mut World, alloc: Global, acts: &[Act]) -> Result<bool, Re
     Ok(true)
 }
 
-/// Whether this stops all, and actor 0 then opens the target.
-fn opens_after(world: &mut World, alloc: Global, crash: Act) -> Result<bool, Refusal> {
-    let event = event_of(alloc, crash)?;
-    Ok(does(world, event, What::Stopped) && all_finish(world, alloc, &[OPEN])?)
-}
-
 /// Whether a line goes as it says.
 fn goes(world: &mut World, alloc: Global, line: &Line) -> Result<bool, Refusal> {
     match line {
@@ -291,12 +217,7 @@ fn goes(world: &mut World, alloc: Global, line: &Line) -> Result<bool, Refusal> 
         Line::Sees(actor, words) => Ok(sees(world, *actor, words)),
         Line::Takes(actor, wants) => Ok(takes(world, *actor, wants)),
         Line::Owns(actor, seal, number) => Ok(owns(world, *actor, *seal, *number)),
-        Line::Queue(count, actors) => Ok(queue(world, *count, actors)),
         Line::Finishes(acts) => all_finish(world, alloc, acts),
-        Line::OpensAfter(crash) => opens_after(world, alloc, *crash),
-        Line::Gives(byte) => Ok(has_read(world, *byte)),
-        Line::Shows(sectors) => Ok(shows_all(world, sectors)),
-        Line::Hides(at) => Ok(world.view(*at).is_none()),
         Line::Opened(generation, mapped, dirty) => {
             Ok(world.opened() == Some((*generation, *mapped, *dirty)))
         }
@@ -331,86 +252,18 @@ fn compare(alloc: Global, rows: &[&Row]) -> Result<(), Fail> {
 }
 
 #[test]
-fn openings_go_as_their_rows_say(rt: HostRuntime) -> Result<(), Fail> {
+fn openings_that_fail_go_as_their_rows_say(rt: HostRuntime) -> Result<(), Fail> {
     compare(rt.alloc(), &OPENINGS)
 }
 
 #[test]
-fn failed_openings_go_as_their_rows_say(rt: HostRuntime) -> Result<(), Fail> {
-    compare(rt.alloc(), &FAILURES)
-}
-
-#[test]
-fn openings_whose_root_fails_go_as_their_rows_say(rt: HostRuntime) -> Result<(), Fail> {
-    compare(rt.alloc(), &ROOTS)
-}
-
-#[test]
-fn openings_beside_crashes_go_as_their_rows_say(rt: HostRuntime) -> Result<(), Fail> {
-    compare(rt.alloc(), &CRASHES)
-}
-
-#[test]
-fn requests_go_as_their_rows_say(rt: HostRuntime) -> Result<(), Fail> {
+fn requests_that_fail_go_as_their_rows_say(rt: HostRuntime) -> Result<(), Fail> {
     compare(rt.alloc(), &REQUESTS)
 }
 
 #[test]
-fn failed_requests_go_as_their_rows_say(rt: HostRuntime) -> Result<(), Fail> {
-    compare(rt.alloc(), &FAILED_REQUESTS)
-}
-
-#[test]
-fn a_write_and_a_read_behind_it_go_to_their_answers(rt: HostRuntime) -> Result<(), Fail> {
-    assert!(rt; play(rt.alloc(), &WRITE_AND_READ)? == None);
-    Ok(())
-}
-
-/// The step that reads gives the one content that was written.
-#[test]
-fn a_read_is_given_what_was_written(rt: HostRuntime) -> Result<(), Fail> {
-    assert!(rt; play(rt.alloc(), &WRITTEN_AND_GIVEN)? == None);
-    Ok(())
-}
-
-#[test]
-fn flushes_go_as_their_rows_say(rt: HostRuntime) -> Result<(), Fail> {
-    compare(rt.alloc(), &FLUSHES)
-}
-
-#[test]
-fn flushes_that_share_commits_go_as_their_rows_say(rt: HostRuntime) -> Result<(), Fail> {
-    compare(rt.alloc(), &SHARED)
-}
-
-#[test]
-fn suspends_go_as_their_rows_say(rt: HostRuntime) -> Result<(), Fail> {
-    compare(rt.alloc(), &SUSPENDS)
-}
-
-#[test]
-fn passthrough_goes_as_its_rows_say(rt: HostRuntime) -> Result<(), Fail> {
-    compare(rt.alloc(), &PASSTHROUGH)
-}
-
-#[test]
-fn views_are_as_their_rows_say(rt: HostRuntime) -> Result<(), Fail> {
-    compare(rt.alloc(), &VIEWS)
-}
-
-#[test]
-fn promotions_go_as_their_rows_say(rt: HostRuntime) -> Result<(), Fail> {
-    compare(rt.alloc(), &PROMOTIONS)
-}
-
-#[test]
-fn demotions_go_as_their_rows_say(rt: HostRuntime) -> Result<(), Fail> {
-    compare(rt.alloc(), &DEMOTIONS)
-}
-
-#[test]
-fn replacements_go_as_their_rows_say(rt: HostRuntime) -> Result<(), Fail> {
-    compare(rt.alloc(), &REPLACEMENTS)
+fn invalidations_go_as_their_rows_say(rt: HostRuntime) -> Result<(), Fail> {
+    compare(rt.alloc(), &INVALIDATIONS)
 }
 
 /// A list of events that is run goes to its end, and its trace tells what each of them did and what its reads were given.

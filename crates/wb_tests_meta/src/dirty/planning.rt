@@ -4,8 +4,8 @@ ghost use Rattle.std.specs.Prelude.{◌≡◌, ◌≤◌, ◌<◌, ◌+◌, ◌^
 ghost use Rattle.std.specs.List.{range_with_len};
 ghost use Rattle.wb_types.specs.declared.number.Place.{Place as At};
 
-use crate::dirty::reading::blocks::{Blocks, set_of};
-use crate::dirty::reading::sectors::sized_root;
+use crate::dirty::blocks::{Blocks, set_of};
+use crate::dirty::root::root_of;
 use std::alloc::Global;
 use wb_bits::BitSet;
 use wb_dirty::{DirtyLoader, DirtyPlan, dirty_nodes_of, plan_dirty};
@@ -57,7 +57,7 @@ fn read_of(alloc: Global, cache_blocks: u32, plan: &DirtyPlan) -> Result<BitSet,
         Some(Place(number)) => number,
         None => 0,
     };
-    let Some(root) = sized_root(cache_blocks, 8000, 0, top) else {
+    let Some(root) = root_of(cache_blocks, top) else {
         return Err(Refusal::NotFormatted);
     };
     let mapped = set_of(alloc, root.geometry.cache_blocks, Blocks::All)?;

@@ -11,8 +11,6 @@ use wb_words::{Access, Kind, Word};
 pub enum Act {
     /// An actor is told to open a target.
     Open(usize, Mode),
-    /// The same, and it asks for metadata of the second version.
-    OpenSecond(usize, Mode),
     Read(usize, Extent),
     /// Each write is of sevens.
     Write(usize, Extent),
@@ -24,32 +22,24 @@ pub enum Act {
     Invalidate(usize, OBlock),
     /// A block is promoted into a cache block.
     Promote(usize, OBlock, CBlock),
-    Demote(usize, OBlock),
-    /// A block is written back.
-    Clean(usize, OBlock),
-    /// The first block makes way for the second one.
-    Replace(usize, OBlock, OBlock),
     Step(usize),
     /// The actor's next step fails; what it syncs has landed, or not.
     Fault(usize, Base),
     /// The same with a sector of a device named by a number.
     FaultOf(usize, Dev, u64, u64),
-    /// Each sector keeps its newest content.
-    Crash,
-    /// All do but this one of a device, which keeps the content at this position.
+    /// Each sector keeps its newest content, but this one of a device the content at this position.
     CrashOf(Dev, u64, u64),
     /// Each sector keeps what was durable, but this one of a device the content at this position.
     CrashButOf(Dev, u64, u64),
 }
 
-/// A task whose steps are listed: an opening over what was formatted in write-back mode, a read and a write of the first sector
-/// over words that nobody has changed, and a flush where nothing is mapped.
+/// A task whose steps are listed: an opening over what was formatted in write-back mode, and a read and a write of the first sector
+/// over words that nobody has changed.
 #[derive(Clone, Copy)]
 pub enum Task {
     Open,
     Read,
     Write,
-    Flush,
 }
 
 #[derive(Clone, Copy)]
@@ -66,19 +56,8 @@ pub enum Line {
     Takes(usize, &'static [Want]),
     /// Its next steps own the first block, which is free, and see this seal and this number of it.
     Owns(usize, u64, u64),
-    /// Actor 0 opens a target, a flush of actor 1 takes its first steps, so many, and flushes of these start one after the other, get a
-    /// ticket, and have to wait.
-    Queue(usize, &'static [usize]),
     /// These start one after the other, and the steps of each lead to an answer that says done.
     Finishes(&'static [Act]),
-    /// This stops all, and an opening in write-back mode by actor 0 then leads to an answer that says done.
-    OpensAfter(Act),
-    /// The last step read one sector full of this byte.
-    Gives(u8),
-    /// The target shows each of these sectors full of its byte.
-    Shows(&'static [(u64, u8)]),
-    /// Nothing shows this sector.
-    Hides(u64),
     /// The target's newest root is of this generation, so many blocks are mapped, and so many of these are dirty.
     Opened(u64, u32, u32),
 }
@@ -103,8 +82,6 @@ pub const PASS: Act = Act::Open(0, Mode::Passthrough);
 
 pub const PROMOTE: Act = Act::Promote(0, BLOCK, CBlock(0));
 
-pub const DEMOTE: Act = Act::Demote(0, BLOCK);
-
 pub const FLUSH: Act = Act::Flush(0);
 
 pub const SUSPEND: Act = Act::Suspend(0);
@@ -124,11 +101,9 @@ pub const ROOT: Want = Want::Device(DeviceStep::WriteRoot);
 
 pub const DONE: Want = Want::End(Answer::Done);
 
-pub const BUSY: Want = Want::End(Answer::Refused(Refusal::Busy));
-
 pub const FAILED: Want = Want::End(Answer::Refused(Refusal::Failed));
 
-pub const CACHE_FAILED: Want = Want::End(Answer::Refused(Refusal::Io(Dev::Cache)));
+pub const METADATA_FAILED: Want = Want::End(Answer::Refused(Refusal::Io(Dev::Metadata)));
 
 pub const ORIGIN_FAILED: Want = Want::End(Answer::Refused(Refusal::Io(Dev::Origin)));
 
@@ -163,11 +138,7 @@ pub const FINISH: Want = Want::Cell(CellStep::Finish(BLOCK));
 /// The mapping of a cache of four blocks has one node at most.
 pub const ARRIVE: Want = Want::Desk(DeskStep::Arrive(1));
 
-pub const ASK: Want = Want::Desk(DeskStep::Ask(1));
-
 pub const END: Want = Want::Desk(DeskStep::EndCommit);
-
-pub const BREAK: Want = Want::Desk(DeskStep::BreakCommit);
 
 pub const SHARE_NO_MORE: Want = Want::Cell(CellStep::Release(Access::Shared, BLOCK));
 

@@ -22,7 +22,7 @@ struct Part {
 }
 
 /// A flush of no node.
-pub const FLUSHING: [(Want, Got); 9] = [
+const FLUSHING: [(Want, Got); 9] = [
     (LOOK_FAIL, Got::Word(0)),
     (ARRIVE, Got::Began(0)),
     (CACHE, Got::Done),

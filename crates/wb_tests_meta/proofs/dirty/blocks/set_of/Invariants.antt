@@ -1,5 +1,5 @@
 use Rattle.std.proofs.Common.{◌≡◌, length}
-use Rattle.wb_tests_meta.proofs.dirty.reading.blocks.set_of.Given as goal
+use Rattle.wb_tests_meta.proofs.dirty.blocks.set_of.Given as goal
 
 abbrev pub invariant-loop-block : goal.invariant-loop-block
 invariant-loop-block l = length l.set ≡ l.size

@@ -12,8 +12,6 @@ pub enum Blocks {
     None,
     One(usize),
     Last,
-    /// Those before this one.
-    Before(usize),
     /// The first and each 64th behind it.
     Every64th,
     All,
@@ -26,7 +24,6 @@ impl Blocks {
             Blocks::None => false,
             Blocks::One(one) => block == one,
             Blocks::Last => block == size.saturating_sub(1),
-            Blocks::Before(other) => block < other,
             Blocks::Every64th => block % 64 == 0,
             Blocks::All => true,
         }
