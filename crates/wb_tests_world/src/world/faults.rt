@@ -109,6 +109,7 @@ pub const REQUESTS: [&Row; 3] = [
         &[
             Line::Begins(0, Task::Open, 8),
             Line::Begins(1, Task::Write, 5),
+            Line::Does(Act::FaultOf(1, Dev::Cache, 0, 1), What::Skipped),
             Line::Does(
                 Act::FaultOf(1, Dev::Origin, 0, 0),
                 What::Stepped(WRITE_FIRST, Got::Fault),
