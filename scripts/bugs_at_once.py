@@ -15,6 +15,8 @@ import sys
 import tempfile
 
 MOST_AT_ONCE = 12
+# A check takes all processors that are free unless it is told; each of its jobs reads the libraries once more, and other crates are tried beside it.
+CHECK = ["rt", "check", "--jobs", os.environ.get("RT_JOBS", "1")]
 HEAD = re.compile(r"( *)(?:pub(?:\([a-z]+\))? )?(?:const |unsafe )*fn (\w+)")
 SAID = re.compile(r"(?:note: )?(?:\./)?(\S+?):(\d+):\d+: (?:error|it is not proved)")
 
@@ -101,7 +103,7 @@ def try_together(crate, batch, seed, room):
             it.seek(0)
             it.truncate()
             it.write(text)
-    checked = subprocess.run(["rt", "check"], cwd=f"{room}/crates/{crate}", stdout=subprocess.PIPE, stderr=subprocess.STDOUT, text=True, errors="replace", check=False)
+    checked = subprocess.run(CHECK, cwd=f"{room}/crates/{crate}", stdout=subprocess.PIPE, stderr=subprocess.STDOUT, text=True, errors="replace", check=False)
     shutil.rmtree(room)
     if "\nlogic=not-proved" not in checked.stdout:
         for half in (batch[: len(batch) // 2], batch[len(batch) // 2 :]) if len(batch) > 1 else ():
@@ -123,7 +125,7 @@ def main():
     with tempfile.TemporaryDirectory(prefix="bugs-at-once-", dir="..") as rooms:
         seed = f"{rooms}/seed"
         copy_of(".", seed)
-        if subprocess.run(["rt", "check"], cwd=f"{seed}/crates/{crate}", stdout=subprocess.DEVNULL, stderr=subprocess.STDOUT, check=False).returncode:
+        if subprocess.run(CHECK, cwd=f"{seed}/crates/{crate}", stdout=subprocess.DEVNULL, stderr=subprocess.STDOUT, check=False).returncode:
             return
         for batch in batches_of(edits):
             try_together(crate, batch, seed, f"{rooms}/room")
