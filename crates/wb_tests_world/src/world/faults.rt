@@ -31,6 +31,7 @@ pub const OPENINGS: [&Row; 4] = [
             Line::Does(Act::Open(0, Mode::Writeback), What::Started),
             Line::Does(Act::FaultOf(0, Dev::Cache, 0, 1), What::Skipped),
             Line::Does(Act::FaultOf(0, Dev::Metadata, 4, 1), What::Skipped),
+            Line::Does(Act::Step(1), What::Skipped),
             Line::Does(Act::FaultOf(0, Dev::Metadata, 3, 2), What::Skipped),
             Line::Does(
                 Act::FaultOf(0, Dev::Metadata, 3, 1),
