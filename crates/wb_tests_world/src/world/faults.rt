@@ -69,7 +69,7 @@ pub const OPENINGS: [&Row; 4] = [
 ];
 
 /// Requests of which the step on a device fails.
-pub const REQUESTS: [&Row; 2] = [
+pub const REQUESTS: [&Row; 3] = [
     &(
         "a read that fails gives its block back",
         &[
@@ -103,6 +103,19 @@ pub const REQUESTS: [&Row; 2] = [
             Line::Does(Act::Open(2, Mode::Writeback), What::Started),
             Line::Does(Act::Step(1), What::Skipped),
             Line::Does(Act::CrashOf(Dev::Origin, 0, 1), What::Stopped),
+        ],
+    ),
+    &(
+        "a write that fails has not landed where it is said",
+        &[
+            Line::Begins(0, Task::Open, 8),
+            Line::Begins(1, Task::Write, 5),
+            Line::Does(Act::CrashOf(Dev::Origin, 0, 1), What::Skipped),
+            Line::Does(
+                Act::FaultOf(1, Dev::Origin, 0, 0),
+                What::Stepped(WRITE_FIRST, Got::Fault),
+            ),
+            Line::Does(Act::CrashOf(Dev::Origin, 0, 1), What::Skipped),
         ],
     ),
 ];
