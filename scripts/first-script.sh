@@ -47,8 +47,8 @@ one_job compile sh -c 'cd crates/wbcache && exec rt try --cases "$1" >"$2"' comp
 }
 grep -v '^== ' "$work/said"
 say 'compiled, not proved by this run'
-# Machines differ by more than twice: where it took 53 s to compile, the build took 19 to 21 minutes on four processors, for 15 by the crates' seconds.
-slower=$(awk -v took="$(($(date +%s) - begun))" 'BEGIN { print took / 40 }')
+# Machines differ by more than twice: the crates' seconds are of one where it took 53 s to compile, and the build 19 to 21 minutes on four processors.
+slower=$(awk -v took="$(($(date +%s) - begun))" 'BEGIN { print took / 53 }')
 say "sh scripts/build.sh proves and builds bin/wbcache, in $(how_long wbcache "$slower")"
 status=$(sed -n 's/^case=.* status=\([0-9]*\) .*/\1/p' "$work/compile.log" | sort -n | tail -n 1)
 exit "${status:-1}"

@@ -374,10 +374,10 @@ how_long() { # program, by how much
 }
 
 # How many jobs are left and how long they are likely to take: all of them by the lanes, or the longest chain, whichever is more. The pace is that of
-# the jobs that have ended, apart for those that might use several processors, which go twice as fast until one of them has ended.
+# the jobs that have ended, apart for those that might use several processors, which go faster by a third until one of them has ended.
 what_is_left() {
-  awk -v lanes="$at_once" -v machine="$machine" -v now="$(date +%s)" -v most="$(for_the_chains | cut -d ' ' -f 1)" '
-    function pace(many) { return known[many] > 0 ? took[many] / known[many] : many && !known[0] ? machine / 2 : many ? took[0] / known[0] / 2 : machine }
+  awk -v lanes="$at_once" -v machine="$machine" -v gain=1.3 -v now="$(date +%s)" -v most="$(for_the_chains | cut -d ' ' -f 1)" '
+    function pace(many) { return known[many] > 0 ? took[many] / known[many] : many && !known[0] ? machine / gain : many ? took[0] / known[0] / gain : machine }
     FILENAME ~ /ended$/ { ended[$1] = $2; many[$1] = $3 > 1; next }
     FILENAME ~ /running$/ { since[$1] = now - $3; many[$1] = $4 > 1; next }
     # (what took next to nothing was kept by rt)
