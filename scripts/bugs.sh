@@ -31,6 +31,10 @@ crates=$(for name in "$@"; do echo "$name" && above "$name"; done)
 libraries=$(for name in $(with_those_below $crates); do
   test -e "crates/$name/src/main.rt" || echo "$name"
 done)
+# Where a wrong definition is refused by crates above, these are proved anew for each, which takes less over what rt keeps of them by function.
+for name in "$@"; do
+  for crate in $(above "$name"); do mkdir -p "crates/$name/out/incremental" "crates/$crate/out/incremental"; done
+done
 # shellcheck disable=SC2086 # names are words
 prove $libraries
 

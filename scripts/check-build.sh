@@ -27,6 +27,11 @@ for name in wbcache wb_bench; do
   mkdir -p "$tree/crates/$name/src"
   echo 'fn main() {}' >"$tree/crates/$name/src/main.rt"
 done
+# The kit's module, by which libraries are proved that leave no proofs, has no stand-in: rt is told of it.
+cat >"$tree/scripts/prove_library.py" <<'STAND_IN'
+import subprocess, sys
+sys.exit(subprocess.call(["rt", "lib", "without_proofs", *sys.argv[1:]]))
+STAND_IN
 cat >"$work/bin/rt" <<'STAND_IN'
 #!/bin/sh
 # Stands in for rt: refuses a crate with a source that has the word BROKEN, and 'builds' a program that prints its name. It notes when it
@@ -101,6 +106,14 @@ echo 'fn left() { 1 }' >"$tree/crates/left/src/lib.rt"
 touch -d '2001-01-01' "$tree/crates/left/src/lib.rt"
 said=$(build)
 check 'what is older than its sources is built again, and what stands on it' "$(begun)" 'left wbcache'
+check 'a library is proved without its proofs for what stands on it' "$(grep -c 'left lib without_proofs --jobs' "$CALLS")" 1
+rm -rf "$tree/crates/low/out" "$tree/bin"
+said=$(build)
+check 'what stands on a library that is gone is proved anew, too' "$(begun | tr ' ' '\n' | sort | tr '\n' ' ')" 'left long low right wbcache '
+echo 'fn left() { 2 }' >"$tree/crates/left/src/lib.rt"
+mkdir "$tree/crates/left/out/incremental"
+said=$(build)
+check 'a library of which rt keeps what it proved by function is proved over that' "$(grep -c 'left lib --jobs' "$CALLS")" 1
 echo 'fn main() { BROKEN' >"$tree/crates/wbcache/src/main.rt"
 said=$(build)
 has 'a build that fails ends with 1' "$said" 'status 1'

@@ -160,11 +160,13 @@ in_room='
   exit "$status"'
 
 # Proves crates with all that they stand on, where that is not done yet; a program is built, too. The words that a program is called
-# with are those of `trial_of`.
+# with are those of `trial_of`. A library that was made without its proofs fits those alone that it was proved over, so what stands on one that is
+# proved anew is proved anew.
 prove() { # crates
   : >"$work/plan"
   for name in $(with_those_below "$@"); do
-    is_kept "$name" || echo "$name" >>"$work/plan"
+    if is_kept "$name" && ! lines_of "$name" | tr ' ' '\n' | grep -qxFf "$work/plan"; then continue; fi
+    echo "$name" >>"$work/plan"
   done
   # shellcheck disable=SC2046 # names are words
   test ! -s "$work/plan" || planned $(cat "$work/plan") >"$work/plan.crates"
@@ -175,13 +177,16 @@ begin_proof() { # crate, how many jobs it may take, how much it gives way
   make_room "$1"
   if test -e "crates/$1/src/main.rt"; then
     # shellcheck disable=SC2046 # the words of the trial are apart
-    set -- "$1" "$2" "$3" run --jobs "$2" -- $(trial_of "$1")
+    set -- "$1" "$2" "$3" rt run --jobs "$2" -- $(trial_of "$1")
+  elif test -d "crates/$1/out/incremental"; then
+    # (rt has proved it here, and keeps that by function)
+    set -- "$1" "$2" "$3" rt lib --jobs "$2"
   else
-    set -- "$1" "$2" "$3" lib --jobs "$2"
+    set -- "$1" "$2" "$3" python3 "$top/scripts/prove_library.py" --jobs "$2"
   fi
   crate=$1 may_use=$2 gives_way=$3
   shift 3
-  start "$crate" "$may_use" "$gives_way" flock "$top/crates/$crate" sh -c "$in_room" in_room "$top/crates/$crate" "$work/$crate/crates/$crate" rt "$@"
+  start "$crate" "$may_use" "$gives_way" flock "$top/crates/$crate" sh -c "$in_room" in_room "$top/crates/$crate" "$work/$crate/crates/$crate" "$@"
 }
 end_proof() { # crate, status
   rm -rf "${work:?}/$1"
