@@ -306,8 +306,8 @@ one_job() { # job, command
 # Runs the jobs of a plan, a line each: its name, the seconds that it is known to take, and the jobs that it waits for. Those that the
 # longest chain of others waits for begin first. BEGIN is called with a name, with how many processors the job may use, and with how much it
 # is to give way, and calls `start`; END with a name and the job's status. The job with the longest chain may use all processors, and the
-# others give way to it: so the chain goes on as fast as it can, and they fill what it leaves. The one behind it may use half of them,
-# since it is the longest once the first has gone faster than was known.
+# others give way to it: so the chain goes on as fast as it can, and they fill what it leaves. The two behind it may use half of them, since each is the
+# longest once those before it have gone faster than was known, or as many as the others leave.
 side_by_side() { # plan, BEGIN, END
   in_order <"$1" >"$work/order"
   : >"$work/ended"
@@ -342,13 +342,14 @@ next_job() {
   set -- $(for_the_chains)
   awk -v lanes="$at_once" -v most="$1" -v half="$2" '
     FILENAME ~ /ended$/ { ended[$1] = 1; next }
-    FILENAME ~ /running$/ { running[$1] = 1; taken++; next }
+    FILENAME ~ /running$/ { running[$1] = 1; taken++; used += $4; next }
     $1 in ended { next }
     { rank++ }
     $1 in running || taken >= lanes { next }
     {
       for (i = 4; i <= NF; i++) if (!($i in ended)) next
-      print $1, rank == 1 ? most : rank == 2 ? half : 1, rank == 1 ? 0 : rank == 2 ? 5 : 10
+      if (most - used > half) half = most - used
+      print $1, rank == 1 ? most : rank <= 3 ? half : 1, rank == 1 ? 0 : rank <= 3 ? 5 : 10
       exit
     }' "$work/ended" "$work/running" "$work/order"
 }
