@@ -166,6 +166,7 @@ check 'the third follows' "$? $(begun) $(most_at_once)" '0 low long left right w
 # A crate fails while another runs: that one is ended, and nothing of it is kept.
 echo 'fn right() { BROKEN' >"$tree/crates/right/src/lib.rt"
 background 3 long right
+for _ in $(seq 300); do test ! -e "$tree/crates/left/out/rlib/sources" || break; sleep 0.1; done
 release right
 wait "$builder"
 check 'a crate that fails ends the build' "$? $(grep -c 'right is not proved and built' "$work/said") $(ended)" '1 1 0'
