@@ -354,14 +354,14 @@ next_job() {
     }' "$work/ended" "$work/running" "$work/order"
 }
 
-# How many processors the job with the longest chain may use, and the one behind it: all, and half of them, where there is memory for as
+# How many processors the job with the longest chain may use, and each of the two behind it: all, and half of them, where there is memory for as
 # many of their proofs beside the other jobs.
 for_the_chains() {
   room=$((1 + ($(free_memory) - 2500 * at_once) / 1500))
   most=$room
   test "$most" -le "$(processors)" || most=$(processors)
   test "$most" -ge 1 || most=1
-  half=$((1 + room - most))
+  half=$((1 + (room - most) / 2))
   test "$half" -le $((most / 2)) || half=$((most / 2))
   test "$half" -ge 1 || half=1
   echo "$most $half"
