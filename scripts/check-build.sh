@@ -27,10 +27,11 @@ for name in wbcache wb_bench; do
   mkdir -p "$tree/crates/$name/src"
   echo 'fn main() {}' >"$tree/crates/$name/src/main.rt"
 done
-# The kit's module, by which libraries are proved that leave no proofs, has no stand-in: rt is told of it.
-cat >"$tree/scripts/prove_library.py" <<'STAND_IN'
+# The kit's module, by which crates are proved, has no stand-in: rt is told of it.
+cat >"$tree/scripts/prove_crate.py" <<'STAND_IN'
 import subprocess, sys
-sys.exit(subprocess.call(["rt", "lib", "without_proofs", *sys.argv[1:]]))
+words = {"library": ["lib", "without_proofs"], "program": ["run"]}
+sys.exit(subprocess.call(["rt", *words[sys.argv[1]], *sys.argv[2:]]))
 STAND_IN
 cat >"$work/bin/rt" <<'STAND_IN'
 #!/bin/sh

@@ -67,7 +67,7 @@ def listed(help_text):
 
 def words_read():
     """The first words of lines that the reader of scripts knows, by its source."""
-    source = open(os.path.join(TOP, "crates/wb_script/src/line.rt"), encoding="utf-8").read()
+    source = open(os.path.join(TOP, "crates/wb_dialogue/src/line.rt"), encoding="utf-8").read()
     return set(re.findall(r'^ *"(\w+)" =>', source, re.M)) | set(re.findall(r'name == "(\w+)"', source))
 
 

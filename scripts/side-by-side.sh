@@ -177,12 +177,12 @@ begin_proof() { # crate, how many jobs it may take, how much it gives way
   make_room "$1"
   if test -e "crates/$1/src/main.rt"; then
     # shellcheck disable=SC2046 # the words of the trial are apart
-    set -- "$1" "$2" "$3" rt run --jobs "$2" -- $(trial_of "$1")
+    set -- "$1" "$2" "$3" python3 "$top/scripts/prove_crate.py" program --jobs "$2" -- $(trial_of "$1")
   elif test -d "crates/$1/out/incremental"; then
     # (rt has proved it here, and keeps that by function)
     set -- "$1" "$2" "$3" rt lib --jobs "$2"
   else
-    set -- "$1" "$2" "$3" python3 "$top/scripts/prove_library.py" --jobs "$2"
+    set -- "$1" "$2" "$3" python3 "$top/scripts/prove_crate.py" library --jobs "$2"
   fi
   crate=$1 may_use=$2 gives_way=$3
   shift 3
@@ -305,9 +305,10 @@ one_job() { # job, command
 
 # Runs the jobs of a plan, a line each: its name, the seconds that it is known to take, and the jobs that it waits for. Those that the
 # longest chain of others waits for begin first. BEGIN is called with a name, with how many processors the job may use, and with how much it
-# is to give way, and calls `start`; END with a name and the job's status. The job with the longest chain may use all processors, and the
-# others give way to it: so the chain goes on as fast as it can, and they fill what it leaves. The two behind it may use half of them, since each is the
-# longest once those before it have gone faster than was known, or as many as the others leave.
+# is to give way, and calls `start`; END with a name and the job's status. Where the chain is what is waited for, its job may use all processors, and the
+# others give way to it: so it goes on as fast as it can, and they fill what it leaves. The two behind it may use half of them then, since each is the
+# longest once those before it have gone faster than was known, or as many as the others leave. Where there is more to do than processors can do in
+# the time of the chain, each job takes one.
 side_by_side() { # plan, BEGIN, END
   in_order <"$1" >"$work/order"
   : >"$work/ended"
@@ -336,21 +337,35 @@ side_by_side() { # plan, BEGIN, END
   test "$(wc -l <"$work/ended")" = "$(wc -l <"$work/order")" || fail 'jobs wait for one another in a circle'
 }
 
-# The job to begin now, with the processors that it may use and how much it gives way, or nothing.
+# The job to begin now, with the processors that it may use and how much it gives way, or nothing. A check of several jobs takes a quarter to a third more
+# processor time, and a short one ends no sooner for it. So a job may use several where its chain takes longer than all the rest would take on all
+# processors, or where nobody else has a use for them.
 next_job() {
   # shellcheck disable=SC2046 # two numbers
   set -- $(for_the_chains)
-  awk -v lanes="$at_once" -v most="$1" -v half="$2" '
+  awk -v lanes="$at_once" -v most="$1" -v half="$2" -v short=60 '
     FILENAME ~ /ended$/ { ended[$1] = 1; next }
     FILENAME ~ /running$/ { running[$1] = 1; taken++; used += $4; next }
     $1 in ended { next }
-    { rank++ }
-    $1 in running || taken >= lanes { next }
     {
+      count++
+      name[count] = $1; chain[count] = $2; alone[count] = $3
+      left += $3
+      if ($1 in running) next
       for (i = 4; i <= NF; i++) if (!($i in ended)) next
-      if (most - used > half) half = most - used
-      print $1, rank == 1 ? most : rank <= 3 ? half : 1, rank == 1 ? 0 : rank <= 3 ? 5 : 10
-      exit
+      ready[count] = 1
+      wanted++
+    }
+    END {
+      if (taken >= lanes) exit
+      for (rank = 1; rank <= count && !(rank in ready); rank++) { }
+      if (rank > count) exit
+      free = most - taken - (wanted - 1)
+      is_waited_for = chain[rank] > left / lanes && alone[rank] >= short
+      if (is_waited_for && rank <= 3) free = rank == 1 ? most : most - used > half ? most - used : half
+      if (free < 1) free = 1
+      gives_way = rank == 1 ? 0 : rank <= 3 ? 5 : 10
+      print name[rank], free, gives_way
     }' "$work/ended" "$work/running" "$work/order"
 }
 

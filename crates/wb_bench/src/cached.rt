@@ -6,7 +6,8 @@ use std::alloc::Global;
 use std::sync::Wait;
 use std::thread::Threads;
 use std::time::{Clock, Instant};
-use wb_opened::{Served, Service, Unserved, serve_each};
+use wb_opened::{Served, Service, Unserved};
+use wb_services::serve_each;
 use wb_table::Table;
 use wb_types::{Content, Refusal, SECTOR_BYTES, Sector};
 

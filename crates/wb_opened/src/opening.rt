@@ -18,7 +18,7 @@ use wb_target::Target;
 use wb_types::{Key, Refusal};
 
 /// Reads a table and opens its files, locked for as long as they are held.
-pub(crate) fn open_devices<'a, 'w, R: Files<File = File>, P: Patience, N: Watch>(
+pub fn open_devices<'a, 'w, R: Files<File = File>, P: Patience, N: Watch>(
     rt: &R,
     text: &'a str,
     patience: &mut P,
@@ -49,7 +49,7 @@ fn devices_of<D>(disks: Disks<D>) -> Devices<D>
 }
 
 /// The files of a table that was read, locked for as long as they are held.
-pub(crate) fn open_named<'a, 'w, R: Files<File = File>, N: Watch>(
+pub fn open_named<'a, 'w, R: Files<File = File>, N: Watch>(
     rt: &R,
     table: &Table<'a>,
     watch: &'w N,
@@ -61,7 +61,7 @@ pub(crate) fn open_named<'a, 'w, R: Files<File = File>, N: Watch>(
 }
 
 /// The files of a table for another client, without a lock.
-pub(crate) fn open_unlocked<'a, 'w, R: Files<File = File>, N: Watch>(
+pub fn open_unlocked<'a, 'w, R: Files<File = File>, N: Watch>(
     rt: &R,
     table: &Table<'a>,
     watch: &'w N,
@@ -73,7 +73,7 @@ pub(crate) fn open_unlocked<'a, 'w, R: Files<File = File>, N: Watch>(
 }
 
 /// Opens the cache of a table on these devices, with a policy of the name that it has.
-pub(crate) fn open_target<'a, P: Policy, D: Disk + Drop>(
+pub fn open_target<'a, P: Policy, D: Disk + Drop>(
     alloc: Global,
     devices: Devices<D>,
     table: &Table<'a>,

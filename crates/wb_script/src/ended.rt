@@ -1,11 +1,11 @@
 //! How a run of the program ended.
 
-use crate::output::{StreamFailed, exit_code, refuse};
 use crate::reason::Reason;
-use crate::status::Status;
 use std::alloc::Global;
 use std::io::Write;
+use wb_dialogue::{Status, StreamFailed, exit_code, refuse};
 use wb_opened::Unserved;
+use wb_play::Played;
 
 /// The exit status, and why it is not 0 as far as that is known.
 #[derive(Drop)]
@@ -32,4 +32,17 @@ impl<'a> Ended<'a> {
 pub fn refused<'a, W: Write>(alloc: Global, unserved: Unserved<'a>, writer: &mut W) -> Ended<'a> {
     let printed = refuse(alloc, unserved.refusal(), writer);
     Ended::new(printed, Some(Reason::Unserved(unserved)))
+}
+
+/// The end of a run in which a script was played so, with the refused lines as its reason; where there are none, the writes that were not flushed.
+pub fn end_of<'a>(played: Played) -> Ended<'a> {
+    let Played { status, tally } = played;
+    let reason = if tally.first.is_some() {
+        Some(Reason::Lines(tally))
+    } else if tally.unflushed > 0 {
+        Some(Reason::Unflushed(tally.unflushed))
+    } else {
+        None
+    };
+    Ended::new(status, reason)
 }

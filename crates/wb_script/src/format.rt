@@ -2,13 +2,12 @@
 
 use crate::ended::{Ended, refused};
 use crate::given_up::{Consent, find_given_up};
-use crate::output::{StreamFailed, print, refuse, see_out};
-use crate::status::Status;
 use std::alloc::Global;
 use std::fmt::Write as _;
 use std::fs::File;
 use std::io::Write;
 use std::rt::Files;
+use wb_dialogue::{Status, StreamFailed, print, refuse, see_out};
 use wb_disk::Disk;
 use wb_files::{Hurry, Watch, open_table};
 use wb_opened::Unserved;

@@ -1,9 +1,8 @@
 //! Why something was refused, for who reads standard error.
 
-use crate::output::StreamFailed;
-use crate::tally::Tally;
 use std::fmt;
 use std::fmt::{Display, Formatter};
+use wb_dialogue::{StreamFailed, Tally};
 use wb_opened::Unserved;
 
 /// Why a run or a formatting did not end well, or what else is to be told at its end.

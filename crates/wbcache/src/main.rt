@@ -12,9 +12,10 @@ use std::process::ExitCode;
 use std::sync::Wait;
 use std::thread::Threads;
 use wb_arguments::{NoTask, STREAM_FAILED, command_words};
+use wb_dialogue::Progress;
 use wb_files::{Alarm, Awaited, hold_streams};
 use wb_opened::Unserved;
-use wb_script::{Consent, Ended, GivenUp, Progress, format_files, refused, run};
+use wb_script::{Consent, Ended, GivenUp, format_files, refused, run};
 use wb_types::Refusal;
 
 /// So many bytes of answers are held at most while further lines of a script are at hand: 64 KiB.

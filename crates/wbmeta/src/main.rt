@@ -18,7 +18,8 @@ use std::thread::Threads;
 use wb_arguments::{NoTask, STREAM_FAILED, command_words};
 use wb_disk::Disk;
 use wb_files::{Alarm, Hurry, hold_streams, open_table};
-use wb_opened::{Unserved, serve_all};
+use wb_opened::Unserved;
+use wb_services::serve_all;
 use wb_table::read_table;
 use wb_types::{Geometry, Mode, Refusal};
 

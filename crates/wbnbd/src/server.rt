@@ -18,7 +18,7 @@ use std::thread::Threads;
 use std::time::Clock;
 use wb_files::Patient;
 use wb_nbd::{Broken, Connection};
-use wb_opened::serve_all;
+use wb_services::serve_all;
 use wb_types::Refusal;
 
 /// How many requests are served at once, at most.

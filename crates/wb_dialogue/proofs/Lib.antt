@@ -1,0 +1,5 @@
+pub mod Pieces
+pub mod Showing
+pub mod Laid
+pub mod FirstLine
+pub mod Three

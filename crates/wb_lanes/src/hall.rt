@@ -1,0 +1,247 @@
+//! Clients of a target that begin as they are asked for, each with devices of its own and on a thread of its own.
+
+ghost use Rattle.std.specs.Thread.{IsSend, IsSync};
+
+use std::alloc::{AllocError, Global};
+use std::fs::File;
+use std::rt::Files;
+use std::sync::{Mutex, Wait};
+use std::thread;
+use std::thread::{Scope, Threads};
+use wb_devices::Devices;
+use wb_disk::Disk;
+use wb_files::{Watch, WatchedDisk};
+use wb_opened::{LANES, Lanes, Next, Play, open_unlocked};
+use wb_policy::Policy;
+use wb_table::Table;
+use wb_target::{Client, Target};
+use wb_types::Refusal;
+
+/// The files of a table, opened once more for each client.
+#[derive(Drop)]
+pub(crate) struct Again<'f, 'a, 'w, R, N> {
+    pub rt: &'f R,
+    pub table: &'f Table<'a>,
+    pub watch: &'w N,
+}
+
+impl<'f, 'a, 'w, R: Files<File = File>, N: Watch> Again<'f, 'a, 'w, R, N> {
+    /// Their devices, or why they cannot be had.
+    fn open(&self) -> Result<Devices<WatchedDisk<'w, N>>, Refusal> {
+        match open_unlocked(self.rt, self.table, self.watch) {
+            Ok(devices) => Ok(devices),
+            Err(unserved) => Err(unserved.refusal()),
+        }
+    }
+}
+
+/// Where the client of a lane is, once it has begun: lent to its thread.
+type Slot<'t, D, P> = Mutex<Option<Client<'t, D, P>>>;
+
+/// What all clients of a target play by: the first, and those of the lanes.
+#[derive(Drop)]
+pub(crate) struct Hall<'t, 'f, 'a, 'w, T, P: Policy, R, N, L> {
+    pub waits: &'t T,
+    pub target: &'t Target<P>,
+    pub again: &'t Again<'f, 'a, 'w, R, N>,
+    pub lanes: &'t L,
+}
+
+impl<
+    't,
+    'f,
+    'a,
+    'w,
+    T: Threads + Wait + Sync,
+    P: Policy + Send,
+    R: Files<File = File>,
+    N: Watch + Sync,
+    L: Lanes + Sync,
+> Hall<'t, 'f, 'a, 'w, T, P, R, N, L> {
+    /// Has a client play, and others in lanes beside it; where a suspend is to come, all are taken back and the target is suspended.
+    pub(crate) fn play<V: Play>(
+        &self,
+        alloc: Global,
+        devices: Devices<WatchedDisk<'w, N>>,
+        play: &mut V,
+    ) -> Result<(), Refusal> {
+        let (waits, target) = (self.waits, self.target);
+        match target.client(waits, devices) {
+            Ok(mut client) => {
+                let slots = slots_of(alloc).map_err(|_| Refusal::Memory)?;
+                if self.play_in_scope(&mut client, slots.as_slice(), play) {
+                    let devices = target.retire(waits, client);
+                    retire_all(waits, target, slots);
+                    let (devices, suspended) = target.suspend(waits, devices);
+                    play.go_on(waits, suspended, target);
+                    drop(devices);
+                } else {
+                    let_go(slots);
+                }
+                Ok(())
+            }
+            Err((_, refusal)) => Err(refusal),
+        }
+    }
+
+    /// Plays; all threads of lanes have ended then. Whether a suspend is to come.
+    fn play_in_scope<V: Play>(
+        &self,
+        client: &mut Client<'t, WatchedDisk<'w, N>, P>,
+        slots: &[Slot<'t, WatchedDisk<'w, N>, P>],
+        play: &mut V,
+    ) -> bool {
+        thread::scope(
+            thread::scope_env(),
+            self.waits,
+            |scope| -> bool
+                requires { IsSend P.row × IsSync T.row × IsSync N.row × IsSync L.row }
+            {
+                let is_suspend = self.play_beside(scope, client, slots, play);
+                self.lanes.close(self.waits);
+                is_suspend
+            },
+        )
+    }
+
+    /// Plays, and begins lanes as they are asked for. Whether a suspend is to come.
+    fn play_beside<'s, E, V: Play>(
+        &self,
+        scope: &Scope<'s, E>,
+        client: &mut Client<'t, WatchedDisk<'w, N>, P>,
+        slots: &'s [Slot<'t, WatchedDisk<'w, N>, P>],
+        play: &mut V,
+    ) -> bool
+    where
+        't: 's,
+    {
+        let waits = self.waits;
+        let mut has_thread = [true; LANES];
+        for _ in waits.forever() {
+            match play.serve(waits, client) {
+                Next::Begin(lane) => match self.begin(scope, slots, lane) {
+                    Ok(began) => {
+                        if let Some(has) = has_thread.get_mut(lane) {
+                            *has = began;
+                        }
+                    }
+                    Err(refusal) => play.refused(waits, lane, refusal),
+                },
+                Next::CatchUp => catch_up(waits, &has_thread, slots, self.lanes),
+                Next::Suspend => return true,
+                Next::End => return false,
+            }
+        }
+        false
+    }
+
+    /// Makes the client of a lane, with devices of its own, and has it serve on a thread of its own: whether one could be made.
+    fn begin<'s, E>(
+        &self,
+        scope: &Scope<'s, E>,
+        slots: &'s [Slot<'t, WatchedDisk<'w, N>, P>],
+        lane: usize,
+    ) -> Result<bool, Refusal>
+    where
+        't: 's,
+    {
+        let Some(slot) = slots.get(lane) else {
+            return Err(Refusal::Busy);
+        };
+        let (waits, target) = (self.waits, self.target);
+        let devices = self.again.open()?;
+        match target.client(waits, devices) {
+            Ok(client) => {
+                *slot.lock(waits) = Some(client);
+                Ok(start(scope, waits, slot, self.lanes, lane))
+            }
+            Err((_, refusal)) => Err(refusal),
+        }
+    }
+}
+
+/// A slot for each lane, in which there is no client yet.
+fn slots_of<'t, D: Disk + Drop, P: Policy>(
+    alloc: Global,
+) -> Result<Vec<Slot<'t, D, P>>, AllocError> {
+    let mut slots = Vec::new(alloc);
+    for _ in 0..LANES {
+        slots.reserve(1)?;
+        slots.push_reserved(Mutex::new(None));
+    }
+    Ok(slots)
+}
+
+/// Takes the clients of all lanes back, in order.
+fn retire_all<'t, T: Wait, D: Disk + Drop, P: Policy>(
+    waits: &T,
+    target: &'t Target<P>,
+    slots: Vec<Slot<'t, D, P>>,
+) {
+    for slot in slots {
+        if let Some(client) = slot.into_inner() {
+            drop(target.retire(waits, client));
+        }
+    }
+}
+
+/// Lets the clients of all lanes go, whose accesses are not settled then.
+fn let_go<'t, D: Disk + Drop, P: Policy>(slots: Vec<Slot<'t, D, P>>) {
+    drop(slots);
+}
+
+/// Starts the thread of a lane: whether it could be made.
+fn start<
+    's,
+    't,
+    E,
+    T: Threads + Wait + Sync,
+    D: Disk + Drop + Send,
+    P: Policy + Send,
+    L: Lanes + Sync,
+>(scope: &Scope<'s, E>, waits: &'s T, slot: &'s Slot<'t, D, P>, lanes: &'s L, lane: usize) -> bool
+where
+    't: 's,
+{
+    scope
+        .spawn(move || take_turn(waits, slot, lanes, lane, Turn::Serve))
+        .is_ok()
+}
+
+/// What the client of a lane does: all that comes on its thread, or without one what waits.
+#[derive(Clone, Copy)]
+enum Turn {
+    Serve,
+    CatchUp,
+}
+
+/// Has the client of a lane do that, if it has begun.
+fn take_turn<'t, T: Wait, D: Disk + Drop, P: Policy, L: Lanes>(
+    waits: &T,
+    slot: &Slot<'t, D, P>,
+    lanes: &L,
+    lane: usize,
+    turn: Turn,
+) {
+    let mut held = slot.lock(waits);
+    if let Some(client) = held.as_mut() {
+        match turn {
+            Turn::Serve => lanes.serve(waits, lane, client),
+            Turn::CatchUp => lanes.catch_up(waits, lane, client),
+        }
+    }
+}
+
+/// Does what waits for the lanes that have no thread, in order.
+fn catch_up<'t, T: Wait, D: Disk + Drop, P: Policy, L: Lanes>(
+    waits: &T,
+    has_thread: &[bool; LANES],
+    slots: &[Slot<'t, D, P>],
+    lanes: &L,
+) {
+    for (lane, slot) in slots.iter().enumerate() {
+        if has_thread.get(lane) == Some(&false) {
+            take_turn(waits, slot, lanes, lane, Turn::CatchUp);
+        }
+    }
+}

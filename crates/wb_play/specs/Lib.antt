@@ -1,0 +1,4 @@
+pub mod Request
+pub mod Answered
+pub mod Played
+pub mod Stopped
