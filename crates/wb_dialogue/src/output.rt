@@ -1,8 +1,9 @@
 //! Answers, and what else is printed: the writer holds them until it is told to see them out.
 
+ghost use Rattle.std.specs.Bool.{OnTrue};
 ghost use Rattle.std.specs.Prelude.{◌≡◌, IfOk, IfErr, OnErr, OnOk, string_bytes};
 ghost use Rattle.std.specs.Io.KnownBytes.{Appends};
-ghost use Rattle.wb_dialogue.specs.Exit.{code_of};
+ghost use Rattle.wb_dialogue.specs.Exit.{code_of, status_of};
 ghost use Rattle.wb_dialogue.specs.Leading.{want_of_memory};
 
 use crate::status::Status;
@@ -43,7 +44,9 @@ pub fn refuse<W: Write>(
     alloc: Global,
     refusal: Refusal,
     writer: &mut W,
-) -> Result<Status, StreamFailed> {
+) -> Result<Status, StreamFailed>
+    ensures writer { IfErr result (λ failed. failed ≡ StreamFailed.Writer) }
+{
     let status = print_refusal(refusal, &mut String::new(alloc), writer)?;
     see_out(writer)?;
     Ok(status)
@@ -52,6 +55,8 @@ pub fn refuse<W: Write>(
 /// Prints an answer.
 pub fn print<W: Write>(text: &String, writer: &mut W) -> Result<Status, StreamFailed>
     ensures printed { OnOk result (Appends (W.contents writer.old) (W.contents writer.new) (string_bytes text.now)) }
+    ensures status { IfOk result (λ status. status ≡ Status.Done) }
+    ensures writer { IfErr result (λ failed. failed ≡ StreamFailed.Writer) }
 {
     if !text.is_empty() {
         send(text.as_bytes(), writer)?;
@@ -64,7 +69,9 @@ pub fn print_refusal<W: Write>(
     refusal: Refusal,
     text: &mut String,
     writer: &mut W,
-) -> Result<Status, StreamFailed> {
+) -> Result<Status, StreamFailed>
+    ensures writer { IfErr result (λ failed. failed ≡ StreamFailed.Writer) }
+{
     let (status, is_spelled) = spell(refusal, text);
     if is_spelled {
         send(text.as_bytes(), writer)?;
@@ -75,7 +82,9 @@ pub fn print_refusal<W: Write>(
 }
 
 /// Spells a refusal over what a text had: what it makes of a run, and whether there was memory for it.
-pub fn spell(refusal: Refusal, text: &mut String) -> (Status, bool) {
+pub fn spell(refusal: Refusal, text: &mut String) -> (Status, bool)
+    ensures status { OnTrue result.1 (result.0 ≡ status_of refusal) }
+{
     text.clear();
     if writeln!(text, "refused {refusal}").is_ok() {
         (Status::of(refusal), true)

@@ -1,5 +1,8 @@
 //! The refused lines of a script.
 
+ghost use Rattle.std.specs.Prelude.{◌≡◌, None, IfSome, IfNone};
+ghost use Rattle.wb_dialogue.specs.Leading.{capped_sum};
+
 use crate::line::Call;
 use std::fmt;
 use std::fmt::{Display, Formatter};
@@ -23,7 +26,10 @@ pub struct Tally {
 }
 
 impl Tally {
-    pub fn new() -> Tally {
+    /// Of no line yet.
+    pub fn new() -> Tally
+        ensures nothing { (result.count ≡ 0) × (result.first ≡ None) × (result.unflushed ≡ 0) }
+    {
         Tally {
             count: 0,
             first: None,
@@ -32,7 +38,9 @@ impl Tally {
     }
 
     /// What a client was asked was done: a write is not durable before a flush.
-    pub fn done(&mut self, asked: Call) {
+    pub fn done(&mut self, asked: Call)
+        ensures lines { (self.new.count ≡ self.old.count) × (self.new.first ≡ self.old.first) }
+    {
         match asked {
             Call::Write { .. } | Call::TryWrite { .. } => {
                 self.unflushed = self.unflushed.saturating_add(1);
@@ -43,17 +51,26 @@ impl Tally {
     }
 
     /// All that was answered is durable.
-    pub fn flushed(&mut self) {
+    pub fn flushed(&mut self)
+        ensures durable { self.new.unflushed ≡ 0 }
+        ensures lines { (self.new.count ≡ self.old.count) × (self.new.first ≡ self.old.first) }
+    {
         self.unflushed = 0;
     }
 
     /// Counts a line that was refused.
-    pub fn note(&mut self, number: u64, said: Said) {
+    pub fn note(&mut self, number: u64, said: Said)
+        ensures count { self.new.count ≡ capped_sum self.old.count 1 }
+        ensures unflushed { self.new.unflushed ≡ self.old.unflushed }
+    {
         self.note_all(number, said, 1);
     }
 
     /// Counts so many lines that were refused, of which this is the first.
-    pub fn note_all(&mut self, number: u64, said: Said, count: u64) {
+    pub fn note_all(&mut self, number: u64, said: Said, count: u64)
+        ensures count { self.new.count ≡ capped_sum self.old.count count }
+        ensures unflushed { self.new.unflushed ≡ self.old.unflushed }
+    {
         self.count = self.count.saturating_add(count);
         match self.first {
             Some((first, _)) if first <= number => {}
@@ -62,7 +79,11 @@ impl Tally {
     }
 
     /// Counts what another one has counted.
-    pub fn join(&mut self, other: &Tally) {
+    pub fn join(&mut self, other: &Tally)
+        ensures some { IfSome other.now.first (λ first. self.new.count ≡ capped_sum self.old.count other.now.count) }
+        ensures none { IfNone other.now.first (self.new.count ≡ self.old.count) }
+        ensures unflushed { self.new.unflushed ≡ capped_sum self.old.unflushed other.now.unflushed }
+    {
         if let Some((number, said)) = other.first {
             self.note_all(number, said, other.count);
         }
