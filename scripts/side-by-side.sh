@@ -306,7 +306,7 @@ one_job() { # job, command
 # Runs the jobs of a plan, a line each: its name, the seconds that it is known to take, and the jobs that it waits for. Those that the
 # longest chain of others waits for begin first. BEGIN is called with a name, with how many processors the job may use, and with how much it
 # is to give way, and calls `start`; END with a name and the job's status. Where the chain is what is waited for, its job may use all processors, and the
-# others give way to it: so it goes on as fast as it can, and they fill what it leaves. The two behind it may use half of them then, since each is the
+# others give way to it: so it goes on as fast as it can, and they fill what it leaves. The two behind it that run or can begin may use half of them then, since each is the
 # longest once those before it have gone faster than was known, or as many as the others leave. Where there is more to do than processors can do in
 # the time of the chain, each job takes one.
 side_by_side() { # plan, BEGIN, END
@@ -348,24 +348,20 @@ next_job() {
     FILENAME ~ /running$/ { running[$1] = 1; taken++; used += $4; next }
     $1 in ended { next }
     {
-      count++
-      name[count] = $1; chain[count] = $2; alone[count] = $3
       left += $3
+      if (!($1 in running)) for (i = 4; i <= NF; i++) if (!($i in ended)) next
+      rank++
       if ($1 in running) next
-      for (i = 4; i <= NF; i++) if (!($i in ended)) next
-      ready[count] = 1
       wanted++
+      if (!first) { first = rank; name = $1; chain = $2; alone = $3 }
     }
     END {
-      if (taken >= lanes) exit
-      for (rank = 1; rank <= count && !(rank in ready); rank++) { }
-      if (rank > count) exit
+      if (taken >= lanes || !first) exit
       free = most - taken - (wanted - 1)
-      is_waited_for = chain[rank] > left / lanes && alone[rank] >= short
-      if (is_waited_for && rank <= 3) free = rank == 1 ? most : most - used > half ? most - used : half
+      if (first <= 3 && chain > left / lanes && alone >= short) free = first == 1 ? most : most - used > half ? most - used : half
       if (free < 1) free = 1
-      gives_way = rank == 1 ? 0 : rank <= 3 ? 5 : 10
-      print name[rank], free, gives_way
+      gives_way = first == 1 ? 0 : first <= 3 ? 5 : 10
+      print name, free, gives_way
     }' "$work/ended" "$work/running" "$work/order"
 }
 
