@@ -1,6 +1,5 @@
 //! Answers, and what else is printed: the writer holds them until it is told to see them out.
 
-ghost use Rattle.std.specs.Bool.{OnTrue};
 ghost use Rattle.std.specs.Prelude.{◌≡◌, IfOk, IfErr, OnErr, OnOk, string_bytes};
 ghost use Rattle.std.specs.Io.KnownBytes.{Appends};
 ghost use Rattle.wb_dialogue.specs.Exit.{code_of, status_of};
@@ -45,6 +44,7 @@ pub fn refuse<W: Write>(
     refusal: Refusal,
     writer: &mut W,
 ) -> Result<Status, StreamFailed>
+    ensures status { IfOk result (λ status. status ≡ status_of refusal) }
     ensures writer { IfErr result (λ failed. failed ≡ StreamFailed.Writer) }
 {
     let status = print_refusal(refusal, &mut String::new(alloc), writer)?;
@@ -70,6 +70,7 @@ pub fn print_refusal<W: Write>(
     text: &mut String,
     writer: &mut W,
 ) -> Result<Status, StreamFailed>
+    ensures status { IfOk result (λ status. status ≡ status_of refusal) }
     ensures writer { IfErr result (λ failed. failed ≡ StreamFailed.Writer) }
 {
     let (status, is_spelled) = spell(refusal, text);
@@ -83,14 +84,11 @@ pub fn print_refusal<W: Write>(
 
 /// Spells a refusal over what a text had: what it makes of a run, and whether there was memory for it.
 pub fn spell(refusal: Refusal, text: &mut String) -> (Status, bool)
-    ensures status { OnTrue result.1 (result.0 ≡ status_of refusal) }
+    ensures status { result.0 ≡ status_of refusal }
 {
     text.clear();
-    if writeln!(text, "refused {refusal}").is_ok() {
-        (Status::of(refusal), true)
-    } else {
-        (Status::of(Refusal::Memory).max(Status::of(refusal)), false)
-    }
+    let is_spelled = writeln!(text, "refused {refusal}").is_ok();
+    (Status::of(refusal), is_spelled)
 }
 
 /// Prints that a line is none of a script's.
@@ -98,7 +96,10 @@ pub fn print_bad_line<W: Write>(
     number: u64,
     text: &mut String,
     writer: &mut W,
-) -> Result<Status, StreamFailed> {
+) -> Result<Status, StreamFailed>
+    ensures status { IfOk result (λ status. status ≡ Status.Refused) }
+    ensures writer { IfErr result (λ failed. failed ≡ StreamFailed.Writer) }
+{
     if writeln!(text, "bad line {number}").is_err() {
         return print_refusal(Refusal::Memory, text, writer);
     }

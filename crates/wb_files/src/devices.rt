@@ -2,6 +2,8 @@
 
 ghost use Rattle.std.specs.Prelude.{◌≡◌, IfOk};
 ghost use Rattle.wb_types.specs.Versions.{version_asked};
+ghost use Rattle.wb_table.specs.Table.{IsTable};
+ghost use Rattle.wb_table.specs.Words.{words_of};
 
 use crate::patience::Patience;
 use crate::sizes::find_size_fault;
@@ -62,7 +64,8 @@ pub fn open_table<'a, 'w, R: Files<File = File>, P: Patience, N: Watch>(
     patience: &mut P,
     watch: &'w N,
 ) -> Result<(Table<'a>, Disks<WatchedDisk<'w, N>>, Geometry), Unopened<'a>>
-    ensures { IfOk result (λ opened. opened.2.version ≡ version_asked opened.0.metadata2) }
+    ensures table { IfOk result (λ opened. IsTable (words_of text.now) opened.0) }
+    ensures version { IfOk result (λ opened. opened.2.version ≡ version_asked opened.0.metadata2) }
 {
     let Ok(table) = read_table(text) else {
         return Err(Unopened::Table(find_table_fault(text)));

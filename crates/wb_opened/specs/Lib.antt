@@ -2,3 +2,4 @@ pub mod Deeds
 pub mod Inside
 pub mod Refused
 pub mod Tables
+pub mod Unserved

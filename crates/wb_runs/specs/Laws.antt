@@ -54,7 +54,8 @@ abbrev pub AllAlong : {P A : Type 0} → (Notes → Event → What → Type 0) �
 AllAlong Holds shape w n [] = Unit {0}
 AllAlong Holds shape w n (h ∷ hs) = Holds n h.record_is.event h.record_is.what × AllAlong Holds shape (after_happening shape w h) (note_happening shape w n h) hs
 
--- An opening that is refused has a cause: a step of it has failed on that device, memory was wanted, or no generation is left.
+-- An opening that is refused has a cause: a step of it has failed on that device, memory was wanted, no generation is left, or in passthrough the
+-- metadata were not left clean.
 abbrev pub RefusedBy : Doing → Job → Refusal → Type 0
 RefusedBy doing (Open mode second) refusal = MayRefuse doing refusal
 RefusedBy doing job refusal = Unit {0}
@@ -67,7 +68,7 @@ abbrev pub RefusesByCause : Notes → Event → What → Type 0
 RefusesByCause n (Step a) (Stepped (End (Refuses refusal)) got) = RefusedRightly (slice_get n.doings a) refusal
 RefusesByCause n event what = Unit {0}
 
--- no opening is refused for what the metadata hold
+-- no opening is refused for anything else that the metadata hold
 abbrev pub OpeningsRefuseByCause : (P A : Type 0) → Type 0
 OpeningsRefuseByCause P A = InEveryRun P A (λ shape metadata hs. AllAlong RefusesByCause shape (start shape metadata) (formatted shape) hs)
 

@@ -39,8 +39,8 @@ pub fn never_stuck<P, A>()
     ensures { NeverStuck P A }
 {}
 
-/// In every run an opening is refused only where a step of it has failed, and then by that device, for want of memory, or since no
-/// generation is left; never for what the metadata hold.
+/// In every run an opening is refused only where a step of it has failed, and then by that device, for want of memory, since no
+/// generation is left, or in passthrough since the metadata were not left clean; never for anything else that they hold.
 pub fn openings_refuse_by_cause<P, A>()
     ensures { OpeningsRefuseByCause P A }
 {}

@@ -1,6 +1,6 @@
 //! Services done by several clients of the target of a table.
 
-ghost use Rattle.std.specs.Prelude.{◌≡◌, ◌≢◌, IfOk, map, vec_len};
+ghost use Rattle.std.specs.Prelude.{◌≡◌, IfOk, map, vec_len};
 ghost use Rattle.wb_table.specs.Policies.{policy_name};
 
 use std::alloc::{AllocError, Global};
