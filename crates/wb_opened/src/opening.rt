@@ -3,11 +3,11 @@
 ghost use Rattle.std.specs.Prelude.{◌≡◌, ◌⊎◌, ℕ, List, IfOk, IfErr};
 ghost use Rattle.wb_types.specs.declared.message.Key.{Key as KeyTerm};
 ghost use Rattle.wb_types.specs.declared.refusal.Refusal.{Refusal as RefusalTerm};
+ghost use Rattle.wb_tasks.specs.declared.step.Answer.TheVariants.{Done as Finished};
+ghost use Rattle.wb_devices.specs.declared.devices.Devices.{Devices as DevicesTerm};
 ghost use Rattle.wb_table.specs.Policies.{policy_name};
 ghost use Rattle.wb_table.specs.Table.{IsTable};
 ghost use Rattle.wb_table.specs.Words.{words_of};
-ghost use Rattle.wb_tasks.specs.declared.step.Answer.TheVariants.{Done as Finished};
-ghost use Rattle.wb_devices.specs.declared.devices.Devices.{Devices as DevicesTerm};
 ghost use Rattle.wb_target.specs.Making.{WasOpened, WasRun};
 ghost use Rattle.wb_target.specs.NotOpened.{IsNotOpened, IsOfSizes};
 ghost use Rattle.wb_opened.specs.Tables.{Lists};
