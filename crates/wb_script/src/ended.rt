@@ -1,7 +1,8 @@
 //! How a run of the program ended.
 
 ghost use Rattle.std.specs.Prelude.{◌≡◌, ◌<◌, ◌⊎◌, Some, None, IfSome, IfNone, IfOk, IfErr, OnOk};
-ghost use Rattle.wb_dialogue.specs.Exit.{code_of};
+ghost use Rattle.wb_types.specs.declared.refusal.Refusal.{Refusal as RefusalTerm};
+ghost use Rattle.wb_dialogue.specs.Exit.{code_of, status_of};
 
 use crate::reason::Reason;
 use std::alloc::Global;
@@ -38,6 +39,7 @@ impl<'a> Ended<'a> {
 /// Prints a refusal after which nothing else is printed.
 pub fn refused<'a, W: Write>(alloc: Global, unserved: Unserved<'a>, writer: &mut W) -> Ended<'a>
     ensures told { (result.reason ≡ Some (Reason.Unserved unserved.entry)) ⊎ (result.code ≡ 4) × (result.reason ≡ Some (Reason.Stream StreamFailed.Writer)) }
+    ensures code { (refusal : RefusalTerm) × ((result.code ≡ code_of (status_of refusal)) ⊎ (result.code ≡ 4)) }
 {
     let printed = refuse(alloc, unserved.refusal(), writer);
     Ended::new(printed, Some(Reason::Unserved(unserved)))
