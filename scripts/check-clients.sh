@@ -57,12 +57,15 @@ for threads in 1 2 3; do
   check "no more than $threads threads" "$? $(tr '\n' '/' <told.txt)" '0 @1 ok/@1 0 11/@2 ok/64 22/@2 64 22/'
 done
 
-# --- Too few descriptors: a client whose files cannot be opened is refused line by line, and the script goes on.
+# --- Few descriptors: the files are opened once, whatever clients there are; with too few, the run is refused.
 printf '@1 r 0 1\nr 0 1\n@1 r 1 1\njoin\nw 0 1 11\n' >script.txt
 fresh
 # shellcheck disable=SC2016 # it is the text of a script
-sh -c 'ulimit -n "$1"; exec timeout 30 "$2" run "$3"' few 7 "$cache" "$table" <script.txt >told.txt 2>reason.txt
-check 'a client without files' "$? $(tr '\n' '/' <told.txt)" '3 0 00/@1 refused 5 Io cache/@1 refused 5 Io cache/ok/'
+sh -c 'ulimit -n "$1"; exec timeout 30 "$2" run "$3"' few 6 "$cache" "$table" <script.txt >told.txt 2>reason.txt
+check 'a client with six descriptors' "$? $(tr '\n' '/' <told.txt)" '0 0 00/@1 0 00/@1 1 00/ok/'
+# shellcheck disable=SC2016 # it is the text of a script
+sh -c 'ulimit -n "$1"; exec timeout 30 "$2" -v run "$3"' few 5 "$cache" "$table" <script.txt >told.txt 2>reason.txt
+check 'too few descriptors' "$? $(tr '\n' '/' <told.txt) $(grep -c 'origin file o.img: Too many open files' reason.txt)" '3 refused 5 Io origin/ 1'
 
 # --- More than may wait for a join: 1,048,576 lines of answers of a client.
 fresh

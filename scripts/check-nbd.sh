@@ -153,7 +153,7 @@ flushed is lost then'
 has 'and of locks' "$said" 'are locked as long as it runs'
 has 'and of ends' "$said" 'To stop it in order, end the client.'
 echo | serve --wait x "$table"
-check 'a wait of no number' "$(status) $(cat told.txt)" '2 usage: wbnbd [-q] [--wait SECONDS] [--control FILE] TABLE'
+check 'a wait of no number' "$(status) $(cat told.txt)" '2 usage: wbnbd [-q] [--wait SECONDS] [--control FILE] [--no-verify] [--accept-older] TABLE'
 
 # --- Files that cannot serve.
 truncate -s 0 n.img
@@ -167,9 +167,16 @@ check 'a file of another size' "$(status) $(cat told.txt)" '1 wbnbd: 12 Mismatch
 fresh
 hello | serve 'cache m.img c.img o.img 128 0 tinylfu 0'
 check 'another block size' "$(status) $(cat told.txt)" '1 wbnbd: 12 Mismatch: the metadata were formatted for blocks of 64 sectors, and not of 128'
-# shellcheck disable=SC3045 # where the shell has it
-(ulimit -n 40; { hello; goodbye; } | serve "$table")
-check 'too few descriptors' "$(status) $(grep -c 'cannot be opened again: Too many open files' told.txt)" '3 1'
+fresh
+few() { # so many descriptors
+  # shellcheck disable=SC2016 # it is the text of a script
+  sh -c 'ulimit -n "$1"; exec timeout 30 "$2" "$3"' few "$1" "$server" "$table" >out.bin 2>told.txt
+  echo $? >status.txt
+}
+{ hello; write_of 1 0 512; flush_of 2; goodbye; } | few 7
+check 'seven descriptors' "$(status) $(replies)" '0 00:01 00:02 '
+{ hello; goodbye; } | few 5
+check 'too few descriptors' "$(status) $(grep -c 'origin file o.img: Too many open files' told.txt)" '3 1'
 
 # --- Files that another program holds.
 fresh
@@ -194,7 +201,7 @@ fresh
 (trap '' XFSZ; ulimit -f 100; { hello; write_of 1 199680 512; write_of 2 0 512; flush_of 3; goodbye; } | serve "$table")
 check 'a device that fails ends it with 3' "$(status)" 3
 check 'and which is told, with the reason, once' "$(grep 'file:' told.txt)" 'wbnbd: origin file: a write failed: File too large (os error 27)'
-has 'and what it came to' "$(cat told.txt)" 'wbnbd: 6 Failed'
+has 'and what it came to' "$(cat told.txt)" 'wbnbd: the last flush was refused'
 check 'no reply without an error for a step that failed' "$(replies | tr ' ' '\n' | grep -c '^00:0[13]')" 0
 has 'a file that may not grow has no room' "$(replies)" '1c:01'
 
@@ -234,7 +241,7 @@ exec 3>&-
 cat <&4 >told.txt
 exec 4<&-
 wait "$running"
-check 'a server whose last flush is refused does not end with 0' "$? $(tail -n 1 told.txt)" '3 wbnbd: 6 Failed'
+check 'a server whose last flush is refused does not end with 0' "$? $(tail -n 1 told.txt)" '3 wbnbd: the last flush was refused: what was written since the flush before may be lost'
 rm -f sends tells
 
 # --- A client that does not listen: what it asks for is not done, once a reply could not be written.

@@ -49,7 +49,10 @@ if command -v python3 >/dev/null; then
   call "$top/scripts/twin.py" "$cache"
   call "$top/scripts/weather.py" "$cache" "$server"
   call "$top/scripts/syncs.py" "$cache"
+  call "$top/scripts/check-operator.py" "$cache" "$server" "$meta"
+  call "$top/scripts/check-meta.py" "$meta" "$cache"
   call "$top/scripts/power.py" "$cache" "$server" "$meta"
+  call "$top/scripts/check-meta.py" "$meta" "$cache"
   call "$top/scripts/manual.py" "$cache" "$server" "$meta"
   call "$top/scripts/commands.py" "$cache" "$server" "$meta"
 else
@@ -59,7 +62,7 @@ cd "$work" || exit 1
 blank() { # files of zeros
   rm -f m.img c.img o.img
   truncate -s 2048 m.img
-  truncate -s 131072 c.img
+  head -c 131072 /dev/zero >c.img # with all its bytes allocated
   truncate -s 327680 o.img
 }
 fresh() { # the same, formatted
@@ -85,7 +88,7 @@ check 'and its manual is read' "$(for name in wbcache wbnbd wbmeta; do grep -c '
 
 blank
 check 'a run over files that are not formatted' "$(echo 'r 0 1' | "$cache" -v run "$table" 2>&1; echo $?) $(sums)" "refused 10 NotFormatted
-wbcache: 10 NotFormatted: the metadata file has no valid root; 'wbcache format' with the same table makes it that of an empty cache
+wbcache: 10 NotFormatted: the metadata file has no valid root; if it was a cache's, look by 'wbmeta check' first: 'wbcache format' with the same table makes it that of an empty cache, and loses blocks that are not on the origin
 1 $(sums)"
 check 'a formatting' "$("$cache" format "$table")" 'formatted 4 10'
 cp m.img formatted.img
@@ -170,7 +173,7 @@ while IFS='|' read -r changes printed status reason <&4; do
   says=$("$meta" check "$table" 2>/dev/null)
   says="$says $? $(sums)"
   echo status | "$cache" -v run "$table" >out.txt 2>reason.txt
-  check "metadata after $changes" "$? $(cat out.txt) $(grep -v '^wbcache: opened' reason.txt)" "$status $printed ${reason:+wbcache: $reason}"
+  check "metadata after $changes" "$? $(cat out.txt) $(grep -v '^wbcache: opened\|^wbcache: an older state may be opened' reason.txt)" "$status $printed ${reason:+wbcache: $reason}"
   check "what wbmeta tells of metadata after $changes" "$says" "$(told_of_metadata "$printed" "$status") $before"
   if test "$status" != 0; then check "files after $changes" "$(sums)" "$before"; fi
 done 4<rows.txt
@@ -180,7 +183,7 @@ fresh
 check 'nothing dirty' "$("$meta" writeback "$table" 2>&1) $("$meta" check "$table")" 'ok 0 ok 2 clean 0 0'
 printf 'w 0 1 11\nr 0 1\nwork\nw 0 1 22\nw 70 1 33\nr 70 1\nwork\nw 70 1 44\nflush\n' | "$cache" run "$table" >out.txt
 check 'what is dirty before' "$("$meta" check "$table" | cut -d' ' -f1,3-)" 'ok unclean 2 2'
-check 'what was written home' "$("$meta" writeback 'cache m.img c.img o.img 64 1 passthrough tinylfu 2 promote_min 3' 2>&1)" 'ok 2'
+check 'what was written home' "$("$meta" writeback 'cache m.img c.img o.img 64 1 passthrough tinylfu 2 promote_min 3' 2>/dev/null)" 'ok 2'
 check 'the cache is clean then' "$("$meta" check "$table" | cut -d' ' -f1,3-)" 'ok clean 2 0'
 check 'and the origin has it' "$(for at in 0 35840; do tail -c +$((at + 1)) o.img | head -c 512 | od -An -v -tx1 -w1 | sort -u | tr -d ' \n'; done)" 2244
 # The same of metadata of version 2, whose dirty bits stand beside the mapping.
@@ -191,7 +194,7 @@ check 'what is dirty in version 2' "$("$meta" check "$second") $("$meta" dump "$
 check 'and what a formatting of it gives up' "$("$cache" format "$second" 2>&1)" 'wbcache: formatting gives up a cache: 1 of 4 cache blocks mapped, 1 dirty
 formatted 4 10'
 cp m.kept m.img
-check 'what was written home there' "$("$meta" writeback "$second" 2>&1) $("$meta" check "$second" | cut -d' ' -f1,3-)" 'ok 1 ok clean 1 0'
+check 'what was written home there' "$("$meta" writeback "$second" 2>/dev/null) $("$meta" check "$second" | cut -d' ' -f1,3-)" 'ok 1 ok clean 1 0'
 check 'and the origin has it there' "$(head -c 512 o.img | tr -d '\042' | wc -c)" 0
 check 'a table without metadata2 over it' "$("$meta" check "$table" | cut -d' ' -f1,3-)" 'ok clean 1 0'
 # What is told of metadata of version 1 does not hang on the version that the table asks for; an opening converts them.
@@ -199,7 +202,7 @@ wide 0
 printf 'w 0 1 11\nr 0 1\nwork\nw 0 1 22\nsuspend\n' | "$cache" run "$table" >out.txt
 cp m.img m.kept
 check 'a table with metadata2 over version 1' "$("$meta" check "$second") $("$meta" dump "$second") $(cmp m.img m.kept 2>&1)" "$("$meta" check "$table") 0 0 dirty 3 "
-check 'what was written home in the other version' "$("$meta" writeback "$second" 2>&1) $("$meta" check "$second" | cut -d' ' -f1,3-) $(echo status | "$cache" run "$table" | cut -d' ' -f4,11-14)" \
+check 'what was written home in the other version' "$("$meta" writeback "$second" 2>/dev/null) $("$meta" check "$second" | cut -d' ' -f1,3-) $(echo status | "$cache" run "$table" | cut -d' ' -f4,11-14)" \
   'ok 1 ok clean 1 0 1/4 0 2 metadata2 writeback'
 fresh
 check 'nothing is shown to who does not look on' "$("$meta" writeback "$table" 2>&1 >/dev/null)" ''
@@ -231,7 +234,7 @@ done 4<rows.txt
 check 'a refusal writes nothing' "$(tr -d '\245' <2048.img | wc -c)" 0
 printf 'r 639 1\nr 640 1\n' >lines
 odd='  cache 2559.img  131583.img 328191.img 00064 0   tinylfu 0 '
-check 'files with a part of a sector are formatted' "$("$cache" format "$odd")" 'formatted 4 10'
+check 'files with a part of a sector are formatted' "$("$cache" format --force "$odd" 2>/dev/null)" 'formatted 4 10'
 said=$("$cache" run "$odd" <lines; echo $?)
 check 'a part of a sector at the end is passed over' "$said" '639 a5
 refused 1 Range
@@ -277,7 +280,7 @@ before=$(cksum c.img o.img)
   filled 1024 245
 } >wanted.img
 for time in once twice; do
-  check "formatted $time" "$("$cache" format "$table") $(cmp m.img wanted.img 2>&1)" 'formatted 4 10 '
+  check "formatted $time" "$("$cache" format --force "$table" 2>/dev/null) $(cmp m.img wanted.img 2>&1)" 'formatted 4 10 '
 done
 filled 2560 245 >m.img
 {
@@ -285,7 +288,7 @@ filled 2560 245 >m.img
   filled 980 000
   filled 1536 245
 } >wanted.img
-check 'formatted in version 2' "$("$cache" format "$second") $(cmp m.img wanted.img 2>&1)" 'formatted 4 10 '
+check 'formatted in version 2' "$("$cache" format --force "$second" 2>/dev/null) $(cmp m.img wanted.img 2>&1)" 'formatted 4 10 '
 check 'formatting writes no other file' "$(cksum c.img o.img)" "$before"
 fresh
 for bytes in 0 1024 2047; do
@@ -334,7 +337,7 @@ done
 said=$("$cache" -v format "$table" 2>&1)
 check 'a format over files that a run holds' "$? $said" '3 refused 5 Io metadata
 wbcache: metadata file m.img: locked, by another program or as another device of the table'
-said=$(printf 'r 0 1\n' | "$cache" run "$table" 2>&1)
+said=$(printf 'r 0 1\n' | "$cache" run "$table" 2>/dev/null)
 check 'a run over files that a run holds' "$? $said" '3 refused 5 Io metadata'
 truncate -s 2048 n.img
 for held in c o; do
@@ -342,7 +345,7 @@ for held in c o; do
     c) other='cache n.img c.img o.img 64 0 tinylfu 0' device=cache ;;
     o) truncate -s 131072 d.img; other='cache n.img d.img o.img 64 0 tinylfu 0' device=origin ;;
   esac
-  said=$("$cache" format "$other" 2>&1)
+  said=$("$cache" format "$other" 2>/dev/null)
   check "a format over the $device that a run holds" "$? $said" "3 refused 5 Io $device"
 done
 exec 3>&-
@@ -363,7 +366,7 @@ reason() { # script, arguments: the standard error and the status
   said=$("$cache" "$@" <lines 2>&1 >/dev/null)
   echo "$? $said"
 }
-check 'no reason without -v' "$(reason '' run "${table% 0}")" '1 '
+check 'a reason without -v, too' "$(reason '' run "${table% 0}")" '1 wbcache: the table ends before word 8, the number of policy arguments, two for each key'
 check 'a word of the table' "$(reason '' -v run "cache m.img c.img o.img 96 0 tinylfu 0")" \
   "1 wbcache: word 5 of the table is '96', and has to be the sectors of a block, 64 to 2097152, a multiple of 64"
 check 'a short table' "$(reason '' run -v "cache m.img c.img")" '1 wbcache: the table ends before word 4, the origin file'
@@ -391,8 +394,8 @@ wbcache: 1 write was not flushed, and may be lost"
 check 'one that was' "$(reason 'w 0 1 11
 flush
 ' -v run "$table")" "0 $opened"
-check 'is told to nobody who did not ask' "$(reason 'w 0 1 11
-' run "$table")" '0 '
+check 'is told where nobody asked, too' "$(reason 'w 0 1 11
+' run "$table")" '0 wbcache: 1 write was not flushed, and may be lost'
 fresh
 printf 'r 70 1\nr 70 1\nwork\nflush\n' | "$cache" run "$table" >out.txt
 check 'a formatting that gives up a cache' "$("$cache" format "$table" 2>&1; echo $?)" 'wbcache: formatting gives up a cache: 1 of 4 cache blocks mapped, 1 dirty
@@ -400,6 +403,33 @@ formatted 4 10
 0'
 check 'and one that gives up nothing' "$("$cache" format "$table" 2>&1; echo $?)" 'formatted 4 10
 0'
+# What is not to be written over.
+kept() { cksum m.img | cut -d' ' -f1; }
+fresh
+printf 'r 70 1\nr 70 1\nwork\nflush\n' | "$cache" run "$table" >out.txt
+before=$(kept)
+check 'with care a cache stays that has a dirty block' "$("$cache" format --careful "$table" 2>&1; echo $?) $(kept)" "wbcache: formatting gives up a cache: 1 of 4 cache blocks mapped, 1 dirty; --careful keeps it: 'wbmeta writeback' with the same table writes home what is dirty
+1 $before"
+for at in 0 1024 4000; do
+  blank
+  truncate -s 8192 m.img
+  printf '\123' | dd of=m.img bs=1 seek=$at conv=notrunc 2>/dev/null
+  before=$(kept)
+  check "what is no cache's stays, byte $at" "$("$cache" format "$table" 2>&1; echo $?) $(kept)" "wbcache: m.img: its first sectors hold something else than a cache's metadata; --force formats it all the same
+1 $before"
+  check "and is written over by force, byte $at" "$("$cache" format --force "$table" 2>/dev/null; echo $?)" 'formatted 4 10
+0'
+done
+blank
+rm c.img
+truncate -s 131072 c.img
+check 'a cache file with holes is told' "$("$cache" format "$table" 2>&1 | sort)" 'formatted 4 10
+wbcache: cache file c.img is sparse: 131072 of 131072 bytes are not allocated; on a full file system requests fail: fallocate -l 131072 c.img'
+blank
+check 'a threshold under which nothing is replaced is told' "$("$cache" format "${table% 0} 2 migration_threshold 127" 2>&1 | grep -v sparse | sort)" "formatted 4 10
+wbcache: with migration_threshold 127 no block of 64 sectors is replaced once the cache is full: give the table 'migration_threshold 128' or more"
+check 'and one under which nothing is cached' "$("$cache" format "${table% 0} 2 migration_threshold 63" 2>&1 | grep -v sparse | sort)" "formatted 4 10
+wbcache: with migration_threshold 63 no block of 64 sectors is cached: give the table 'migration_threshold 128' or more"
 if command -v python3 >/dev/null; then
   for answer in n y; do
     fresh
@@ -556,7 +586,7 @@ check 'help that cannot be written ends with 4' $? 4
 for words in '' 'run' 'format' 'help' 'run a b' 'replay x' '-x' 'run -x a'; do
   # shellcheck disable=SC2086 # the words are apart
   said=$("$cache" $words 2>&1)
-  check "the usage for '$words'" "$? $said" '2 usage: wbcache format TABLE | run TABLE | replay'
+  check "the usage for '$words'" "$? $said" '2 usage: wbcache format [--force] [--careful] TABLE | run TABLE | replay'
 done
 
 # --- Replays.

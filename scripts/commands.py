@@ -91,12 +91,13 @@ def readme(folder):
     """The README's commands, in their order."""
     with open(f"{TOP}/README.md", encoding="utf-8") as file:
         text = file.read()
-    first, answers, build, dialogue, status, mounting = (block.strip("\n") for block in blocks(text))
+    first, answers, build, dialogue, status, mounting, taking_off = (block.strip("\n") for block in blocks(text))
     check("the README's first commands", (first in ELSEWHERE, build in ELSEWHERE), (True, True))
     check("what the first script prints", fresh(folder).strip("\n"), answers)
     told = re.search(r"prints ((?:`[^`]*`(?:, | and ))+)a status", text).group(1)
     wanted = "".join(f"{line}\n" for line in re.findall("`([^`]*)`", told) + [status])
     check("what its lines print", shell(dialogue.split("\n", 1)[1], folder), (wanted, 0))
+    check("the cache is taken off", shell(taking_off, folder), ("ok 1\n", 0))
     for command in IN_TEXT.findall(text):
         if command in ELSEWHERE or command in ("rt version", "umount mnt; fusermount3 -u disk"):
             continue
@@ -124,7 +125,7 @@ def helps(folder, cache, server, meta):
     check("a listing", shell(f"wbmeta dump '{TABLE}'", folder), ("0 1 dirty 0\n", 0))
     check("a listing on a terminal", on_terminal(folder, "wbmeta", "dump"), ["0 1 dirty 0", "hint 0 1", "ok 5 unclean 1 1"])
     said = on_terminal(folder, "wbmeta", "writeback")
-    check("writing back on a terminal", ("[" + 40 * "#" + "] 1 of 1 blocks" in said, said[-1]), (True, "ok 1"))
+    check("writing back on a terminal", ("[" + 40 * "#" + "] 1 of 1 blocks" in said, "ok 1" in said), (True, True))
     fuse, activate, copy = examples(server)
     lacks = missing("nbdfuse", "fusermount3", "nbdcopy", "systemd-socket-activate")
     if lacks:

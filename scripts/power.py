@@ -188,6 +188,7 @@ class Program:
 
     def __init__(self, words, environment):
         streams = {"stdin": subprocess.PIPE, "stdout": subprocess.PIPE, "stderr": subprocess.DEVNULL}
+        weather.forget_failure()
         self.process, self.data, self.end = subprocess.Popen(words, bufsize=0, env=environment, **streams), b"", 0
 
     def send(self, data):
@@ -455,6 +456,7 @@ class Cutter:
         """Brings all home: then the origin alone has what was shown. That is cut, too: whatever of it is left, the same is shown."""
         files = stands()
         words = [PROGRAMS.meta, "writeback", weather.table("writeback")]
+        weather.forget_failure()
         done = subprocess.run(words, capture_output=True, text=True, timeout=60, env=logged())
         need(done.returncode == 0 and done.stdout.startswith("ok "), f"wbmeta writeback: {done.stdout}{done.stderr}")
         origin = read("o.img")

@@ -107,7 +107,8 @@ def each_call_fails(mode):
             tried += 1
             try:
                 refused, _ = sees(lines_of(mode), found, {5, 6})
-                need(refused[5] == 1, f"{refused[5]} lines were refused with 5")
+                # A read that fails as the cache is looked at before its opening is said, and refuses nothing.
+                need(refused[5] == 1 or refused[5] == 0 and "a read failed" in found[2], f"{refused[5]} lines were refused with 5")
                 need(f"wbcache: {device} file" in found[2] and "Input/output error" in found[2], f"it does not tell the reason: {found[2]}")
             except Wrong as wrong:
                 raise Wrong(f"call {call} of {name}: {wrong}") from None
@@ -152,7 +153,7 @@ def each_crash_of(row, replaces, mode, on):
         for call in range(1, 1000):
             prepare_for_crashes()
             weather = {"WEATHER_FILE": name, "WEATHER_CALL": call, "WEATHER_ON": on, "WEATHER_DURABLE": 1}
-            status, told, _, came = run_lines(mode, row, weather)
+            status, told, said, came = run_lines(mode, row, weather)
             if not came:
                 replaced = sum(line.startswith("replaced ") for line in told.splitlines())
                 need(replaced == (0 if mode == "passthrough" else replaces), f"in good weather {replaced} blocks are replaced: {told}")
@@ -162,7 +163,8 @@ def each_crash_of(row, replaces, mode, on):
             try:
                 if told[0] not in {f"refused 5 Io {device}" for device in DEVICES.values()} or len(told) > 1:
                     refused = judge(row, told, book, {5, 6})
-                    need((refused[5] > 0 if on else refused[5] == 1) and status == 3, f"status {status}, refused {dict(refused)}")
+                    is_look = not on and status == 0 and refused[5] == 0 and "a read failed" in said
+                    need(is_look or (refused[5] > 0 if on else refused[5] == 1) and status == 3, f"status {status}, refused {dict(refused)}")
                 for file in DEVICES:
                     shutil.copy(file, file + ".newest")
                 for base in "durable", "newest":
@@ -192,14 +194,19 @@ def each_conversion_fails():
     need(run(PROGRAMS.cache, ["run", first], "\n".join(LIFE) + "\n")[0] == 0, "a first life")
     for name in DEVICES:
         shutil.copy(name, name + ".kept")
+    looks = 0
     for call in range(1, 100):
         restore()
         for name in DEVICES:
             shutil.copy(name, name + ".durable")
-        status, told, _, came = run(PROGRAMS.cache, ["run", second], "status\n", {"WEATHER_FILE": "m.img", "WEATHER_CALL": call, "WEATHER_DURABLE": 1})
+        status, told, said, came = run(PROGRAMS.cache, ["run", second], "status\n", {"WEATHER_FILE": "m.img", "WEATHER_CALL": call, "WEATHER_DURABLE": 1})
         if not came:
-            need(call - 1 == CALLS and status == 0, f"{call - 1} calls, and then {status} {told}")
+            need(call - 1 - looks == CALLS and status == 0, f"{call - 1} calls, {looks} of them looks, and then {status} {told}")
             return call - 1
+        if status == 0 and "a read failed" in said:
+            # A look at the roots before the opening: it refuses nothing.
+            looks += 1
+            continue
         need((status, told) == (3, "refused 5 Io metadata\n"), f"call {call}: {status} {told}")
         for name in DEVICES:
             shutil.copy(name, name + ".newest")
@@ -220,7 +227,8 @@ def each_format_fails():
         if not came:
             return tried
         tried += 1
-        need((status, told) in ((3, "refused 5 Io metadata\n"), (0, "formatted 4 10\n")), f"call {call}: {status} {told}")
+        # Where the first sectors cannot be read nothing is written.
+        need((status, told) in ((1, ""), (3, "refused 5 Io metadata\n"), (0, "formatted 4 10\n")), f"call {call}: {status} {told}")
         need(run(PROGRAMS.cache, ["format", table("writeback")])[:2] == (0, "formatted 4 10\n"), "formatting again")
     raise Wrong("it makes no end of calls")
 

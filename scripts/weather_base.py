@@ -54,8 +54,15 @@ def table(mode):
     return f"cache m.img c.img o.img 64 1 {mode} tinylfu 0"
 
 
+def forget_failure():
+    """Takes the mark of a failed device away, as whoever has dropped the pages does: here no page is lost."""
+    if os.path.exists("m.img.failed"):
+        os.remove("m.img.failed")
+
+
 def environment_of(weather):
-    """The environment of a program in some weather: none of it is told yet that it came."""
+    """The environment of a program in some weather: none of it is told yet that it came, and no mark is left of another."""
+    forget_failure()
     if not weather:
         return None
     if os.path.exists("note"):

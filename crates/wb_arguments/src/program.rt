@@ -3,8 +3,8 @@
 use clap::{Arg, ArgAction, Command, Error};
 use std::alloc::Global;
 
-/// The programs' version, and the proof logic that they are proved with, as `rt version` names it behind the kit.
-const VERSION: &str = "0.1.0, proved with rattle logic dac8208d650f15bf";
+/// The programs' version.
+const VERSION: &str = "0.1.0";
 
 /// A program over the files of a table.
 #[derive(Clone, Copy)]

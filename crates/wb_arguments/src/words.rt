@@ -52,7 +52,7 @@ impl<'a> Program<'a> {
         match self.read(rt.alloc(), words) {
             Ok(Some(asked)) => Ok(asked),
             Ok(None) => Err(told_usage(rt, self.usage)),
-            Err(error) => Err(told(rt, &error, self.usage)),
+            Err(error) => Err(self.told(rt, words, &error)),
         }
     }
 
@@ -64,18 +64,46 @@ impl<'a> Program<'a> {
         let matches = self.command(alloc)?.try_get_matches_from(words)?;
         Ok(A::from_words(&matches))
     }
+
+    /// Gives help or the version where they are asked for, and else says which word asks for nothing, and what the program takes.
+    fn told<R: AllocGlobal + Print + Eprint>(
+        &self,
+        rt: &R,
+        words: &[String],
+        error: &Error,
+    ) -> NoTask {
+        match error.kind() {
+            ErrorKind::DisplayHelp | ErrorKind::DisplayVersion => match error.print(rt) {
+                Ok(()) => NoTask::Told(0),
+                Err(_) => NoTask::Told(STREAM_FAILED),
+            },
+            ErrorKind::OutOfMemory => NoTask::Memory,
+            kind => {
+                self.tell_reason(rt, error);
+                if kind == ErrorKind::UnknownArgument && has_bare_table(words) {
+                    let _ = eprintln!(rt;
+                        "{}: a table is one argument: put it in quotes",
+                        self.name
+                    );
+                }
+                told_usage(rt, self.usage)
+            }
+        }
+    }
+
+    /// Says in a line why the words ask for nothing.
+    fn tell_reason<R: AllocGlobal + Eprint>(&self, rt: &R, error: &Error) {
+        if let Ok(text) = format!(in rt.alloc(); "{error}") {
+            let line = text.as_str().lines().next().unwrap_or("");
+            let reason = line.strip_prefix("error: ").unwrap_or(line);
+            let _ = eprintln!(rt; "{}: {reason}", self.name);
+        }
+    }
 }
 
-/// Gives help or the version where they are asked for, and else says what the program takes.
-fn told<R: Print + Eprint>(rt: &R, error: &Error, usage: &str) -> NoTask {
-    match error.kind() {
-        ErrorKind::DisplayHelp | ErrorKind::DisplayVersion => match error.print(rt) {
-            Ok(()) => NoTask::Told(0),
-            Err(_) => NoTask::Told(STREAM_FAILED),
-        },
-        ErrorKind::OutOfMemory => NoTask::Memory,
-        _ => told_usage(rt, usage),
-    }
+/// Whether the words of a table stand by themselves.
+fn has_bare_table(words: &[String]) -> bool {
+    words.iter().any(|word| word.as_str() == "cache")
 }
 
 fn told_usage<R: Eprint>(rt: &R, usage: &str) -> NoTask {

@@ -269,7 +269,9 @@ pub fn time_cached<R: Threads + Wait + Clock + Sync>(
     match serve_each(rt, threads, alloc, &asked.table, fill, loads) {
         Ok((filled, answered)) => sum_up(filled?, answered.as_slice()),
         Err(Unserved::Unopened(_)) => Err("a file cannot be opened"),
-        Err(Unserved::Refused(_) | Unserved::Differs(_)) => Err("the cache cannot be opened"),
+        Err(Unserved::Refused(_) | Unserved::Differs(_) | Unserved::Uninspected(_)) => Err(
+            "the cache cannot be opened",
+        ),
     }
 }
 

@@ -1,1 +1,2 @@
 pub mod Syncing
+pub mod Telling

@@ -2,7 +2,7 @@
 
 ghost use Rattle.std.specs.Prelude.{◌≡◌};
 
-use crate::records::{DeviceCounts, SyncCounts};
+use crate::mark::{MarkPlace, Marker};
 use crate::watched::{Step, Watch};
 use std::io;
 use std::io::ErrorKind;
@@ -18,27 +18,29 @@ const FULL: u64 = 1;
 /// One has failed, the last of them for another reason.
 const BROKEN: u64 = 2;
 
-/// Tells of the first step on each device that failed, at once, and knows whether a device is full.
+/// Says at once of the first step on each device that failed, leaves a mark where that was a write or a sync, and knows whether a device is
+/// full.
 #[derive(Drop)]
-pub struct Alarm<'a, T> {
-    rt: &'a T,
+pub struct Alarm<'a, E> {
+    log: &'a E,
     program: &'static str,
+    /// Where the mark is left; none where nothing is to be marked.
+    mark: Option<&'a MarkPlace>,
     metadata: AtomicU64,
     cache: AtomicU64,
     origin: AtomicU64,
-    counts: DeviceCounts,
 }
 
-impl<'a, T: Eprint> Alarm<'a, T> {
+impl<'a, E: Eprint> Alarm<'a, E> {
     /// Of a program of this name.
-    pub fn new(rt: &'a T, program: &'static str) -> Alarm<'a, T> {
+    pub fn new(log: &'a E, program: &'static str, mark: Option<&'a MarkPlace>) -> Alarm<'a, E> {
         Alarm {
-            rt,
+            log,
             program,
+            mark,
             metadata: AtomicU64::new(NONE),
             cache: AtomicU64::new(NONE),
             origin: AtomicU64::new(NONE),
-            counts: DeviceCounts::new(),
         }
     }
 
@@ -63,14 +65,36 @@ impl<'a, T: Eprint> Alarm<'a, T> {
             .is_ok();
         if is_first {
             let program = self.program;
-            let _ = eprintln!(self.rt;
+            let _ = eprintln!(self.log;
                 "{program}: {device} file: a read, a write or a sync failed"
             );
         }
     }
 }
 
-impl<'a, T: Eprint> Watch for Alarm<'a, T> {
+impl<'a, E: Eprint + Marker> Alarm<'a, E> {
+    /// Leaves a mark of a write or a sync that failed, or says why that cannot be done. A read leaves none, and neither does a write that found
+    /// no room: the system keeps nothing of it that the disk does not have.
+    fn mark(&self, device: Dev, step: Step, reason: &io::Error) {
+        let Some(place) = self.mark else {
+            return;
+        };
+        let is_harmless = match step {
+            Step::Read => true,
+            Step::Write => is_want_of_room(reason.kind()),
+            Step::Sync => false,
+        };
+        if is_harmless {
+            return;
+        }
+        if let Err(error) = self.log.leave(place, device, step, reason) {
+            let (program, path) = (self.program, place.path());
+            let _ = eprintln!(self.log; "{program}: {path}: no mark can be left: {error}");
+        }
+    }
+}
+
+impl<'a, E: Eprint + Marker> Watch for Alarm<'a, E> {
     fn failed(&self, device: Dev, step: Step, reason: &io::Error) {
         let state = if is_want_of_room(reason.kind()) {
             FULL
@@ -79,12 +103,9 @@ impl<'a, T: Eprint> Watch for Alarm<'a, T> {
         };
         if self.device(device).swap(state, Ordering::SeqCst) == NONE {
             let program = self.program;
-            let _ = eprintln!(self.rt; "{program}: {device} file: {step} failed: {reason}");
+            let _ = eprintln!(self.log; "{program}: {device} file: {step} failed: {reason}");
         }
-    }
-
-    fn counts(&self, device: Dev) -> &SyncCounts {
-        self.counts.of(device)
+        self.mark(device, step, reason);
     }
 }
 

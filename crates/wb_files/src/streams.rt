@@ -5,7 +5,8 @@ use std::io;
 use std::os::fd::AsRawFd;
 use std::rt::Files;
 
-const NULL_DEVICE: &str = "/dev/null";
+/// A folder that is always there: it can be opened, and a read or a write of it fails.
+const ROOT_FOLDER: &str = "/";
 
 /// Keeps descriptors 0 to 2 taken for as long as it lives.
 #[derive(Drop)]
@@ -15,12 +16,11 @@ pub struct HeldStreams {
     errors: Option<File>,
 }
 
-/// Sees that descriptors 0 to 2 are open before a program opens any file: the system gives a new file the least
-/// free number, so an image file would else become the standard output, and take the answers.
+/// Takes descriptors 0 to 2 before a program opens any file. The system gives a new file the least free number, so an image file would
+/// else become the standard output, and take the answers.
 ///
-/// One that is missing is opened on the null device so that its use fails as that of a closed one does: the input
-/// for writing, the others for reading. The error is the system's, where the null device cannot be opened; then a
-/// program should open nothing else.
+/// A descriptor that is missing is opened on a folder, so that its use fails as that of a closed one does. The error is the system's, where
+/// the folder cannot be opened; then a program must open nothing else.
 pub fn hold_streams<R: Files<File = File>>(rt: &R) -> io::Result<HeldStreams> {
     let mut held = HeldStreams {
         input: None,
@@ -28,12 +28,9 @@ pub fn hold_streams<R: Files<File = File>>(rt: &R) -> io::Result<HeldStreams> {
         errors: None,
     };
     for _ in 0..3 {
-        let file = OpenOptions::new().read(true).open(rt, NULL_DEVICE)?;
+        let file = OpenOptions::new().read(true).open(rt, ROOT_FOLDER)?;
         match file.as_raw_fd() {
-            0 => {
-                drop(file);
-                held.input = Some(OpenOptions::new().write(true).open(rt, NULL_DEVICE)?);
-            }
+            0 => held.input = Some(file),
             1 => held.output = Some(file),
             2 => held.errors = Some(file),
             _ => break,

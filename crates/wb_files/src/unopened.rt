@@ -23,8 +23,6 @@ pub enum Unopened<'a> {
 #[derive(Drop)]
 pub enum Trouble {
     System(io::Error),
-    /// It was opened, and cannot be opened once more, for another client.
-    Again(io::Error),
     /// It is locked: by another program, or as another device of the same table.
     Locked,
 }
@@ -58,7 +56,6 @@ impl Display for Trouble {
     fn fmt<W: fmt::Write>(&self, f: &mut Formatter<W>) -> fmt::Result {
         match self {
             Trouble::System(error) => write!(f, "{error}"),
-            Trouble::Again(error) => write!(f, "cannot be opened again: {error}"),
             Trouble::Locked => write!(
                 f,
                 "locked, by another program or as another device of the table"

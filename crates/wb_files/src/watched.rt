@@ -1,15 +1,12 @@
-//! Files of which somebody is told why a step on them failed, and knows what was written and synced.
+//! Files of which somebody is told why a step on them failed.
 
 ghost use Rattle.std.specs.Prelude.{◌≡◌};
 
-use crate::records::{DeviceCounts, SharedRecord, SyncCounts};
-use crate::sparing::SyncRecord;
 use std::fmt::{Display, Formatter};
 use std::fs::{File, Metadata, OpenFile};
 use std::io::{ErrorKind, Seek, SeekFrom};
 use std::os::unix::fs::FileExt;
 use std::{fmt, io};
-use wb_disk::FileDisk;
 use wb_types::Dev;
 
 /// A step on a file.
@@ -20,61 +17,40 @@ pub enum Step {
     Sync,
 }
 
-/// Who is told of each step on a device that failed, before whoever asked for it is, and has what all handles of its file know.
+/// Who is told of each step on a device that failed, before whoever asked for it is.
 pub trait Watch {
     /// A step failed, for this reason.
     fn failed(&self, device: Dev, step: Step, reason: &io::Error);
-
-    /// What was written and synced.
-    fn counts(&self, device: Dev) -> &SyncCounts;
 }
 
 /// Nobody is told.
-#[derive(Drop)]
-pub struct Unwatched {
-    counts: DeviceCounts,
-}
-
-impl Unwatched {
-    /// Of files of which nothing is known.
-    pub fn new() -> Unwatched {
-        Unwatched {
-            counts: DeviceCounts::new(),
-        }
-    }
-}
+#[derive(Clone, Copy)]
+pub struct Unwatched;
 
 impl Watch for Unwatched {
     fn failed(&self, _device: Dev, _step: Step, _reason: &io::Error) {}
-
-    fn counts(&self, device: Dev) -> &SyncCounts {
-        self.counts.of(device)
-    }
 }
 
-/// The file of a device, of whose failures somebody is told: a disk answers a fault, and drops the reason. Its data are synced by the rule of
-/// `SparingDisk`, only where something was written since the last good sync, by any handle of the file. A step that is done costs a few tests more.
-#[derive(Drop)]
-pub struct Watched<'w, F, N> {
-    file: F,
+/// The open file of a device, lent, of whose failures somebody is told: a disk answers a fault, and drops the reason. A step that is done
+/// costs a test more.
+#[derive(Clone, Copy)]
+pub struct Watched<'f, N> {
+    file: &'f File,
     device: Dev,
-    watch: &'w N,
-    known: SharedRecord<'w>,
+    watch: &'f N,
 }
 
-/// A disk over a file that is watched.
-pub type WatchedDisk<'w, N> = FileDisk<Watched<'w, File, N>>;
-
-impl<'w, F, N: Watch> Watched<'w, F, N> {
-    pub(crate) fn new(file: F, device: Dev, watch: &'w N) -> Watched<'w, F, N> {
+impl<'f, N> Watched<'f, N> {
+    pub(crate) fn new(file: &'f File, device: Dev, watch: &'f N) -> Watched<'f, N> {
         Watched {
             file,
             device,
             watch,
-            known: SharedRecord::of(watch.counts(device)),
         }
     }
+}
 
+impl<'f, N: Watch> Watched<'f, N> {
     /// Tells of a step that failed; one that was interrupted is made again.
     fn tell(&self, step: Step, reason: &io::Error) {
         if reason.kind() != ErrorKind::Interrupted {
@@ -83,7 +59,7 @@ impl<'w, F, N: Watch> Watched<'w, F, N> {
     }
 }
 
-impl<'w, F: FileExt, N: Watch> FileExt for Watched<'w, F, N> {
+impl<'f, N: Watch> FileExt for Watched<'f, N> {
     fn read_at(&self, buf: &mut [u8], offset: u64) -> io::Result<usize> {
         let wanted = buf.len();
         let read = self.file.read_at(buf, offset);
@@ -99,8 +75,6 @@ impl<'w, F: FileExt, N: Watch> FileExt for Watched<'w, F, N> {
 
     fn write_at(&self, buf: &[u8], offset: u64) -> io::Result<usize> {
         let written = self.file.write_at(buf, offset);
-        let mut known = self.known;
-        known.note_write();
         match &written {
             Ok(0) if buf.len() > 0 => {
                 self.tell(Step::Write, &io::Error::from(ErrorKind::WriteZero));
@@ -112,16 +86,13 @@ impl<'w, F: FileExt, N: Watch> FileExt for Watched<'w, F, N> {
     }
 }
 
-impl<'w, F: OpenFile, N: Watch> OpenFile for Watched<'w, F, N> {
+impl<'f, N: Watch> OpenFile for Watched<'f, N> {
     fn metadata(&self) -> io::Result<Metadata> {
         self.file.metadata()
     }
 
     fn set_len(&self, size: u64) -> io::Result<()> {
-        let set = self.file.set_len(size);
-        let mut known = self.known;
-        known.note_write();
-        set
+        self.file.set_len(size)
     }
 
     fn sync_all(&self) -> io::Result<()> {
@@ -133,27 +104,19 @@ impl<'w, F: OpenFile, N: Watch> OpenFile for Watched<'w, F, N> {
     }
 
     fn sync_data(&self) -> io::Result<()> {
-        let mut known = self.known;
-        if known.is_covered() {
-            return Ok(());
-        }
-        let number = known.begin_sync();
         let synced = self.file.sync_data();
-        match &synced {
-            Ok(()) => known.end_sync(number),
-            Err(reason) => {
-                known.note_failure();
-                self.tell(Step::Sync, reason);
-            }
+        if let Err(reason) = &synced {
+            self.tell(Step::Sync, reason);
         }
         synced
     }
 }
 
 /// Where a file begins to be measured is told by who measures it.
-impl<'w, F: Seek, N> Seek for Watched<'w, F, N> {
+impl<'f, N> Seek for Watched<'f, N> {
     fn seek(&mut self, to: SeekFrom) -> io::Result<u64> {
-        self.file.seek(to)
+        let mut file = self.file;
+        file.seek(to)
     }
 }
 

@@ -3,32 +3,29 @@
 ghost use Rattle.std.specs.Thread.{IsSend, IsSync};
 
 use std::alloc::{AllocError, Global};
-use std::fs::File;
-use std::rt::Files;
 use std::sync::{Mutex, Wait};
 use std::thread;
 use std::thread::{Scope, Threads};
 use wb_devices::Devices;
 use wb_disk::Disk;
-use wb_files::{Watch, WatchedDisk};
-use wb_opened::{LANES, Lanes, Next, Play, open_unlocked};
+use wb_files::{OpenFiles, SharedDisk, Watch};
+use wb_opened::{LANES, Lanes, Next, Play, lend_devices};
 use wb_policy::Policy;
-use wb_table::Table;
 use wb_target::{Client, Target};
 use wb_types::Refusal;
 
-/// The files of a table, opened once more for each client.
+/// The open files of a table, lent to each client.
 #[derive(Drop)]
-pub(crate) struct Again<'f, 'a, 'w, R, N> {
-    pub rt: &'f R,
-    pub table: &'f Table<'a>,
-    pub watch: &'w N,
+pub(crate) struct Lender<'f, 'a, T, N> {
+    pub waits: &'f T,
+    pub files: &'f OpenFiles<'a>,
+    pub watch: &'f N,
 }
 
-impl<'f, 'a, 'w, R: Files<File = File>, N: Watch> Again<'f, 'a, 'w, R, N> {
-    /// Their devices, or why they cannot be had.
-    fn open(&self) -> Result<Devices<WatchedDisk<'w, N>>, Refusal> {
-        match open_unlocked(self.rt, self.table, self.watch) {
+impl<'f, 'a, T: Wait, N: Watch> Lender<'f, 'a, T, N> {
+    /// Devices over them, for one more client, or why they cannot be had.
+    fn lend(&self) -> Result<Devices<SharedDisk<'f, T, N>>, Refusal> {
+        match lend_devices(self.files, self.waits, self.watch) {
             Ok(devices) => Ok(devices),
             Err(unserved) => Err(unserved.refusal()),
         }
@@ -40,29 +37,27 @@ type Slot<'t, D, P> = Mutex<Option<Client<'t, D, P>>>;
 
 /// What all clients of a target play by: the first, and those of the lanes.
 #[derive(Drop)]
-pub(crate) struct Hall<'t, 'f, 'a, 'w, T, P: Policy, R, N, L> {
+pub(crate) struct Hall<'t, 'f, 'a, T, P: Policy, N, L> {
     pub waits: &'t T,
     pub target: &'t Target<P>,
-    pub again: &'t Again<'f, 'a, 'w, R, N>,
+    pub lender: &'t Lender<'f, 'a, T, N>,
     pub lanes: &'t L,
 }
 
-impl<
+impl<'t, 'f, 'a, T: Threads + Wait + Sync, P: Policy + Send, N: Watch + Sync, L: Lanes + Sync> Hall<
     't,
     'f,
     'a,
-    'w,
-    T: Threads + Wait + Sync,
-    P: Policy + Send,
-    R: Files<File = File>,
-    N: Watch + Sync,
-    L: Lanes + Sync,
-> Hall<'t, 'f, 'a, 'w, T, P, R, N, L> {
+    T,
+    P,
+    N,
+    L,
+> {
     /// Has a client play, and others in lanes beside it; where a suspend is to come, all are taken back and the target is suspended.
     pub(crate) fn play<V: Play>(
         &self,
         alloc: Global,
-        devices: Devices<WatchedDisk<'w, N>>,
+        devices: Devices<SharedDisk<'f, T, N>>,
         play: &mut V,
     ) -> Result<(), Refusal> {
         let (waits, target) = (self.waits, self.target);
@@ -87,8 +82,8 @@ impl<
     /// Plays; all threads of lanes have ended then. Whether a suspend is to come.
     fn play_in_scope<V: Play>(
         &self,
-        client: &mut Client<'t, WatchedDisk<'w, N>, P>,
-        slots: &[Slot<'t, WatchedDisk<'w, N>, P>],
+        client: &mut Client<'t, SharedDisk<'f, T, N>, P>,
+        slots: &[Slot<'t, SharedDisk<'f, T, N>, P>],
         play: &mut V,
     ) -> bool {
         thread::scope(
@@ -108,8 +103,8 @@ impl<
     fn play_beside<'s, E, V: Play>(
         &self,
         scope: &Scope<'s, E>,
-        client: &mut Client<'t, WatchedDisk<'w, N>, P>,
-        slots: &'s [Slot<'t, WatchedDisk<'w, N>, P>],
+        client: &mut Client<'t, SharedDisk<'f, T, N>, P>,
+        slots: &'s [Slot<'t, SharedDisk<'f, T, N>, P>],
         play: &mut V,
     ) -> bool
     where
@@ -139,7 +134,7 @@ impl<
     fn begin<'s, E>(
         &self,
         scope: &Scope<'s, E>,
-        slots: &'s [Slot<'t, WatchedDisk<'w, N>, P>],
+        slots: &'s [Slot<'t, SharedDisk<'f, T, N>, P>],
         lane: usize,
     ) -> Result<bool, Refusal>
     where
@@ -149,7 +144,7 @@ impl<
             return Err(Refusal::Busy);
         };
         let (waits, target) = (self.waits, self.target);
-        let devices = self.again.open()?;
+        let devices = self.lender.lend()?;
         match target.client(waits, devices) {
             Ok(client) => {
                 *slot.lock(waits) = Some(client);

@@ -3,13 +3,17 @@
 
 mod client;
 mod difference;
+mod inspection;
+mod inspector;
 mod opening;
 mod play;
 mod served;
 mod unserved;
 
 pub use difference::Difference;
-pub use opening::{open_devices, open_named, open_target, open_unlocked};
+pub use inspection::{Inspection, Rigor};
+pub use inspector::{Inspector, Uninspected, Uninspecting};
+pub use opening::{lend_devices, open_files, open_inspected, open_named, open_target};
 pub use play::{LANES, Lanes, Next, Play};
 pub use served::{Served, Service, Shown};
 pub use unserved::Unserved;

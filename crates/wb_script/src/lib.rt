@@ -6,8 +6,12 @@ mod format;
 mod given_up;
 mod reason;
 mod script;
+mod sparse;
 
 pub use ended::{Ended, refused};
 pub use format::format_files;
-pub use given_up::{Consent, GivenUp};
+pub use given_up::{
+    Consent, Course, GivenUp, Notice, Overwriting, Overwritten, Wishes, choose_course,
+};
 pub use script::run;
+pub use sparse::SparseFile;

@@ -9,9 +9,9 @@ use std::sync::Wait;
 use std::thread::Threads;
 use std::time::Clock;
 use wb_dialogue::{Ahead, Progress};
-use wb_files::Watch;
+use wb_files::{Patience, Watch};
 use wb_lanes::serve_lanes;
-use wb_opened::Unserved;
+use wb_opened::{Inspector, Unserved};
 use wb_play::{Beside, Script};
 use wb_types::Refusal;
 
@@ -28,7 +28,9 @@ pub fn run<
     'a,
     R: Files<File = File>,
     T: Threads + Wait + Sync,
+    P: Patience,
     N: Watch + Sync,
+    K: Inspector,
     I: Ahead,
     W: Write,
     E: Clock + Eprint,
@@ -37,7 +39,9 @@ pub fn run<
     waits: &T,
     alloc: Global,
     table: &'a str,
+    patience: &mut P,
     watch: &N,
+    inspector: &mut K,
     reader: &mut I,
     writer: &mut W,
     progress: Progress<'_, E>,
@@ -48,7 +52,9 @@ pub fn run<
     let Ok(script) = Script::new(alloc, &beside, reader, &mut *writer, progress) else {
         return refused(alloc, Unserved::Refused(Refusal::Memory), writer);
     };
-    match serve_lanes(rt, waits, alloc, table, watch, &beside, script) {
+    match serve_lanes(
+        rt, waits, alloc, table, patience, watch, inspector, &beside, script,
+    ) {
         Ok(played) => end_of(played),
         Err(unserved) => refused(alloc, unserved, writer),
     }

@@ -10,23 +10,29 @@ use std::sync::Wait;
 use std::thread::Threads;
 use wb_devices::Devices;
 use wb_disk::Disk;
-use wb_files::{Patience, Unwatched, Watch, WatchedDisk};
-use wb_opened::{Service, Unserved, open_devices, open_named, open_target, open_unlocked};
+use wb_files::{OpenFiles, Patience, SharedDisk, Unwatched, Watch};
+use wb_opened::{
+    Inspector, Service, Unserved, lend_devices, open_files, open_inspected, open_named, open_target,
+};
 use wb_policy::Policy;
 use wb_table::{Table, by_policy};
 use wb_target::{Client, Errand, Returned, Sent, Target};
 use wb_types::Refusal;
 
-/// Opens the cache over the files of a table, in its mode and with its policy, and has several do their services beside one another, each by a client of its own with files of its own and on a
-/// thread of its own; where no thread can be made, one is done after the other, the last of them first. What each told, in order, or why
-/// it had no client, as many as there are services; then the target is suspended, which leaves the cache clean, or that is refused. Files that another program holds are
-/// waited for as long as there is patience.
+/// Opens the cache over the files of a table, in its mode and with its policy, and has several do their services beside one another, each by
+/// a client of its own on a thread of its own; where no thread can be made, one is done after the other, the last of them first. What each
+/// told, in order, or why it had no client, as many as there are services; then the target is suspended, which leaves the cache clean, or
+/// that is refused.
+///
+/// The files are opened once, locked, and lent to every client; files that another program holds are waited for as long as there is
+/// patience. The inspector looks at them before the opening of the cache writes anything, and may refuse it.
 pub fn serve_all<
     'a,
     R: Files<File = File>,
     T: Threads + Wait + Sync,
     P: Patience,
     N: Watch + Sync,
+    I: Inspector,
     S: Service + Send + Drop,
 >(
     rt: &R,
@@ -35,17 +41,19 @@ pub fn serve_all<
     table: &'a str,
     patience: &mut P,
     watch: &N,
+    inspector: &mut I,
     services: Vec<S>,
 ) -> Result<(Vec<Result<S::Told, Refusal>>, Result<(), Refusal>), Unserved<'a>>
     ensures many { IfOk result (λ both. vec_len both.0 ≡ vec_len services) }
 {
-    let (table, devices) = open_devices(rt, table, patience, watch)?;
-    let errands = errands_of(rt, alloc, &table, watch, services)?;
-    by_policy!(table.policy, serve_several[T, _, S](waits, alloc, devices, &table, errands))
+    let (table, files) = open_files(rt, table, patience)?;
+    let devices = lend_devices(&files, waits, watch)?;
+    let errands = errands_of(waits, alloc, &files, watch, services)?;
+    by_policy!(table.policy, serve_several[T, _, I, S](waits, alloc, devices, &table, inspector, errands))
 }
 
-/// Opens the cache over the files of a table that was read, has one client do a service, and then several, each with files of its
-/// own, theirs beside one another: what the first told, and each of the others in order, or why it had no client.
+/// Opens the cache over the files of a table that was read, has one client do a service, and then several theirs beside one another: what
+/// the first told, and each of the others in order, or why it had no client.
 pub fn serve_each<
     'a,
     R: Files<File = File>,
@@ -62,9 +70,9 @@ pub fn serve_each<
 ) -> Result<(F::Told, Vec<Result<S::Told, Refusal>>), Unserved<'a>>
     ensures many { IfOk result (λ both. vec_len both.1 ≡ vec_len services) }
 {
-    let watch = Unwatched::new();
-    let devices = open_named(rt, table, &watch)?;
-    let errands = errands_of(rt, alloc, table, &watch, services)?;
+    let files = open_named(rt, table)?;
+    let devices = lend_devices(&files, waits, &Unwatched)?;
+    let errands = errands_of(waits, alloc, &files, &Unwatched, services)?;
     by_policy!(table.policy, serve_one_and_several[T, _, F, S](waits, alloc, devices, table, first, errands))
 }
 
@@ -81,25 +89,28 @@ fn serve_by<T: Wait, D: Disk + Drop, P: Policy, S: Service + Drop>(
     }
 }
 
-/// Opens the cache of a table so on these devices, which are kept open as long, has clients do services beside one another, and suspends
-/// the target once all are back.
+/// Opens the cache of a table so on these devices, once an inspector has looked at them, has clients do services beside one another, and
+/// suspends the target once all are back.
 fn serve_several<
     'a,
     P: Policy + Send,
     T: Threads + Wait + Sync,
     D: Disk + Drop + Send,
+    I: Inspector,
     S: Service + Send + Drop,
 >(
     waits: &T,
     alloc: Global,
     devices: Devices<D>,
     table: &Table<'a>,
+    inspector: &mut I,
     errands: Vec<Sent<D, Doing<S>>>,
 ) -> Result<(Vec<Result<S::Told, Refusal>>, Result<(), Refusal>), Unserved<'a>>
     requires policy { P.name ≡ policy_name table.now.policy }
     ensures many { IfOk result (λ both. vec_len both.0 ≡ vec_len errands) }
 {
-    let (devices, target) = open_target::<P, D>(alloc, devices, table)?;
+    let (devices, opened) = open_inspected::<P, D, I>(alloc, devices, table, inspector);
+    let target = opened?;
     let told = beside_one_another(waits, alloc, &target, errands);
     let (devices, suspended) = target.suspend(waits, devices);
     drop(devices);
@@ -128,7 +139,8 @@ fn serve_one_and_several<
     requires policy { P.name ≡ policy_name table.now.policy }
     ensures many { IfOk result (λ both. vec_len both.1 ≡ vec_len errands) }
 {
-    let (devices, target) = open_target::<P, D>(alloc, devices, table)?;
+    let (devices, opened) = open_target::<P, D>(alloc, devices, table);
+    let target = opened?;
     let told = serve_by(waits, &target, devices, first).map_err(|refusal| Unserved::Refused(
         refusal,
     ))?;
@@ -183,14 +195,14 @@ fn sent<D, S>(devices: Devices<D>, service: S) -> Sent<D, Doing<S>> {
     }
 }
 
-/// An errand for each service, with files of its own.
-fn errands_of<'a, 'w, R: Files<File = File>, N: Watch, S: Service + Drop>(
-    rt: &R,
+/// An errand for each service, with devices over the files that are open.
+fn errands_of<'f, 'a, T: Wait, N: Watch, S: Service + Drop>(
+    waits: &'f T,
     alloc: Global,
-    table: &Table<'a>,
-    watch: &'w N,
+    files: &'f OpenFiles<'a>,
+    watch: &'f N,
     services: Vec<S>,
-) -> Result<Vec<Sent<WatchedDisk<'w, N>, Doing<S>>>, Unserved<'a>>
+) -> Result<Vec<Sent<SharedDisk<'f, T, N>, Doing<S>>>, Unserved<'a>>
     ensures many { IfOk result (λ errands. vec_len errands ≡ vec_len services) }
 {
     let mut errands = Vec::new(alloc);
@@ -198,7 +210,7 @@ fn errands_of<'a, 'w, R: Files<File = File>, N: Watch, S: Service + Drop>(
         if errands.reserve(1).is_err() {
             return Err(Unserved::Refused(Refusal::Memory));
         }
-        let devices = open_unlocked(rt, table, watch)?;
+        let devices = lend_devices(files, waits, watch)?;
         errands.push_reserved(sent(devices, service));
     }
     Ok(errands)

@@ -16,12 +16,13 @@ use Rattle.wb_tasks.specs.Plan.{Plan, table, want}
 use Rattle.wb_tasks.specs.Ready.{AreBelow, AreFirst, IsOwnStep, IsSuspends, Suits, left_by}
 use Rattle.wb_tasks.specs.Run.{IsRunOf, Leads}
 use Rattle.wb_tasks.specs.declared.step.Want.{Want}
-use Rattle.wb_tasks.specs.declared.step.Want.TheVariants.{Cell}
+use Rattle.wb_tasks.specs.declared.step.Want.TheVariants.{Cell, Desk}
 use Rattle.wb_tasks.specs.declared.step.Got.{Got}
 use Rattle.wb_tasks.specs.declared.step.Got.TheVariants.{Word, Began, Refused}
 use Rattle.wb_tasks.proofs.Readiness.{suspend_begins, is_ready, is_own_step}
 use Rattle.wb_devices.specs.declared.running.RunningCommit.{RunningCommit}
 use Rattle.wb_desk.specs.Desks.{DeskState}
+use Rattle.wb_cells.specs.Passes.{PassState}
 use Rattle.wb_tasks.specs.declared.step.DeskStep.{DeskStep}
 use Rattle.wb_tasks.specs.declared.step.DeskStep.TheVariants.{BeginCommit, EndCommit, BreakCommit}
 use Rattle.wb_stage.specs.declared.share.Share.TheVariants.{Nothing as Unshared}
@@ -37,8 +38,9 @@ use Rattle.wb_devices.specs.declared.devices.Devices.{Devices}
 use Rattle.wb_tasks.specs.declared.step.Answer.{Answer}
 use Rattle.wb_tasks.specs.declared.step.Answer.TheVariants.{Done as Finished}
 use Rattle.wb_target.specs.Carried.{AreSynced}
+use Rattle.wb_target.specs.Offices.{OfficeState}
 use Rattle.wb_target.proofs.Syncing.{suspended_synced}
-use Rattle.wb_target.specs.Suspends.{AskedWith, RanSuspend, WasSuspended, SuspendLed, SuspendStep, IsReadyToSuspend, suspending_at, mapped_block, mapped_blocks}
+use Rattle.wb_target.specs.Suspends.{AskedWith, DeskGoes, RanSuspend, WasSuspended, SuspendLed, SuspendStep, IsReadyToSuspend, suspending_at, mapped_block, mapped_blocks}
 use Rattle.wb_target.specs.declared.suspending.SuspendStage.{SuspendStage}
 
 -- its steps on the words take and let go no block
@@ -99,6 +101,17 @@ module _ {P : Type 0} (hint_of : P → ℕ → ℕ) (with_entry : P → ℕ → 
       by (inl is) = rw is (old, (new, subst (λ (x : DeskStep). DidAsk with_entry without_entry [] x Unshared got old commit new commit') is did))
       by (inr is) = rw is (old, (new, subst (λ (x : DeskStep). DidAsk with_entry without_entry [] x Unshared got old commit new commit') is did))
 
+module _ {P : Type 0} (hint_of : P → ℕ → ℕ) (with_entry : P → ℕ → ℕ → P) (without_entry : P → ℕ → P) where
+  -- and so the desk goes
+  pub begun_goes : (seen : List Bool) (step : DeskStep) (most : ℕ) (got : Got) (old new : DeskState P) (commit commit' : Option RunningCommit) → step ≡ BeginCommit most
+      → DidBeginWith hint_of seen most got old commit new commit' → DeskGoes hint_of with_entry without_entry seen (Desk step) got old commit new commit'
+  begun_goes seen step most got old new commit commit' is did = rw is did
+
+  pub ended_goes : (seen : List Bool) (step : DeskStep) (got : Got) (old new : DeskState P) (commit commit' : Option RunningCommit) → (step ≡ EndCommit) ⊎ (step ≡ BreakCommit)
+      → DidAsk with_entry without_entry [] step Unshared got old commit new commit' → DeskGoes hint_of with_entry without_entry seen (Desk step) got old commit new commit'
+  ended_goes seen step got old new commit commit' (inl is) did = rw is (subst (λ (x : DeskStep). DidAsk with_entry without_entry [] x Unshared got old commit new commit') is did)
+  ended_goes seen step got old new commit commit' (inr is) did = rw is (subst (λ (x : DeskStep). DidAsk with_entry without_entry [] x Unshared got old commit new commit') is did)
+
 module _ {D P : Type 0} (tells : Type 0) (size : D → ℕ) (contents : D → List History) (faults : D → ℕ) (hint_of : P → ℕ → ℕ) (with_entry : P → ℕ → ℕ → P) (without_entry : P → ℕ → P) where
   abbrev led : SuspendStage D P → Want → Got → SuspendStage D P → Type 0
   led = SuspendLed tells size contents faults hint_of with_entry without_entry
@@ -145,21 +158,25 @@ module _ {D P : Type 0} (tells : Type 0) (size : D → ℕ) (contents : D → Li
     plainly count l.0 steps new (ap (λ g. g.origin_blocks) l.1.words ∙ is) l.2,
   )
 
-  pub ran : (plan : Plan) (answer : Answer) (old new : SuspendStage D P) → (steps : List (Want × Got)) × IsRunOf plan steps answer × Leads led old steps new → (bits : List Bool) (devices : Devices D) (count : ℕ) → old.devices.now ≡ devices → old.seen.now ≡ bits → old.commit.now ≡ None → old.watch.now.geometry.origin_blocks ≡ count
-      → RanSuspend tells size contents faults hint_of with_entry without_entry count plan bits devices answer new.devices.now
-  ran plan answer old new run bits devices count over unseen unbegun words = record { first = suspending_at old; last = suspending_at new; over = over; unseen = unseen; unbegun = unbegun; steps = run.0; run = run.1; leads = plainly count old run.0 new words run.2; back_is = refl }
+  pub ran : (pass : PassState) (desk : DeskState P) (plan : Plan) (answer : Answer) (old new : SuspendStage D P) → old.watch.now.pass ≡ pass → old.desk.now ≡ desk → (steps : List (Want × Got)) × IsRunOf plan steps answer × Leads led old steps new → (bits : List Bool) (devices : Devices D) (count : ℕ) → old.devices.now ≡ devices → old.seen.now ≡ bits → old.commit.now ≡ None → old.watch.now.geometry.origin_blocks ≡ count
+      → RanSuspend pass desk tells size contents faults hint_of with_entry without_entry count plan bits devices answer new.devices.now
+  ran pass desk plan answer old new by_pass on_desk run bits devices count over unseen unbegun words = record { first = suspending_at old; last = suspending_at new; by_pass = by_pass; on_desk = on_desk; over = over; unseen = unseen; unbegun = unbegun; steps = run.0; run = run.1; leads = plainly count old run.0 new words run.2; back_is = refl }
 
-  pub was : (desk : DeskState P) (count most : ℕ) (plan : Plan) (bits : List Bool) (devices : Devices D) (answer answer' : Answer) (back : Devices D) → RanSuspend tells size contents faults hint_of with_entry without_entry count plan bits devices answer back
-      → plan ≡ table (Suspending (mapped_blocks desk.tree desk.geometry.cache_blocks) most) → bits ≡ replicate desk.geometry.cache_blocks false → answer ≡ answer' → WasSuspended tells size contents faults hint_of with_entry without_entry devices answer' back
-  was desk count most plan bits devices answer answer' back ran is unseen ends = record {
-    desk = desk;
+  pub was : (pass : PassState) (desk : DeskState P) (count most : ℕ) (plan : Plan) (bits : List Bool) (devices : Devices D) (answer answer' : Answer) (back : Devices D) → RanSuspend pass desk tells size contents faults hint_of with_entry without_entry count plan bits devices answer back
+      → plan ≡ table (Suspending (mapped_blocks desk.tree desk.geometry.cache_blocks) most) → bits ≡ replicate desk.geometry.cache_blocks false → answer ≡ answer' → WasSuspended pass desk tells size contents faults hint_of with_entry without_entry devices answer' back
+  was pass desk count most plan bits devices answer answer' back ran is unseen ends = record {
     count = count;
     most = most;
-    ran = subst (λ (a : Answer). RanSuspend tells size contents faults hint_of with_entry without_entry count (table (Suspending (mapped_blocks desk.tree desk.geometry.cache_blocks) most)) (replicate desk.geometry.cache_blocks false) devices a back) ends
-        (subst (λ (b : List Bool). RanSuspend tells size contents faults hint_of with_entry without_entry count (table (Suspending (mapped_blocks desk.tree desk.geometry.cache_blocks) most)) b devices answer back) unseen
-        (subst (λ (p : Plan). RanSuspend tells size contents faults hint_of with_entry without_entry count p bits devices answer back) is ran));
+    ran = subst (λ (a : Answer). RanSuspend pass desk tells size contents faults hint_of with_entry without_entry count (table (Suspending (mapped_blocks desk.tree desk.geometry.cache_blocks) most)) (replicate desk.geometry.cache_blocks false) devices a back) ends
+        (subst (λ (b : List Bool). RanSuspend pass desk tells size contents faults hint_of with_entry without_entry count (table (Suspending (mapped_blocks desk.tree desk.geometry.cache_blocks) most)) b devices answer back) unseen
+        (subst (λ (p : Plan). RanSuspend pass desk tells size contents faults hint_of with_entry without_entry count p bits devices answer back) is ran));
   }
 
-  pub synced_then : (devices back : Devices D) (told : tells) → WasSuspended tells size contents faults hint_of with_entry without_entry devices Finished back → AreSynced contents back
-  synced_then devices back told h =
-      subst (λ (ds : Devices D). AreSynced contents ds) (sym h.ran.back_is) (suspended_synced tells size contents faults hint_of with_entry without_entry h.count told (mapped_blocks h.desk.tree h.desk.geometry.cache_blocks) h.most h.ran.steps h.ran.first h.ran.last h.ran.run h.ran.leads)
+  -- what was so of an office is so of it as it is seen
+  pub as_seen : {devices back : Devices D} {answer : Answer} (inside seen : OfficeState P) → inside ≡ seen → WasSuspended inside.watch.pass inside.desk tells size contents faults hint_of with_entry without_entry devices answer back
+      → WasSuspended seen.watch.pass seen.desk tells size contents faults hint_of with_entry without_entry devices answer back
+  as_seen {devices} {back} {answer} inside seen is h = subst (λ (o : OfficeState P). WasSuspended o.watch.pass o.desk tells size contents faults hint_of with_entry without_entry devices answer back) is h
+
+  pub synced_then : (pass : PassState) (desk : DeskState P) (devices back : Devices D) (told : tells) → WasSuspended pass desk tells size contents faults hint_of with_entry without_entry devices Finished back → AreSynced contents back
+  synced_then pass desk devices back told h =
+      subst (λ (ds : Devices D). AreSynced contents ds) (sym h.ran.back_is) (suspended_synced tells size contents faults hint_of with_entry without_entry h.count told (mapped_blocks desk.tree desk.geometry.cache_blocks) h.most h.ran.steps h.ran.first h.ran.last h.ran.run h.ran.leads)

@@ -336,7 +336,7 @@ synced_after tells size contents faults with_entry without_entry held blocks ser
 -- ---- a suspend
 
 module _ {D P : Type 0} (tells : Type 0) (size : D → ℕ) (contents : D → List History) (faults : D → ℕ) (hint_of : P → ℕ → ℕ) (with_entry : P → ℕ → ℕ → P) (without_entry : P → ℕ → P) (count : ℕ) (told : tells) (all : List OBlock) (most : ℕ) where
-  abbrev suspends : SuspendState D → Want → Got → SuspendState D → Type 0
+  abbrev suspends : SuspendState D P → Want → Got → SuspendState D P → Type 0
   suspends = SuspendStep tells size contents faults hint_of with_entry without_entry count
 
   abbrev suspending : List Want → Plan
@@ -356,7 +356,7 @@ module _ {D P : Type 0} (tells : Type 0) (size : D → ℕ) (contents : D → Li
   unfailed ws g rest f r = looked tells size contents faults (λ s. AskedWith hint_of with_entry without_entry s.seen) (λ s. s.devices) (λ s. s.buffer) (λ s. s.commit) suspends (λ s w g t h. h.2) (Suspending all most) (λ step. refl) ws g rest f r
 
   -- the looks at the seals lead on
-  seals : (blocks : List OBlock) (steps : List (Want × Got)) (old new : SuspendState D) → IsRunOf (suspending (seal_looks blocks ++ begin ∷ [])) steps Finished → Leads suspends old steps new → AreSynced contents new.devices
+  seals : (blocks : List OBlock) (steps : List (Want × Got)) (old new : SuspendState D P) → IsRunOf (suspending (seal_looks blocks ++ begin ∷ [])) steps Finished → Leads suspends old steps new → AreSynced contents new.devices
   seals blocks [] old new r l = absurd (no_end blocks r)
     where
       no_end : (blocks : List OBlock) → IsRunOf (suspending (seal_looks blocks ++ begin ∷ [])) [] Finished → ⊥
@@ -372,6 +372,6 @@ module _ {D P : Type 0} (tells : Type 0) (size : D → ℕ) (contents : D → Li
       on (Word seal) f r = r
       on g f r = absurd f
 
-  pub suspended_synced : (steps : List (Want × Got)) (old new : SuspendState D) → IsRunOf (table (Suspending all most)) steps Finished → Leads suspends old steps new → AreSynced contents new.devices
+  pub suspended_synced : (steps : List (Want × Got)) (old new : SuspendState D P) → IsRunOf (table (Suspending all most)) steps Finished → Leads suspends old steps new → AreSynced contents new.devices
   suspended_synced [] old new r l = absurd (cc)
   suspended_synced (one ∷ steps) old new r l = seals all steps l.0 new (unfailed (seal_looks all ++ begin ∷ []) one.1 steps (subst (λ (w : Want). Fits w one.1) r.0 r.1) r.2) l.2

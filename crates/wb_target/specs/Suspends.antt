@@ -15,6 +15,7 @@ use Rattle.wb_tasks.specs.declared.step.Answer.{Answer}
 use Rattle.wb_tasks.specs.declared.step.Answer.TheVariants.{Refused as Refuses}
 use Rattle.wb_tasks.specs.declared.step.DeskStep.TheVariants.{BeginCommit}
 use Rattle.wb_tasks.specs.declared.step.Want.{Want}
+use Rattle.wb_tasks.specs.declared.step.Want.TheVariants.{Desk}
 use Rattle.wb_tasks.specs.declared.step.Got.{Got}
 use Rattle.wb_devices.specs.declared.devices.Devices.{Devices}
 use Rattle.wb_devices.specs.declared.running.RunningCommit.{RunningCommit}
@@ -42,25 +43,33 @@ abbrev pub AskedWith : {P : Type 0} → (P → ℕ → ℕ) → (P → ℕ → �
 AskedWith {P} hint_of with_entry without_entry seen (BeginCommit most) got commit commit' = (old : DeskState P) × ((new : DeskState P) × DidBeginWith hint_of seen most got old commit new commit')
 AskedWith {P} hint_of with_entry without_entry seen step got commit commit' = (old : DeskState P) × ((new : DeskState P) × DidAsk with_entry without_entry [] step Unshared got old commit new commit')
 
--- What a suspend is at: its pass, the devices that it was lent, the commit that it runs, and for each cache block whether its copy was
--- seen dirty.
-pub record SuspendState (D : Type 0) : Type 0 where
+-- What a suspend is at: its pass, the desk, the devices that it was lent, the commit that it runs, and for each cache block whether its copy
+-- was seen dirty.
+pub record SuspendState (D P : Type 0) : Type 0 where
   pub pass : PassState
+  pub desk : DeskState P
   pub devices : Devices D
   pub buffer : List Bytes
   pub commit : Option RunningCommit
   pub seen : List Bool
 
+-- What a step does to the desk: one on it what its call does, where a commit begins with the dirty bits that were seen; no other step changes it.
+abbrev pub DeskGoes : {P : Type 0} → (P → ℕ → ℕ) → (P → ℕ → ℕ → P) → (P → ℕ → P) → List Bool → Want → Got → DeskState P → Option RunningCommit → DeskState P → Option RunningCommit → Type 0
+DeskGoes hint_of with_entry without_entry seen (Desk (BeginCommit most)) got d commit d' commit' = DidBeginWith hint_of seen most got d commit d' commit'
+DeskGoes hint_of with_entry without_entry seen (Desk step) got d commit d' commit' = DidAsk with_entry without_entry [] step Unshared got d commit d' commit'
+DeskGoes hint_of with_entry without_entry seen want got d commit d' commit' = d' ≡ d
+
 -- what a step of it does, on words of so many blocks
-abbrev pub SuspendStep : {D P : Type 0} → Type 0 → (D → ℕ) → (D → List History) → (D → ℕ) → (P → ℕ → ℕ) → (P → ℕ → ℕ → P) → (P → ℕ → P) → ℕ → SuspendState D → Want → Got → SuspendState D → Type 0
+abbrev pub SuspendStep : {D P : Type 0} → Type 0 → (D → ℕ) → (D → List History) → (D → ℕ) → (P → ℕ → ℕ) → (P → ℕ → ℕ → P) → (P → ℕ → P) → ℕ → SuspendState D P → Want → Got → SuspendState D P → Type 0
 SuspendStep tells size contents faults hint_of with_entry without_entry count s want got t =
     DoneByPass count s.pass want got t.pass
     × (t.seen ≡ seen_after want got s.seen)
     × WorksOn tells size contents faults (AskedWith hint_of with_entry without_entry s.seen) s.devices s.buffer s.commit want got t.devices t.buffer t.commit
+    × DeskGoes hint_of with_entry without_entry s.seen want got s.desk s.commit t.desk t.commit
 
 -- where a stage stands
-abbrev pub suspending_at : {D P : Type 0} → SuspendStage D P → SuspendState D
-suspending_at stage = record { pass = stage.watch.now.pass; devices = stage.devices.now; buffer = stage.buffer.now; commit = stage.commit.now; seen = stage.seen.now }
+abbrev pub suspending_at : {D P : Type 0} → SuspendStage D P → SuspendState D P
+suspending_at stage = record { pass = stage.watch.now.pass; desk = stage.desk.now; devices = stage.devices.now; buffer = stage.buffer.now; commit = stage.commit.now; seen = stage.seen.now }
 
 -- It serves the steps of a suspend, and no others, with a bit for each cache block.
 abbrev pub IsReadyToSuspend : {D P : Type 0} → SuspendStage D P → Want → Type 0
@@ -77,11 +86,13 @@ pub record SuspendLed {D P : Type 0} (tells : Type 0) (size : D → ℕ) (conten
   pub cache : new.desk.now.geometry ≡ old.desk.now.geometry
   pub did : SuspendStep tells size contents faults hint_of with_entry without_entry old.watch.now.geometry.origin_blocks (suspending_at old) want got (suspending_at new)
 
--- Over these devices what a suspend was to do was run up to this answer, with these bits before the first step and no commit. What its devices
--- are then is handed back.
-pub record RanSuspend {D P : Type 0} (tells : Type 0) (size : D → ℕ) (contents : D → List History) (faults : D → ℕ) (hint_of : P → ℕ → ℕ) (with_entry : P → ℕ → ℕ → P) (without_entry : P → ℕ → P) (count : ℕ) (plan : Plan) (bits : List Bool) (devices : Devices D) (answer : Answer) (back : Devices D) : Type 0 where
-  pub first : SuspendState D
-  pub last : SuspendState D
+-- Over these devices what a suspend was to do was run up to this answer, by this pass, on this desk, with these bits before the first step and no
+-- commit. What its devices are then is handed back.
+pub record RanSuspend {D P : Type 0} (pass : PassState) (desk : DeskState P) (tells : Type 0) (size : D → ℕ) (contents : D → List History) (faults : D → ℕ) (hint_of : P → ℕ → ℕ) (with_entry : P → ℕ → ℕ → P) (without_entry : P → ℕ → P) (count : ℕ) (plan : Plan) (bits : List Bool) (devices : Devices D) (answer : Answer) (back : Devices D) : Type 0 where
+  pub first : SuspendState D P
+  pub last : SuspendState D P
+  pub by_pass : first.pass ≡ pass
+  pub on_desk : first.desk ≡ desk
   pub over : first.devices ≡ devices
   pub unseen : first.seen ≡ bits
   pub unbegun : first.commit ≡ None
@@ -90,16 +101,15 @@ pub record RanSuspend {D P : Type 0} (tells : Type 0) (size : D → ℕ) (conten
   pub leads : Leads (SuspendStep tells size contents faults hint_of with_entry without_entry count) first steps last
   pub back_is : back ≡ last.devices
 
--- It was a suspend, which looks at the seals of all blocks that some desk maps, and has seen no bit before.
-pub record WasSuspended {D P : Type 0} (tells : Type 0) (size : D → ℕ) (contents : D → List History) (faults : D → ℕ) (hint_of : P → ℕ → ℕ) (with_entry : P → ℕ → ℕ → P) (without_entry : P → ℕ → P) (devices : Devices D) (answer : Answer) (back : Devices D) : Type 0 where
-  pub desk : DeskState P
+-- It was a suspend by this pass, which looks at the seals of all blocks that this desk maps, and has seen no bit before.
+pub record WasSuspended {D P : Type 0} (pass : PassState) (desk : DeskState P) (tells : Type 0) (size : D → ℕ) (contents : D → List History) (faults : D → ℕ) (hint_of : P → ℕ → ℕ) (with_entry : P → ℕ → ℕ → P) (without_entry : P → ℕ → P) (devices : Devices D) (answer : Answer) (back : Devices D) : Type 0 where
   pub count : ℕ
   pub most : ℕ
-  pub ran : RanSuspend tells size contents faults hint_of with_entry without_entry count (table (Suspending (mapped_blocks desk.tree desk.geometry.cache_blocks) most)) (replicate desk.geometry.cache_blocks false) devices answer back
+  pub ran : RanSuspend pass desk tells size contents faults hint_of with_entry without_entry count (table (Suspending (mapped_blocks desk.tree desk.geometry.cache_blocks) most)) (replicate desk.geometry.cache_blocks false) devices answer back
 
 -- A client was out, where that is so, or there was no memory to begin, and nothing was done; or a suspend was run that was refused so.
-abbrev pub SuspendRefused : {D P : Type 0} → Type 0 → Type 0 → (D → ℕ) → (D → List History) → (D → ℕ) → (P → ℕ → ℕ) → (P → ℕ → ℕ → P) → (P → ℕ → P) → Devices D → Refusal → Devices D → Type 0
-SuspendRefused client_out tells size contents faults hint_of with_entry without_entry devices refusal back =
+abbrev pub SuspendRefused : {D P : Type 0} → PassState → DeskState P → Type 0 → Type 0 → (D → ℕ) → (D → List History) → (D → ℕ) → (P → ℕ → ℕ) → (P → ℕ → ℕ → P) → (P → ℕ → P) → Devices D → Refusal → Devices D → Type 0
+SuspendRefused pass desk client_out tells size contents faults hint_of with_entry without_entry devices refusal back =
     ((refusal ≡ Busy) × client_out × (back ≡ devices))
     ⊎ ((refusal ≡ Memory) × (back ≡ devices))
-    ⊎ WasSuspended tells size contents faults hint_of with_entry without_entry devices (Refuses refusal) back
+    ⊎ WasSuspended pass desk tells size contents faults hint_of with_entry without_entry devices (Refuses refusal) back

@@ -13,7 +13,7 @@ ghost use Rattle.wb_port.specs.Hands.{DoneByPass};
 ghost use Rattle.wb_stage.specs.Seen.{seen_after};
 ghost use Rattle.wb_stage.specs.Stages.{DidBeginWith};
 ghost use Rattle.wb_target.specs.Works.{WorksOn};
-ghost use Rattle.wb_target.specs.Suspends.{AskedWith, IsReadyToSuspend, SuspendLed, RanSuspend, WasSuspended, SuspendRefused, mapped_blocks};
+ghost use Rattle.wb_target.specs.Suspends.{AskedWith, DeskGoes, IsReadyToSuspend, SuspendLed, RanSuspend, WasSuspended, SuspendRefused, mapped_blocks};
 ghost use Rattle.wb_target.specs.declared.target.TheConstants.{CLIENTS as MostClients};
 
 use crate::office::{Office, see_desk};
@@ -56,7 +56,7 @@ impl<'a, D: Disk, P: Policy> SuspendStage<'a, D, P> {
         ensures same_devices { self.new.devices.ghost_name ≡ self.old.devices.ghost_name }
         ensures words { self.new.watch.now.geometry ≡ self.old.watch.now.geometry }
         ensures cache { self.new.desk.now.geometry ≡ self.old.desk.now.geometry }
-        ensures ran { RanSuspend D.tells D.size D.contents D.faults P.hint_of P.with_entry P.without_entry self.old.watch.now.geometry.origin_blocks (T.plan task.old) self.old.seen.now self.old.devices.now result self.new.devices.now }
+        ensures ran { RanSuspend self.old.watch.now.pass self.old.desk.now D.tells D.size D.contents D.faults P.hint_of P.with_entry P.without_entry self.old.watch.now.geometry.origin_blocks (T.plan task.old) self.old.seen.now self.old.devices.now result self.new.devices.now }
     {
         drive(task, self)
     }
@@ -111,6 +111,7 @@ impl<'a, D: Disk, P: Policy> SuspendStage<'a, D, P> {
         ensures buffer { self.new.buffer.now ≡ self.old.buffer.now }
         ensures seen { self.new.seen.now ≡ self.old.seen.now }
         ensures works { WorksOn D.tells D.size D.contents D.faults (AskedWith P.hint_of P.with_entry P.without_entry self.old.seen.now) self.old.devices.now self.old.buffer.now self.old.commit.now (AskDesk step) result self.new.devices.now self.new.buffer.now self.new.commit.now }
+        ensures goes { DeskGoes P.hint_of P.with_entry P.without_entry self.old.seen.now (AskDesk step) result self.old.desk.now self.old.commit.now self.new.desk.now self.new.commit.now }
     {
         match step {
             DeskStep::BeginCommit(most) => {
@@ -178,9 +179,9 @@ impl<P: Policy> Office<P> {
         alloc: Global,
         devices: Devices<D>,
     ) -> (Devices<D>, Result<(), Refusal>)
-        ensures suspended { OnOk result.1 (WasSuspended D.tells D.size D.contents D.faults P.hint_of P.with_entry P.without_entry devices Answer.Done result.0) }
+        ensures suspended { OnOk result.1 (WasSuspended self.old.watch.pass self.old.desk D.tells D.size D.contents D.faults P.hint_of P.with_entry P.without_entry devices Answer.Done result.0) }
         ensures clients { length self.old.seats < MostClients → (result.1 ≡ Err Refusal.Busy) × (result.0 ≡ devices) }
-        ensures refused { IfErr result.1 (λ refusal. SuspendRefused (length self.old.seats < MostClients) D.tells D.size D.contents D.faults P.hint_of P.with_entry P.without_entry devices refusal result.0) }
+        ensures refused { IfErr result.1 (λ refusal. SuspendRefused self.old.watch.pass self.old.desk (length self.old.seats < MostClients) D.tells D.size D.contents D.faults P.hint_of P.with_entry P.without_entry devices refusal result.0) }
     {
         if self.seats.len() < CLIENTS {
             return (devices, Err(Refusal::Busy));
@@ -240,7 +241,7 @@ fn run_suspend<'a, D: Disk, P: Policy, T: Task>(
     requires begun { (all : List OBlockValue) × (most : ℕ) × (T.plan task.old ≡ table (Suspending all most)) × AreBelow watch.old.geometry.origin_blocks all }
     requires bits { length bits.old ≡ desk.old.geometry.cache_blocks }
     requires unbegun { commit.old ≡ None }
-    ensures ran { RanSuspend D.tells D.size D.contents D.faults P.hint_of P.with_entry P.without_entry watch.old.geometry.origin_blocks (T.plan task.old) bits.old devices.old result devices.new }
+    ensures ran { RanSuspend watch.old.pass desk.old D.tells D.size D.contents D.faults P.hint_of P.with_entry P.without_entry watch.old.geometry.origin_blocks (T.plan task.old) bits.old devices.old result devices.new }
     ensures geometry { (watch.new.geometry ≡ watch.old.geometry) × (desk.new.geometry ≡ desk.old.geometry) }
 {
     let mut stage = SuspendStage {

@@ -139,10 +139,10 @@ impl<P: Policy> Target<P> {
         rt: &R,
         devices: Devices<D>,
     ) -> (Devices<D>, Result<(), Refusal>)
-        ensures suspended { OnOk result.1 (WasSuspended D.tells D.size D.contents D.faults P.hint_of P.with_entry P.without_entry devices Answer.Done result.0) }
+        ensures suspended { (office : OfficeValue P) × OnOk result.1 (WasSuspended office.watch.pass office.desk D.tells D.size D.contents D.faults P.hint_of P.with_entry P.without_entry devices Answer.Done result.0) }
         ensures synced { OnOk result.1 (D.tells → AreSynced D.contents result.0) }
         ensures clients { (office : OfficeValue P) × (length office.seats < MostClients → (result.1 ≡ Err Refusal.Busy) × (result.0 ≡ devices)) }
-        ensures refused { (office : OfficeValue P) × IfErr result.1 (λ refusal. SuspendRefused (length office.seats < MostClients) D.tells D.size D.contents D.faults P.hint_of P.with_entry P.without_entry devices refusal result.0) }
+        ensures refused { (office : OfficeValue P) × IfErr result.1 (λ refusal. SuspendRefused office.watch.pass office.desk (length office.seats < MostClients) D.tells D.size D.contents D.faults P.hint_of P.with_entry P.without_entry devices refusal result.0) }
     {
         self.office.lock(rt).suspend(self.alloc, devices)
     }

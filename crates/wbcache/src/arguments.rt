@@ -3,56 +3,108 @@
 use crate::help::{ABOUT, REPLAYS};
 use clap::ArgMatches;
 use wb_arguments::{FromWords, Named, NoTask, Program, Subcommand};
+use wb_script::Wishes;
 
 /// What is asked of who calls the program otherwise.
-pub const USAGE: &str = "usage: wbcache format TABLE | run TABLE | replay";
+pub const USAGE: &str = "usage: wbcache format [--force] [--careful] TABLE | run TABLE | replay";
 
 /// What the program is asked to do.
 #[derive(Clone, Copy)]
 pub enum Task<'a> {
-    /// To format the metadata over the files of a table, and whether that is wanted also where blocks are given up.
-    Format(&'a str, bool),
-    /// To run a script over the files of a table.
-    Run(&'a str),
+    /// To format the metadata over the files of a table, with these wishes.
+    Format(&'a str, Wishes),
+    /// To run a script over the files of a table; whether blocks of a clean cache are compared with the origin first.
+    Run(&'a str, bool),
     /// To play a replay, in memory.
     Replay,
 }
 
-/// That, and whether reasons are to be told.
+/// How many seconds files that another program holds are waited for, where that is not said.
+const WAIT: u32 = 1;
+
+/// That, and how it is done.
 #[derive(Clone, Copy)]
 pub struct Asked<'a> {
     pub task: Task<'a>,
     pub verbose: bool,
+    /// The seconds that files which another program holds are waited for.
+    pub wait: u32,
 }
 
 impl<'a> FromWords<'a> for Asked<'a> {
     fn from_words(given: &ArgMatches<'a>) -> Option<Asked<'a>> {
         let (name, given) = given.subcommand()?;
         let task = match name {
-            "format" => Task::Format(given.get_str("TABLE")?, given.get_flag("yes")),
-            "run" => Task::Run(given.get_str("TABLE")?),
+            "format" => Task::Format(given.get_str("TABLE")?, wishes(given)),
+            "run" => Task::Run(given.get_str("TABLE")?, !given.get_flag("no-verify")),
             "replay" => Task::Replay,
             _ => return None,
+        };
+        let wait = match given.get_str("wait") {
+            Some(seconds) => seconds.parse().ok()?,
+            None => WAIT,
         };
         Some(Asked {
             task,
             verbose: given.get_flag("verbose"),
+            wait,
         })
+    }
+}
+
+/// What is wished of a formatting.
+fn wishes(given: &ArgMatches<'_>) -> Wishes {
+    Wishes {
+        force: given.get_flag("force"),
+        yes: given.get_flag("yes"),
+        careful: given.get_flag("careful"),
     }
 }
 
 const VERBOSE: Named = Named {
     name: "verbose",
     short: Some('v'),
-    help: "Say on standard error what was opened, how far a long request has come, and why something was refused",
+    help: "Say on standard error what was opened, and how far a long request has come",
     takes_value: false,
     is_global: true,
+};
+
+const WAITS: Named = Named {
+    name: "wait",
+    short: None,
+    help: "Seconds to wait for files that another program holds [default: 1]",
+    takes_value: true,
+    is_global: true,
+};
+
+const NO_VERIFY: Named = Named {
+    name: "no-verify",
+    short: None,
+    help: "Compare no blocks of a clean cache with the origin first",
+    takes_value: false,
+    is_global: false,
 };
 
 const YES: Named = Named {
     name: "yes",
     short: None,
-    help: "Do not ask, on a terminal, before blocks that are cached are given up",
+    help: "Do not ask, on a terminal, before what the metadata file holds is given up",
+    takes_value: false,
+    is_global: false,
+};
+
+const FORCE: Named = Named {
+    name: "force",
+    short: None,
+    help: "Do not ask, and format also a metadata file that holds something else, or cannot be read",
+    takes_value: false,
+    is_global: false,
+};
+
+const CAREFUL: Named = Named {
+    name: "careful",
+    short: None,
+    help: "Where nobody can be asked, do not give up a cache with a block that is not on the origin",
     takes_value: false,
     is_global: false,
 };
@@ -62,7 +114,7 @@ const FORMAT: Subcommand = Subcommand {
     about: "Make the metadata those of an empty cache",
     texts: None,
     takes_table: true,
-    options: &[&YES],
+    options: &[&YES, &FORCE, &CAREFUL],
 };
 
 const RUN: Subcommand = Subcommand {
@@ -70,7 +122,7 @@ const RUN: Subcommand = Subcommand {
     about: "Run a script over the files",
     texts: None,
     takes_table: true,
-    options: &[],
+    options: &[&NO_VERIFY],
 };
 
 const REPLAY: Subcommand = Subcommand {
@@ -87,7 +139,7 @@ const PROGRAM: Program = Program {
     about: ABOUT,
     texts: "",
     usage: USAGE,
-    options: &[&VERBOSE],
+    options: &[&VERBOSE, &WAITS],
     subcommands: &[&FORMAT, &RUN, &REPLAY],
 };
 

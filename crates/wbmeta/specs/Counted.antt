@@ -1,8 +1,9 @@
 -- What an opening finds and counts.
-use Rattle.std.specs.Prelude.{◌≡◌, ℕ, Bool, true, false, List, Option, Some, None, is_some, count_by}
+use Rattle.std.specs.Prelude.{◌≡◌, ◌<◌, ◌≤◌, ◌^◌, ℕ, Bool, true, false, List, Option, Some, None, IfSome, is_some, count_by}
 use Rattle.wb_types.specs.declared.entry.Entry.{Entry}
 use Rattle.wb_types.specs.declared.number.Place.{Place}
 use Rattle.wb_types.specs.declared.geometry.Geometry.{Geometry}
+use Rattle.wb_table.specs.declared.table.Keys.{Keys}
 use Rattle.wb_disk.specs.Device.{Content}
 use Rattle.wb_format.specs.declared.root.Root.{Root}
 use Rattle.wb_tree.specs.Mapping.{Mapping}
@@ -33,3 +34,8 @@ counts_as_dirty false (Some entry) = true
 pub record AreCounted (clean : Bool) (entries : List (Option Entry)) (mapped dirty : ℕ) : Type 0 where
   pub mapped_is : mapped ≡ count_by is_some entries
   pub dirty_is : dirty ≡ count_by (counts_as_dirty clean) entries
+
+-- each key that is given has a value that it can have
+pub record AreInRange (keys : Keys) : Type 0 where
+  pub threshold : IfSome keys.migration_threshold (λ value. value < 2 ^ 32)
+  pub least : IfSome keys.promote_min (λ value. (1 ≤ value) × (value ≤ 17))

@@ -1,1 +1,3 @@
+pub mod Comparing
 pub mod Counted
+pub mod Ending

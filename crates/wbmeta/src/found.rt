@@ -1,15 +1,18 @@
 //! What an opening would find.
 
-ghost use Rattle.std.specs.Prelude.{◌≡◌, length, map, is_some, count_by, IfOk};
+ghost use Rattle.std.specs.Bool.{OnTrue};
+ghost use Rattle.std.specs.Prelude.{◌≡◌, ◌<◌, ◌≤◌, ◌^◌, length, map, is_some, count_by, IfOk, IfSome, OnOk};
 ghost use Rattle.wb_disk.specs.Device.{newest};
 ghost use Rattle.wb_devices.specs.Clean.{entries_of};
-ghost use Rattle.wbmeta.specs.Counted.{AreCounted, IsFound, counts_as_dirty};
+ghost use Rattle.wbmeta.specs.Counted.{AreCounted, AreInRange, IsFound, counts_as_dirty};
 
 use std::alloc::{AllocError, Global};
 use wb_devices::{are_same_sizes, stored_entry};
 use wb_disk::Disk;
+use wb_format::Root;
 use wb_meta::{ReadSteps, State, read_state};
-use wb_types::{CBlock, Entry, Geometry, Mode, Refusal};
+use wb_table::Keys;
+use wb_types::{CBlock, Entry, Geometry, Mode, Refusal, Version};
 
 /// What a metadata device stands for: its newest root's generation and clean flag, and the entry of each cache block.
 #[derive(Drop)]
@@ -56,14 +59,65 @@ pub fn read_metadata<D: Disk>(
     })
 }
 
+/// How often metadata that may change meanwhile are read.
+const TRIES: u32 = 10;
+
+/// Reads what a metadata device stands for, which another program may change meanwhile: again where that is refused, or where another root is
+/// the newest behind it, up to ten times. Refused as the last time.
+pub fn read_moving<D: Disk>(
+    alloc: Global,
+    geometry: &Geometry,
+    disk: &mut D,
+) -> Result<Found, Refusal>
+    ensures same { D.tells → D.contents disk.new ≡ D.contents disk.old }
+    ensures found { D.tells → IfOk result (λ found. IsFound (map newest (D.contents disk.old)) geometry.now found.generation found.clean found.entries.items) }
+{
+    'again: for _ in 1..TRIES {
+        if let Ok(found) = read_metadata(alloc, geometry, disk) {
+            if is_newest(alloc, disk, found.generation) {
+                return Ok(found);
+            }
+        }
+    }
+    read_metadata(alloc, geometry, disk)
+}
+
+/// Whether the newest root is of this generation.
+fn is_newest<D: Disk>(alloc: Global, disk: &mut D, generation: u64) -> bool
+    ensures same { D.tells → D.contents disk.new ≡ D.contents disk.old }
+{
+    match known_root(alloc, disk) {
+        Ok(Some(root)) => root.generation == generation,
+        _ => false,
+    }
+}
+
+/// The version of the metadata on a device; none where no root says so.
+pub fn version_on<D: Disk>(alloc: Global, disk: &mut D) -> Option<Version>
+    ensures same { D.tells → D.contents disk.new ≡ D.contents disk.old }
+{
+    match known_root(alloc, disk) {
+        Ok(Some(root)) => Some(root.version),
+        _ => None,
+    }
+}
+
 /// The sizes that the newest root tells, once both slots were read.
 fn known_geometry<D: Disk>(alloc: Global, disk: &mut D) -> Result<Option<Geometry>, Refusal>
     ensures size { D.size disk.new ≡ D.size disk.old }
     ensures same { D.tells → D.contents disk.new ≡ D.contents disk.old }
 {
+    Ok(known_root(alloc, disk)?.map(|root| root.geometry))
+}
+
+/// The newest root, once both slots were read.
+fn known_root<D: Disk>(alloc: Global, disk: &mut D) -> Result<Option<Root>, Refusal>
+    ensures size { D.size disk.new ≡ D.size disk.old }
+    ensures same { D.tells → D.contents disk.new ≡ D.contents disk.old }
+{
     let first = ReadSteps::new(alloc, alloc).next(disk)?;
     let both = first.next(disk)?;
-    Ok(both.root().map(|root| root.geometry))
+    Ok(both.root())
 }
 
 /// The entry of each cache block, with the dirty bit that was read of it.
@@ -78,28 +132,65 @@ fn stored_entries(alloc: Global, state: &State<Global>) -> Result<Vec<Option<Ent
     Ok(entries)
 }
 
-/// What an opening in this mode counts. In passthrough `NotClean` where it was not left clean or a block is dirty; `GenerationEnd` where there is
-/// no next generation.
-pub fn count(found: &Found, mode: Mode) -> Result<Counted, Refusal>
+/// What an opening in this mode and with these keys counts. In passthrough `NotClean` where it was not left clean or a block is dirty;
+/// `GenerationEnd` where there is no next generation; `BadMessage` where a key's value is out of its range.
+pub fn count(found: &Found, mode: Mode, keys: &Keys) -> Result<Counted, Refusal>
     ensures counted { IfOk result (λ counted. AreCounted found.now.clean found.now.entries.items counted.mapped counted.dirty) }
     ensures generation { IfOk result (λ counted. counted.generation ≡ found.now.generation) }
     ensures clean { IfOk result (λ counted. counted.clean ≡ found.now.clean) }
+    ensures keys { OnOk result (AreInRange keys.now) }
 {
-    let (clean, generation) = (found.clean, found.generation);
-    let mapped = count_mapped(found.entries.as_slice());
-    let dirty = count_dirty(clean, found.entries.as_slice());
-    if mode == Mode::Passthrough && (!clean || dirty > 0) {
+    let counted = count_all(found);
+    if mode == Mode::Passthrough && (!counted.clean || counted.dirty > 0) {
         return Err(Refusal::NotClean);
     }
-    if generation == u64::MAX {
+    if counted.generation == u64::MAX {
         return Err(Refusal::GenerationEnd);
     }
-    Ok(Counted {
-        generation,
-        clean,
-        mapped,
-        dirty,
-    })
+    if !are_in_range(keys) {
+        return Err(Refusal::BadMessage);
+    }
+    Ok(counted)
+}
+
+/// Whether each key that a table gives has a value of its range: `migration_threshold` below 2^32, `promote_min` 1 to 17.
+fn are_in_range(keys: &Keys) -> bool
+    ensures { OnTrue result (AreInRange keys.now) }
+{
+    is_threshold(keys.migration_threshold) && is_least(keys.promote_min)
+}
+
+fn is_threshold(sectors: Option<u64>) -> bool
+    ensures { OnTrue result (IfSome sectors (λ value. value < 2 ^ 32)) }
+{
+    match sectors {
+        Some(value) => value <= 4_294_967_295,
+        None => true,
+    }
+}
+
+fn is_least(accesses: Option<u64>) -> bool
+    ensures { OnTrue result (IfSome accesses (λ value. (1 ≤ value) × (value ≤ 17))) }
+{
+    match accesses {
+        Some(value) => 1 <= value && value <= 17,
+        None => true,
+    }
+}
+
+/// What is counted of what was found, whatever the mode.
+pub fn count_all(found: &Found) -> Counted
+    ensures counted { AreCounted found.now.clean found.now.entries.items result.mapped result.dirty }
+    ensures generation { result.generation ≡ found.now.generation }
+    ensures clean { result.clean ≡ found.now.clean }
+{
+    let entries = found.entries.as_slice();
+    Counted {
+        generation: found.generation,
+        clean: found.clean,
+        mapped: count_mapped(entries),
+        dirty: count_dirty(found.clean, entries),
+    }
 }
 
 fn count_mapped(entries: &[Option<Entry>]) -> u64

@@ -1,100 +1,139 @@
-//! What lies on a cache's metadata: whether it can be opened, and which blocks are cached; and having what is dirty written home.
+//! What lies on a cache's metadata: whether it can be opened, which blocks are cached, and whether those that are clean are the origin's; having
+//! what is dirty written home; and detaching the cache.
 #![tactic(auto)]
 
 mod arguments;
+mod detaching;
 mod draining;
+mod ending;
 mod found;
+mod lives;
+mod progress;
+mod reading;
+mod shadow;
 mod telling;
+mod verifying;
+mod writing;
 
-use crate::arguments::{Asked, USAGE, read_arguments};
-use crate::draining::{Drain, cleaning};
-use crate::found::{Counted, Found, count, read_metadata};
-use crate::telling::{MOST_HELD, Untold, dump, summarize, tell};
-use std::alloc::Global;
+use crate::arguments::{Asked, Task, USAGE, read_arguments};
+use crate::ending::{Aim, status_of};
+use crate::reading::{Reading, Wanted};
+use crate::telling::{MOST_HELD, Untold, tell};
+use crate::writing::Writing;
 use std::io::{BufWriter, IsTerminal, Write};
 use std::process::ExitCode;
 use std::sync::Wait;
 use std::thread::Threads;
+use std::time::Clock;
 use wb_arguments::{NoTask, STREAM_FAILED, command_words};
-use wb_disk::Disk;
-use wb_files::{Alarm, Hurry, hold_streams, open_table};
-use wb_opened::Unserved;
-use wb_services::serve_all;
-use wb_table::read_table;
-use wb_types::{Geometry, Mode, Refusal};
+use wb_files::{
+    Alarm, ErrorLog, MarkPlace, Marker, Patient, Unopened, hold_streams, open_table,
+    open_table_to_read,
+};
+use wb_opened::{Inspection, Rigor};
+use wb_table::{find_table_fault, read_table};
+use wb_types::{Dev, Refusal};
 
-/// The exit status of a refusal.
-const REFUSED: u8 = 1;
-
-/// The exit status of a device that failed, or a file that is held.
-const DEVICE_FAILED: u8 = 3;
+/// The program's name, as its messages have it.
+const PROGRAM: &str = "wbmeta";
 
 fn main(rt: HostRuntime) -> ExitCode {
     // Before any file is opened.
     match hold_streams(&rt) {
-        Ok(_held) => ExitCode::from(serve(&rt, &rt)),
-        Err(_) => ExitCode::from(STREAM_FAILED),
+        Ok(_held) => {
+            let log = ErrorLog::new(rt, rt.alloc());
+            let code = serve(&rt, &rt, &log);
+            log.finish();
+            ExitCode::from(code)
+        }
+        Err(error) => {
+            let _ = eprintln!(rt; "wbmeta: standard streams: {error}");
+            ExitCode::from(STREAM_FAILED)
+        }
     }
 }
 
 /// Does what the arguments ask, and gives the exit status. Who waits or starts threads does so by the second handle.
-fn serve<T: Threads + Wait + Eprint + Sync>(rt: &HostRuntime, waits: &T) -> u8 {
+fn serve<T: Threads + Wait + Clock + Sync, E: Eprint + Marker + Sync>(
+    rt: &HostRuntime,
+    waits: &T,
+    log: &E,
+) -> u8 {
     let words = match command_words(rt, USAGE) {
         Ok(words) => words,
-        Err(why) => return no_task(rt, why),
+        Err(why) => return no_task(log, why),
     };
-    match read_arguments(rt, words.as_slice()) {
-        Ok(Asked::Check(table)) => read(rt, table, false),
-        Ok(Asked::Dump(table)) => read(rt, table, true),
-        Ok(Asked::Writeback(table)) => write_back(rt, waits, table),
-        Err(why) => no_task(rt, why),
+    let asked = match read_arguments(rt, words.as_slice()) {
+        Ok(asked) => asked,
+        Err(why) => return no_task(log, why),
+    };
+    match asked.task {
+        Task::Check => read(rt, log, asked.table, Wanted::Counts),
+        Task::Dump => read(rt, log, asked.table, Wanted::List),
+        Task::Verify => read(rt, log, asked.table, Wanted::Differences),
+        Task::Writeback => write(rt, waits, log, asked, Aim::AllHome),
+        Task::Detach => write(rt, waits, log, asked, Aim::Empty),
+        Task::Cleared => clear(rt, log, asked.table),
     }
 }
 
-/// Reads the metadata over the files of a table, tells of them, and gives the exit status.
-fn read(rt: &HostRuntime, text: &str, lists: bool) -> u8 {
+/// Reads the files of a table, tells of them, and gives the exit status.
+fn read<'a, E: Eprint + Marker>(rt: &HostRuntime, log: &'a E, text: &'a str, wanted: Wanted) -> u8 {
     let Ok(mut writer) = BufWriter::with_capacity(rt.alloc(), MOST_HELD, rt.stdout()) else {
-        return no_memory(rt);
+        return no_memory(log);
     };
-    let alarm = Alarm::new(rt, "wbmeta");
-    let told = match open_table(rt, text, &mut Hurry, &alarm) {
-        Ok((table, mut disks, geometry)) => {
+    let alarm = Alarm::new(log, PROGRAM, None);
+    let told = match open_table_to_read(rt, text, &alarm) {
+        Ok((table, disks, geometry, is_held)) => {
+            if is_held {
+                let _ = eprintln!(log;
+                    "wbmeta: a server holds the cache: this is the state last committed"
+                );
+            }
             let asked = Reading {
                 alloc: rt.alloc(),
+                rt: log,
+                table,
                 geometry,
-                mode: table.mode,
-                lists,
+                wanted,
+                is_held,
                 is_read: rt.stdout().is_terminal(),
+                is_shown: rt.stderr().is_terminal(),
             };
-            asked.answer(&mut disks.metadata, &mut writer)
+            asked.answer(disks, &mut writer)
         }
-        Err(unopened) => {
-            let _ = eprintln!(rt; "wbmeta: {unopened}");
-            refuse(rt.alloc(), unopened.refusal(), &mut writer)
-        }
+        Err(unopened) => refuse(rt, log, &unopened, &mut writer),
     };
     let flushed = writer.flush();
     match (told, flushed) {
         (Ok(code), Ok(())) => code,
-        (Err(Untold::Memory), _) => no_memory(rt),
+        (Err(Untold::Memory), _) => no_memory(log),
         _ => STREAM_FAILED,
     }
 }
 
-/// Has all dirty blocks over the files of a table written home and the cache left clean, tells how many, and gives the exit status.
-fn write_back<T: Threads + Wait + Eprint + Sync>(rt: &HostRuntime, waits: &T, text: &str) -> u8 {
+/// Says why the files of a table cannot serve, prints the refusal, and gives the exit status.
+fn refuse<E: Eprint, W: Write>(
+    rt: &HostRuntime,
+    log: &E,
+    unopened: &Unopened<'_>,
+    writer: &mut W,
+) -> Result<u8, Untold> {
+    let _ = eprintln!(log; "wbmeta: {unopened}");
+    let refusal = unopened.refusal();
+    tell(rt.alloc(), Err(refusal), writer).map(|_| status_of(refusal))
+}
+
+/// Has all dirty blocks over the files of a table written home and the cache left so, tells how many, and gives the exit status.
+fn write<T: Threads + Wait + Clock + Sync, E: Eprint + Marker + Sync>(
+    rt: &HostRuntime,
+    waits: &T,
+    log: &E,
+    asked: Asked<'_>,
+    aim: Aim,
+) -> u8 {
     let mut writer = rt.stdout();
-    let told = match read_table(text) {
-        Ok(table) => match cleaning(rt.alloc(), &table) {
-            Ok(text) => drain(rt, waits, text.as_str()),
-            Err(_) => return no_memory(rt),
-        },
-        Err(_) => {
-            let _ = eprintln!(rt; "wbmeta: the table cannot be read");
-            Err(Refusal::BadTable)
-        }
-    };
-    let printed = match told {
+    let printed = match write_home(rt, waits, log, asked, aim) {
         Ok(blocks) => {
             let said = writeln!(writer, "ok {blocks}");
             said.map(|_| 0)
@@ -110,102 +149,93 @@ fn write_back<T: Threads + Wait + Eprint + Sync>(rt: &HostRuntime, waits: &T, te
     }
 }
 
-/// Opens the cache of a table, and has what is dirty written home: how many blocks that was. A suspend leaves it clean.
-fn drain<T: Threads + Wait + Eprint + Sync>(
+/// Has all dirty blocks over the files of a table written home and the cache left so: how many blocks that was.
+fn write_home<'a, T: Threads + Wait + Clock + Sync, E: Eprint + Marker + Sync>(
     rt: &HostRuntime,
-    waits: &T,
-    text: &str,
+    waits: &'a T,
+    log: &'a E,
+    asked: Asked<'a>,
+    aim: Aim,
 ) -> Result<u32, Refusal> {
-    let alarm = Alarm::new(waits, "wbmeta");
-    let mut services = Vec::new(rt.alloc());
-    let service = Drain {
-        rt: waits,
-        is_shown: rt.stderr().is_terminal(),
+    let Ok(mark) = MarkPlace::of_table(rt, asked.table) else {
+        return Err(Refusal::Memory);
     };
-    services.reserve(1)?;
-    services.push_reserved(service);
-    match serve_all(rt, waits, rt.alloc(), text, &mut Hurry, &alarm, services) {
-        Ok((told, suspended)) => match told.as_slice() {
-            [Ok(Ok(blocks))] => suspended.map(|_| *blocks),
-            [Ok(Err(refusal)) | Err(refusal)] => Err(*refusal),
-            _ => Err(Refusal::Memory),
+    let alarm = Alarm::new(log, PROGRAM, Some(&mark));
+    let opened = match open_table(rt, asked.table, &mut Patient::new(waits, asked.wait)) {
+        Ok((table, files, geometry)) => match files.disks(waits, &alarm) {
+            Ok(disks) => {
+                let writing = Writing {
+                    alloc: rt.alloc(),
+                    waits,
+                    log,
+                    table,
+                    geometry,
+                    aim,
+                    is_shown: rt.stderr().is_terminal(),
+                };
+                let rigor = Rigor {
+                    refuses_failed: true,
+                    refuses_stale: true,
+                    refuses_older: false,
+                    verifies: asked.verifies,
+                };
+                let mut inspection = Inspection::new(rt, log, PROGRAM, &mark, rigor);
+                return writing.perform(disks, &mut inspection);
+            }
+            Err(unopened) => unopened,
         },
-        Err(unserved) => {
-            let _ = eprintln!(waits; "wbmeta: {unserved}");
-            Err(unserved.refusal())
+        Err(unopened) => unopened,
+    };
+    let _ = eprintln!(log; "wbmeta: {opened}");
+    Err(opened.refusal())
+}
+
+/// Takes away the mark of a device that failed beside the metadata of a table, and gives the exit status.
+fn clear<E: Eprint>(rt: &HostRuntime, log: &E, text: &str) -> u8 {
+    let printed = match clear_mark(rt, log, text) {
+        Ok(()) => writeln!(rt.stdout(), "ok").map(|_| 0),
+        Err(refusal) => {
+            let said = writeln!(rt.stdout(), "refused {refusal}");
+            said.map(|_| status_of(refusal))
         }
+    };
+    match printed {
+        Ok(code) => code,
+        Err(_) => STREAM_FAILED,
     }
 }
 
-/// What is to be read, and told.
-#[derive(Clone, Copy)]
-struct Reading {
-    alloc: Global,
-    geometry: Geometry,
-    mode: Mode,
-    /// Whether the mapped blocks are listed.
-    lists: bool,
-    /// Whether somebody reads it on a terminal.
-    is_read: bool,
-}
-
-impl Reading {
-    /// Tells of a metadata device: the exit status.
-    fn answer<D: Disk, W: Write>(&self, metadata: &mut D, writer: &mut W) -> Result<u8, Untold> {
-        let found = match read_metadata(self.alloc, &self.geometry, metadata) {
-            Ok(found) => found,
-            Err(refusal) => return refuse(self.alloc, refusal, writer),
-        };
-        let counted = match count(&found, self.mode) {
-            Ok(counted) => counted,
-            Err(refusal) => return refuse(self.alloc, refusal, writer),
-        };
-        self.tell_of(&found, counted, writer)?;
-        Ok(0)
-    }
-
-    fn tell_of<W: Write>(
-        &self,
-        found: &Found,
-        counted: Counted,
-        writer: &mut W,
-    ) -> Result<(), Untold> {
-        if !self.lists {
-            return tell(self.alloc, Ok(counted), writer);
+/// Takes the mark away where there is one: `BadTable`, `Memory`, and `Io` of the metadata where the system refuses it.
+fn clear_mark<E: Eprint>(rt: &HostRuntime, log: &E, text: &str) -> Result<(), Refusal> {
+    let table = match read_table(text) {
+        Ok(table) => table,
+        Err(refusal) => {
+            let fault = find_table_fault(text);
+            let _ = eprintln!(log; "wbmeta: {fault}");
+            return Err(refusal);
         }
-        dump(self.alloc, found, writer)?;
-        if self.is_read {
-            summarize(self.alloc, found, writer)?;
-            tell(self.alloc, Ok(counted), writer)?;
+    };
+    let place = MarkPlace::beside(rt, table.metadata)?;
+    match place.clear(rt) {
+        Ok(_) => Ok(()),
+        Err(error) => {
+            let path = place.path();
+            let _ = eprintln!(log; "wbmeta: {path}: {error}");
+            Err(Refusal::Io(Dev::Metadata))
         }
-        Ok(())
-    }
-}
-
-/// Prints a refusal, and gives the exit status.
-fn refuse<W: Write>(alloc: Global, refusal: Refusal, writer: &mut W) -> Result<u8, Untold> {
-    tell(alloc, Err(refusal), writer)?;
-    Ok(status_of(refusal))
-}
-
-/// The exit status of a refusal.
-fn status_of(refusal: Refusal) -> u8 {
-    match refusal {
-        Refusal::Io(_) => DEVICE_FAILED,
-        _ => REFUSED,
     }
 }
 
 /// Gives the exit status where there is no task.
-fn no_task(rt: &HostRuntime, why: NoTask) -> u8 {
+fn no_task<E: Eprint>(log: &E, why: NoTask) -> u8 {
     match why {
         NoTask::Told(code) => code,
-        NoTask::Memory => no_memory(rt),
+        NoTask::Memory => no_memory(log),
     }
 }
 
 /// Says that there is no memory.
-fn no_memory<R: Eprint>(rt: &R) -> u8 {
-    let _ = eprintln!(rt; "wbmeta: 7 Memory");
-    REFUSED
+fn no_memory<E: Eprint>(log: &E) -> u8 {
+    let _ = eprintln!(log; "wbmeta: 7 Memory");
+    status_of(Refusal::Memory)
 }

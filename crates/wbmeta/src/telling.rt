@@ -1,14 +1,19 @@
 //! What is printed of metadata.
 
 use crate::found::{Counted, Found, is_dirty};
+use crate::progress::Progress;
+use crate::verifying::Hearer;
 use std::alloc::{AllocError, Global};
 use std::fmt;
 use std::fmt::{Display, Formatter, Write as _};
 use std::io::Write;
-use wb_types::{Entry, OBlock, Refusal};
+use wb_types::{CBlock, Entry, OBlock, Refusal};
 
 /// The greatest hint.
 const MOST: u8 = 16;
+
+/// How many blocks that stayed dirty are named, at most.
+const MOST_NAMED: u64 = 64;
 
 /// Lines are held up to so many bytes before they are written: 64 KiB.
 pub const MOST_HELD: usize = 65_536;
@@ -46,6 +51,13 @@ pub fn tell<W: Write>(
         Ok(counted) => writeln!(text, "{counted}")?,
         Err(refusal) => writeln!(text, "refused {refusal}")?,
     }
+    send(&text, writer)
+}
+
+/// Writes `ok <blocks>` on a line.
+pub fn tell_verified<W: Write>(alloc: Global, blocks: u32, writer: &mut W) -> Result<(), Untold> {
+    let mut text = String::new(alloc);
+    writeln!(text, "ok {blocks}")?;
     send(&text, writer)
 }
 
@@ -108,6 +120,51 @@ fn has_hint(clean: bool, entry: Option<Entry>, hint: u8) -> bool {
     match entry {
         Some(entry) => hint_of(clean, &entry) == hint,
         None => false,
+    }
+}
+
+/// Tells of a comparison: on a writer what differs, and how far it has come.
+#[derive(Drop)]
+pub struct Teller<'a, T, W> {
+    pub alloc: Global,
+    pub writer: &'a mut W,
+    pub progress: Progress<'a, T>,
+    /// How many blocks are to be compared.
+    pub all: u32,
+}
+
+impl<'a, T: Eprint, W: Write> Hearer for Teller<'a, T, W> {
+    /// Writes `<cache block> <origin block> differs` on a line.
+    fn differs(&mut self, at: CBlock, home: OBlock) -> bool {
+        let mut text = String::new(self.alloc);
+        writeln!(text, "{at} {home} differs").is_ok() && send(&text, self.writer).is_ok()
+    }
+
+    fn compared(&mut self, done: u32) {
+        if done % 64 == 0 || done == self.all {
+            self.progress.show(done, self.all);
+        }
+    }
+}
+
+/// Names on standard error the blocks that count as dirty, or the first of them.
+pub fn name_dirty<R: Eprint>(rt: &R, found: &Found) {
+    let mut named: u64 = 0;
+    for (c, entry) in found.entries.iter().enumerate() {
+        let (Some(entry), true) = (entry, is_dirty(found.clean, *entry)) else {
+            continue;
+        };
+        if named == MOST_NAMED {
+            let _ = eprintln!(rt;
+                "wbmeta: and more: 'wbmeta dump' with the same table lists what is dirty"
+            );
+            return;
+        }
+        let home = entry.origin;
+        let _ = eprintln!(rt;
+            "wbmeta: cache block {c}, of origin block {home}, was not written home: it stays dirty"
+        );
+        named = named.saturating_add(1);
     }
 }
 

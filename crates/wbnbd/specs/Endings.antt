@@ -14,3 +14,8 @@ EndedWell told = Unit {0}
 -- somebody served
 abbrev pub DidServe : List (Result Told Refusal) → Type 0
 DidServe told = (i : ℕ) × (connection : Result (Unit {0}) Broken) × (flushed : Result (Unit {0}) Refusal) × (slice_get told i ≡ Some (Ok (Served connection flushed)))
+
+-- no flush at a server's end was refused
+abbrev pub DidFlush : Result Told Refusal → Type 0
+DidFlush (Ok (Served connection flushed)) = IfErr flushed (λ refusal. ⊥)
+DidFlush told = Unit {0}

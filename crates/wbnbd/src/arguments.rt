@@ -4,7 +4,8 @@ use clap::ArgMatches;
 use wb_arguments::{FromWords, Named, NoTask, Program};
 
 /// What is asked of who calls the program otherwise.
-pub const USAGE: &str = "usage: wbnbd [-q] [--wait SECONDS] [--control FILE] TABLE";
+pub const USAGE: &str =
+    "usage: wbnbd [-q] [--wait SECONDS] [--control FILE] [--no-verify] [--accept-older] TABLE";
 
 const ABOUT: &str =
     "Serves a write-back cache over three files as a network block device, to one client on standard input and output.";
@@ -16,9 +17,21 @@ with other features, policies and keys as 'wbcache --help' lists them.
 The client gets the origin, by whatever name. What it wrote is durable once it
 has flushed, or written with FUA; when the connection ends all is flushed.
 Status: 0 the client ended it, or went between two requests, and all was
-flushed; 1 the files cannot serve, 2 the arguments, 3 a device failed or a file
-is held, 4 the connection broke. Of the first failure of each device standard
-error tells at once; where a file system is full the client is told ENOSPC.
+flushed; 1 the files cannot serve, 2 the arguments, 3 a device failed, a file
+is held or the last flush was refused, 4 the connection broke. Of the first
+failure of each device standard error tells at once; where a file system is
+full the client is told ENOSPC.
+
+Nobody else may write the three files, also while nothing is served: detach the
+cache ('wbmeta detach TABLE') before the origin is used alone. Where the cache
+was left clean, up to 64 of its blocks are compared with the origin before
+anything is written, and one that differs refuses the opening.
+After a failed write or sync the file METADATA.failed is left, and the next
+opening is refused until 'wbmeta cleared TABLE': the system may show data that
+the disk does not have. Drop it first: dd if=FILE iflag=nocache count=0 for
+each of the three files.
+A client that connects again by itself after this program was killed goes on
+with a disk that went back to its last flush: do not have it do so.
 
 A line that is added to the control FILE (status, flush, tick, or message TEXT
 as in a script of wbcache) is answered on standard error: echo status >>FILE.
@@ -47,6 +60,10 @@ pub struct Asked<'a> {
     pub quiet: bool,
     /// The file whose lines are answered while the client is served.
     pub control: Option<&'a str>,
+    /// Whether blocks of a clean cache are compared with the origin first.
+    pub verifies: bool,
+    /// Whether a cache is opened where the root of the last commit cannot be read.
+    pub accepts_older: bool,
 }
 
 impl<'a> FromWords<'a> for Asked<'a> {
@@ -60,6 +77,8 @@ impl<'a> FromWords<'a> for Asked<'a> {
             wait,
             quiet: given.get_flag("quiet"),
             control: given.get_str("control"),
+            verifies: !given.get_flag("no-verify"),
+            accepts_older: given.get_flag("accept-older"),
         })
     }
 }
@@ -80,6 +99,22 @@ const CONTROL: Named = Named {
     is_global: false,
 };
 
+const NO_VERIFY: Named = Named {
+    name: "no-verify",
+    short: None,
+    help: "Compare no blocks of a clean cache with the origin first",
+    takes_value: false,
+    is_global: false,
+};
+
+const ACCEPT_OLDER: Named = Named {
+    name: "accept-older",
+    short: None,
+    help: "Open the older state where the newest root cannot be read",
+    takes_value: false,
+    is_global: false,
+};
+
 const QUIET: Named = Named {
     name: "quiet",
     short: Some('q'),
@@ -93,7 +128,7 @@ const PROGRAM: Program = Program {
     about: ABOUT,
     texts: TEXTS,
     usage: USAGE,
-    options: &[&WAITS, &CONTROL, &QUIET],
+    options: &[&WAITS, &CONTROL, &NO_VERIFY, &ACCEPT_OLDER, &QUIET],
     subcommands: &[],
 };
 

@@ -18,22 +18,22 @@ use wb_types::{Geometry, Refusal, SECTOR_BYTES};
 
 /// What a client of the target does.
 #[derive(Drop)]
-pub enum Beside<'a, T, I, O> {
+pub enum Beside<'a, T, E, I, O> {
     /// To serve the one connection.
-    Serve(Peer<'a, T, I, O>),
+    Serve(Peer<'a, T, E, I, O>),
     /// To carry out orders until it is over.
-    Work(&'a Teller<'a, T>, &'a Pace),
+    Work(&'a Teller<'a, T, E>, &'a Pace),
     /// To answer the lines of a control file until it is over.
-    Answer(Control<'a, T>),
+    Answer(Control<'a, T, E>),
 }
 
 /// The other end of a connection that is to be served.
 #[derive(Drop)]
-pub struct Peer<'a, T, I, O> {
+pub struct Peer<'a, T, E, I, O> {
     pub alloc: Global,
     pub connection: &'a Connection<I, O>,
     pub place: Place<'a>,
-    pub teller: &'a Teller<'a, T>,
+    pub teller: &'a Teller<'a, T, E>,
 }
 
 /// How it went.
@@ -47,7 +47,7 @@ pub enum Told {
     Worked,
 }
 
-impl<'a, T: Clock + Eprint, I: Read, O: Write> Service for Beside<'a, T, I, O> {
+impl<'a, T: Clock, E: Eprint, I: Read, O: Write> Service for Beside<'a, T, E, I, O> {
     type Told = Told;
 
     fn serve<R: Wait, S: Served>(self, rt: &R, client: &mut S) -> Told {
@@ -66,10 +66,10 @@ impl<'a, T: Clock + Eprint, I: Read, O: Write> Service for Beside<'a, T, I, O> {
 }
 
 /// Serves a connection beside others; who ends last makes durable what was written. Who comes after that has nothing to do.
-fn serve<R: Wait, S: Served, T: Eprint, I: Read, O: Write>(
+fn serve<R: Wait, S: Served, T, E: Eprint, I: Read, O: Write>(
     rt: &R,
     client: &mut S,
-    peer: Peer<'_, T, I, O>,
+    peer: Peer<'_, T, E, I, O>,
 ) -> Told {
     let Peer {
         alloc,
@@ -97,11 +97,11 @@ fn serve<R: Wait, S: Served, T: Eprint, I: Read, O: Write>(
 }
 
 /// Makes durable what was written, and tells how the cache stands.
-fn finish<R: Wait, S: Served, T: Eprint>(
+fn finish<R: Wait, S: Served, T, E: Eprint>(
     rt: &R,
     client: &mut S,
     alloc: Global,
-    teller: &Teller<'_, T>,
+    teller: &Teller<'_, T, E>,
 ) -> Result<(), Refusal>
     ensures flushed { OnOk result (S.did client.old HasFlushed client.new) }
     ensures refused { IfErr result (λ refusal. S.met client.old Flushes refusal client.new) }
@@ -118,13 +118,13 @@ fn finish<R: Wait, S: Served, T: Eprint>(
 }
 
 /// Serves requests until the connection ends or breaks.
-fn talk<R: Wait, S: Served, T: Eprint, I: Read, O: Write>(
+fn talk<R: Wait, S: Served, T, E: Eprint, I: Read, O: Write>(
     rt: &R,
     client: &mut S,
     pace: &Pace,
     alloc: Global,
     connection: &Connection<I, O>,
-    teller: &Teller<'_, T>,
+    teller: &Teller<'_, T, E>,
 ) -> Result<(), Broken> {
     let terms = terms_of(&client.geometry());
     let size = client.geometry().origin_sectors();
@@ -148,10 +148,10 @@ fn talk<R: Wait, S: Served, T: Eprint, I: Read, O: Write>(
 
 /// Carries out orders until the connection is over or the target has failed. A tick that there is no memory or no generation for
 /// is left out, and so is one for which nothing is dirty, where no request asks for it.
-fn work<R: Wait, S: Served, T: Clock + Eprint>(
+fn work<R: Wait, S: Served, T: Clock, E: Eprint>(
     rt: &R,
     client: &mut S,
-    teller: &Teller<'_, T>,
+    teller: &Teller<'_, T, E>,
     pace: &Pace,
 ) {
     let gate = UntilTick {
@@ -179,7 +179,7 @@ fn work<R: Wait, S: Served, T: Clock + Eprint>(
 }
 
 /// Tells of a device that failed.
-fn note<T: Eprint>(teller: &Teller<'_, T>, refusal: Refusal) {
+fn note<T, E: Eprint>(teller: &Teller<'_, T, E>, refusal: Refusal) {
     if let Refusal::Io(device) = refusal {
         teller.alarm.note(device);
     }

@@ -61,11 +61,11 @@ impl Lines {
 
 /// Where lines come from, and who is to know of their answers.
 #[derive(Drop)]
-pub struct Control<'a, T> {
+pub struct Control<'a, T, E> {
     pub alloc: Global,
     pub lines: Lines,
     pub pace: &'a Pace,
-    pub teller: &'a Teller<'a, T>,
+    pub teller: &'a Teller<'a, T, E>,
 }
 
 /// A line.
@@ -81,10 +81,10 @@ enum Line<'a> {
 }
 
 /// Answers lines as they come, on standard error, until the connection is over or the file cannot be read.
-pub fn answer_lines<R: Wait, S: Served, T: Clock + Eprint>(
+pub fn answer_lines<R: Wait, S: Served, T: Clock, E: Eprint>(
     rt: &R,
     client: &mut S,
-    control: Control<'_, T>,
+    control: Control<'_, T, E>,
 ) {
     let Control {
         alloc,
@@ -189,12 +189,12 @@ fn read_words(mut words: SplitSpaces<'_>) -> Option<Line<'_>>
 }
 
 /// Does what a line asks, and tells its answer.
-fn tell_answer<R: Wait, S: Served, T: Eprint>(
+fn tell_answer<R: Wait, S: Served, T, E: Eprint>(
     rt: &R,
     client: &mut S,
     alloc: Global,
     coming: &Coming,
-    teller: &Teller<'_, T>,
+    teller: &Teller<'_, T, E>,
 ) {
     let Some(line) = coming.read() else {
         teller.say("bad line");

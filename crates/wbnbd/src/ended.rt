@@ -9,6 +9,9 @@ use wb_nbd::Broken;
 use wb_opened::Unserved;
 use wb_types::Refusal;
 
+/// The exit status where a device failed, or acknowledged data could not be flushed.
+const DEVICE_FAILED: u8 = 3;
+
 /// The exit status, and why it is not 0.
 #[derive(Drop)]
 pub struct Ended<'a> {
@@ -20,6 +23,8 @@ pub struct Ended<'a> {
 #[derive(Drop)]
 pub enum Reason<'a> {
     Unserved(Unserved<'a>),
+    /// The flush at the end was refused.
+    Unflushed,
     /// The control file cannot be had.
     Control(&'a str, io::Error),
     Broken(Broken),
@@ -63,6 +68,16 @@ impl<'a> Ended<'a> {
         Ended::unserved(Unserved::Refused(refusal))
     }
 
+    /// The flush at the end was refused, so that acknowledged data may be lost.
+    pub fn lost() -> Ended<'a>
+        ensures { result.code ≡ 3 }
+    {
+        Ended {
+            code: DEVICE_FAILED,
+            reason: Some(Reason::Unflushed),
+        }
+    }
+
     /// The connection broke.
     pub fn broken(broken: Broken) -> Ended<'a>
         ensures { result.code ≡ 4 }
@@ -81,7 +96,7 @@ fn code_of(refusal: Refusal) -> u8
     ensures failed { refusal ≡ Refusal.Failed → result ≡ 3 }
 {
     match refusal {
-        Refusal::Io(_) | Refusal::Failed => 3,
+        Refusal::Io(_) | Refusal::Failed => DEVICE_FAILED,
         _ => 1,
     }
 }
@@ -90,6 +105,10 @@ impl<'a> Display for Reason<'a> {
     fn fmt<W: fmt::Write>(&self, f: &mut Formatter<W>) -> fmt::Result {
         match self {
             Reason::Unserved(unserved) => write!(f, "{unserved}"),
+            Reason::Unflushed => write!(
+                f,
+                "the last flush was refused: what was written since the flush before may be lost"
+            ),
             Reason::Control(path, error) => write!(f, "control file {path}: {error}"),
             Reason::Broken(broken) => write!(f, "{broken}"),
         }

@@ -12,16 +12,16 @@ use wb_types::{Content, Refusal, Sector};
 
 /// A client of a target, that requests are done by.
 #[derive(Drop)]
-pub struct Lent<'r, 'c, 'p, R, C, T> {
+pub struct Lent<'r, 'c, 'p, R, C, T, E> {
     pub rt: &'r R,
     pub client: &'c mut C,
     pub pace: &'p Pace,
-    pub teller: &'p Teller<'p, T>,
+    pub teller: &'p Teller<'p, T, E>,
     /// The sectors of the origin.
     pub size: u64,
 }
 
-impl<'r, 'c, 'p, R: Wait, C: Served, T: Eprint> Export for Lent<'r, 'c, 'p, R, C, T> {
+impl<'r, 'c, 'p, R: Wait, C: Served, T, E: Eprint> Export for Lent<'r, 'c, 'p, R, C, T, E> {
     ghost size = { λ lent. lent.size };
 
     ghost acts = { λ old act new. DoneBy C.did C.met old.client.now act new.client.now };
@@ -55,7 +55,7 @@ impl<'r, 'c, 'p, R: Wait, C: Served, T: Eprint> Export for Lent<'r, 'c, 'p, R, C
 }
 
 /// What a client is told of a refusal; a device that failed is told of on standard error, too.
-fn errno_of<T: Eprint>(alarm: &Alarm<'_, T>, refusal: Refusal) -> Errno
+fn errno_of<E: Eprint>(alarm: &Alarm<'_, E>, refusal: Refusal) -> Errno
     ensures { IsToldAs refusal result }
 {
     match refusal {

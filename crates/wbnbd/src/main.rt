@@ -18,7 +18,7 @@ use std::sync::Wait;
 use std::thread::Threads;
 use std::time::Clock;
 use wb_arguments::{NoTask, STREAM_FAILED, command_words};
-use wb_files::{Awaited, hold_streams};
+use wb_files::{Awaited, ErrorLog, Marker, hold_streams};
 use wb_types::Refusal;
 
 /// Bytes of what the client sends, and of what it is told, that are kept for one call of the system: 256 KiB.
@@ -27,21 +27,33 @@ const BUFFER: usize = 262_144;
 fn main(rt: HostRuntime) -> ExitCode {
     // Before any file is opened.
     match hold_streams(&rt) {
-        Ok(_held) => ExitCode::from(serve(&rt, &rt)),
-        Err(_) => ExitCode::from(STREAM_FAILED),
+        Ok(_held) => {
+            let log = ErrorLog::new(rt, rt.alloc());
+            let code = serve(&rt, &rt, &log);
+            log.finish();
+            ExitCode::from(code)
+        }
+        Err(error) => {
+            let _ = eprintln!(rt; "wbnbd: standard streams: {error}");
+            ExitCode::from(STREAM_FAILED)
+        }
     }
 }
 
 /// Does what the arguments ask, and gives the exit status. Who waits or starts threads does so by the second handle.
-fn serve<T: Threads + Wait + Clock + Eprint + Sync>(rt: &HostRuntime, waits: &T) -> u8 {
+fn serve<T: Threads + Wait + Clock + Sync, E: Eprint + Marker + Sync>(
+    rt: &HostRuntime,
+    waits: &T,
+    log: &E,
+) -> u8 {
     let alloc = rt.alloc();
     let words = match command_words(rt, USAGE) {
         Ok(words) => words,
-        Err(why) => return no_task(rt, why),
+        Err(why) => return no_task(log, why),
     };
     let asked = match read_arguments(rt, words.as_slice()) {
         Ok(asked) => asked,
-        Err(why) => return no_task(rt, why),
+        Err(why) => return no_task(log, why),
     };
     let input = Awaited {
         clock: waits,
@@ -55,24 +67,27 @@ fn serve<T: Threads + Wait + Clock + Eprint + Sync>(rt: &HostRuntime, waits: &T)
     let writer = BufWriter::with_capacity(alloc, BUFFER, output);
     match (reader, writer) {
         (Ok(reader), Ok(writer)) => {
-            tell(rt, &server::run(rt, waits, alloc, asked, reader, writer))
+            tell(
+                log,
+                &server::run(rt, waits, log, alloc, asked, reader, writer),
+            )
         }
-        _ => tell(rt, &Ended::refused(Refusal::Memory)),
+        _ => tell(log, &Ended::refused(Refusal::Memory)),
     }
 }
 
 /// Says why a run did not end well, and gives the exit status.
-fn tell<R: Eprint>(rt: &R, ended: &Ended<'_>) -> u8 {
+fn tell<E: Eprint>(log: &E, ended: &Ended<'_>) -> u8 {
     if let Some(reason) = &ended.reason {
-        let _ = eprintln!(rt; "wbnbd: {reason}");
+        let _ = eprintln!(log; "wbnbd: {reason}");
     }
     ended.code
 }
 
 /// Gives the exit status where there is no task.
-fn no_task(rt: &HostRuntime, why: NoTask) -> u8 {
+fn no_task<E: Eprint>(log: &E, why: NoTask) -> u8 {
     match why {
         NoTask::Told(code) => code,
-        NoTask::Memory => tell(rt, &Ended::refused(Refusal::Memory)),
+        NoTask::Memory => tell(log, &Ended::refused(Refusal::Memory)),
     }
 }

@@ -1,14 +1,15 @@
 //! Opening a target, and serving it.
 
 ghost use Rattle.std.specs.Prelude.{◌≡◌, All, IfErr, IfNone};
-ghost use Rattle.wbnbd.specs.Endings.{DidServe, EndedWell};
+ghost use Rattle.std.specs.Bool.{OnTrue};
+ghost use Rattle.wbnbd.specs.Endings.{DidFlush, DidServe, EndedWell};
 
 use crate::arguments::Asked;
 use crate::beside::{Beside, Peer, Told};
 use crate::control::{Control, Lines};
 use crate::ended::Ended;
 use crate::pace::{Pace, Place};
-use crate::teller::Teller;
+use crate::teller::{PROGRAM, Teller};
 use std::alloc::{AllocError, Global};
 use std::fs::File;
 use std::io::{Read, Write};
@@ -16,8 +17,9 @@ use std::rt::Files;
 use std::sync::Wait;
 use std::thread::Threads;
 use std::time::Clock;
-use wb_files::Patient;
+use wb_files::{MarkPlace, Marker, Patient};
 use wb_nbd::{Broken, Connection};
+use wb_opened::{Inspection, Rigor};
 use wb_services::serve_all;
 use wb_types::Refusal;
 
@@ -33,13 +35,18 @@ const SERVERS: u64 = 16;
 /// a device failed, 4 where the connection broke.
 pub fn run<
     'a,
-    R: Files<File = File>,
-    T: Threads + Wait + Clock + Eprint + Sync,
+    R: Files<File = File> + AllocGlobal + Clock + Clone + Drop,
+    T: Threads + Wait + Clock + Sync,
+    E: Eprint + Marker + Sync,
     I: Read + Drop + Send,
     O: Write + Drop + Send,
->(rt: &R, waits: &T, alloc: Global, asked: Asked<'a>, reader: I, writer: O) -> Ended<'a> {
+>(rt: &R, waits: &T, log: &E, alloc: Global, asked: Asked<'a>, reader: I, writer: O) -> Ended<'a> {
     let pace = Pace::new(SERVERS);
-    let teller = Teller::new(waits, asked.quiet);
+    let Ok(mark) = MarkPlace::of_table(rt, asked.table) else {
+        return Ended::refused(Refusal::Memory);
+    };
+    let mut inspection = Inspection::new(rt, log, PROGRAM, &mark, rigor_of(&asked));
+    let teller = Teller::new(waits, log, asked.quiet, &mark);
     let connection = Connection::new(reader, writer);
     let lines = match asked.control {
         Some(path) => match Lines::open(rt, path) {
@@ -59,6 +66,7 @@ pub fn run<
         asked.table,
         &mut patience,
         &teller.alarm,
+        &mut inspection,
         services,
     ) {
         Ok((told, suspended)) => ended_of(told.as_slice(), suspended),
@@ -66,15 +74,25 @@ pub fn run<
     }
 }
 
+/// What refuses an opening by the server: all that is found, but what the arguments let pass.
+fn rigor_of(asked: &Asked<'_>) -> Rigor {
+    Rigor {
+        refuses_failed: true,
+        refuses_stale: true,
+        refuses_older: !asked.accepts_older,
+        verifies: asked.verifies,
+    }
+}
+
 /// One who works, one who answers control lines where there are such, and behind them those who serve: where no thread can be made the last of them are done first, and nobody waits for one behind
 /// itself. So with too few threads they serve one after the other, and who works finds the connection over.
-fn services_of<'a, T, I, O>(
+fn services_of<'a, T, E, I, O>(
     alloc: Global,
     lines: Option<Lines>,
-    teller: &'a Teller<'a, T>,
+    teller: &'a Teller<'a, T, E>,
     pace: &'a Pace,
     connection: &'a Connection<I, O>,
-) -> Result<Vec<Beside<'a, T, I, O>>, AllocError> {
+) -> Result<Vec<Beside<'a, T, E, I, O>>, AllocError> {
     let mut services = Vec::new(alloc);
     services
         .push(Beside::Work(teller, pace))
@@ -102,11 +120,16 @@ fn services_of<'a, T, I, O>(
     Ok(services)
 }
 
-/// How a run ended, by what each told and what the suspend behind them was answered: a connection that broke for one broke, and one that was served by
-/// one was served. A client that went between two requests has not broken it.
+/// How a run ended, by what each server and the suspend behind them came to. A refused flush counts before all else: then acknowledged data
+/// may be lost. A connection that broke for one server broke, and one that was served by one was served. A client that went between two
+/// requests has not broken it.
 fn ended_of<'a>(told: &[Result<Told, Refusal>], suspended: Result<(), Refusal>) -> Ended<'a>
     ensures well { result.code ≡ 0 → All EndedWell told.now × DidServe told.now × IfErr suspended (λ refusal. ⊥) }
+    ensures lost { ¬ All DidFlush told.now → result.code ≡ 3 }
 {
+    if !told.iter().all(|one| has_flushed(one)) {
+        return Ended::lost();
+    }
     let mut refused = None;
     let mut unserved = Some(Refusal::Memory);
     for one in told {
@@ -136,6 +159,16 @@ fn ended_of<'a>(told: &[Result<Told, Refusal>], suspended: Result<(), Refusal>) 
     match refused.or(unserved).or(suspended.err()) {
         Some(refusal) => Ended::refused(refusal),
         None => Ended::well(),
+    }
+}
+
+/// Whether a server's flush at its end was not refused, if it made one.
+fn has_flushed(told: &Result<Told, Refusal>) -> bool
+    ensures { OnTrue result (DidFlush told.now) }
+{
+    match told {
+        Ok(Told::Served { flushed, .. }) => flushed.is_ok(),
+        _ => true,
     }
 }
 

@@ -17,5 +17,5 @@ returns-clause-refused g c =
       c.in-Err-opened.refusal,
       subst (λ (list : List (Key × ℕ)). Lists list table.keys) (sym c.as_slice.ensures.value) c.in-Ok.ensures.listed,
       IfErr-at_err (λ refusal. IsNotOpened g.D.Disk.tells g.D.Disk.size g.D.Disk.contents g.D.Disk.faults g.P.Policy.begun g.P.Policy.with_setting table.mode keys table.block table.metadata2 c.args.devices back refusal) c.in-Err-opened.is c.open-devices.ensures.refused,
-      c.unserved_of.ensures.told,
+      c.unserved_of-unserved.ensures.told,
     )

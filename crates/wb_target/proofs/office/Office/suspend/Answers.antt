@@ -6,7 +6,7 @@ use Rattle.wb_tasks.specs.Ready.{AreBelow}
 use Rattle.wb_target.specs.Offices.{OfficeState}
 use Rattle.wb_target.specs.Suspends.{mapped_blocks}
 use Rattle.wb_target.proofs.Desking.{blocks_there}
-use Rattle.wb_target.proofs.Suspends.{below, was}
+use Rattle.wb_target.proofs.Suspends.{as_seen, below, was}
 use Rattle.wb_target.proofs.office.Office.suspend.Goals as goal
 
 pub run_suspend-answer-requires-clause-begun : goal.run_suspend-answer-requires-clause-begun
@@ -19,12 +19,12 @@ pub returns-in-Done-clause-suspended : goal.returns-in-Done-clause-suspended
 returns-in-Done-clause-suspended g c =
     let self = c.self.inside in
     let blocks = c.in-Ok.ensures.blocks ∙ ap (λ (office : OfficeState g.row.P.Denot). mapped_blocks office.desk.tree office.desk.geometry.cache_blocks) (sym c.self.view_is) in
-    was g.D.Disk.tells g.D.Disk.size g.D.Disk.contents g.D.Disk.faults g.P.Policy.hint_of g.P.Policy.with_entry g.P.Policy.without_entry self.desk self.watch.geometry.origin_blocks c.most_nodes.result _ _ _ _ _ _ c.run_suspend-answer.ensures.ran
-    (c.suspend-task.ensures ∙ ap (λ (all : List OBlock). table (Suspending all c.most_nodes.result)) blocks) (c.as_mut_slice.ensures.value ∙ c.in-Ok-no_bits.ensures ∙ ap (λ geometry. replicate geometry.cache_blocks false) c.geometry-geometry.ensures) c.in-Done.is
+    as_seen g.D.Disk.tells g.D.Disk.size g.D.Disk.contents g.D.Disk.faults g.P.Policy.hint_of g.P.Policy.with_entry g.P.Policy.without_entry _ _ c.self.view_is (was g.D.Disk.tells g.D.Disk.size g.D.Disk.contents g.D.Disk.faults g.P.Policy.hint_of g.P.Policy.with_entry g.P.Policy.without_entry self.watch.pass self.desk self.watch.geometry.origin_blocks c.most_nodes.result _ _ _ _ _ _ c.run_suspend-answer.ensures.ran
+    (c.suspend-task.ensures ∙ ap (λ (all : List OBlock). table (Suspending all c.most_nodes.result)) blocks) (c.as_mut_slice.ensures.value ∙ c.in-Ok-no_bits.ensures ∙ ap (λ geometry. replicate geometry.cache_blocks false) c.geometry-geometry.ensures) c.in-Done.is)
 
 pub returns-clause-refused : goal.returns-clause-refused
 returns-clause-refused g c =
     let self = c.self.inside in
     let blocks = c.in-Ok.ensures.blocks ∙ ap (λ (office : OfficeState g.row.P.Denot). mapped_blocks office.desk.tree office.desk.geometry.cache_blocks) (sym c.self.view_is) in
-    inr (inr (was g.D.Disk.tells g.D.Disk.size g.D.Disk.contents g.D.Disk.faults g.P.Policy.hint_of g.P.Policy.with_entry g.P.Policy.without_entry self.desk self.watch.geometry.origin_blocks c.most_nodes.result _ _ _ _ _ _ c.run_suspend-answer.ensures.ran
-    (c.suspend-task.ensures ∙ ap (λ (all : List OBlock). table (Suspending all c.most_nodes.result)) blocks) (c.as_mut_slice.ensures.value ∙ c.in-Ok-no_bits.ensures ∙ ap (λ geometry. replicate geometry.cache_blocks false) c.geometry-geometry.ensures) c.in-Refused.is))
+    inr (inr (as_seen g.D.Disk.tells g.D.Disk.size g.D.Disk.contents g.D.Disk.faults g.P.Policy.hint_of g.P.Policy.with_entry g.P.Policy.without_entry _ _ c.self.view_is (was g.D.Disk.tells g.D.Disk.size g.D.Disk.contents g.D.Disk.faults g.P.Policy.hint_of g.P.Policy.with_entry g.P.Policy.without_entry self.watch.pass self.desk self.watch.geometry.origin_blocks c.most_nodes.result _ _ _ _ _ _ c.run_suspend-answer.ensures.ran
+    (c.suspend-task.ensures ∙ ap (λ (all : List OBlock). table (Suspending all c.most_nodes.result)) blocks) (c.as_mut_slice.ensures.value ∙ c.in-Ok-no_bits.ensures ∙ ap (λ geometry. replicate geometry.cache_blocks false) c.geometry-geometry.ensures) c.in-Refused.is)))

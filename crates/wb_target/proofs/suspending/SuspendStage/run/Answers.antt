@@ -21,4 +21,4 @@ pub returns-clause-cache : goal.returns-clause-cache
 returns-clause-cache g c = let run = c.drive.ensures.run in keeps_cache g.D.Disk.tells g.D.Disk.size g.D.Disk.contents g.D.Disk.faults g.P.Policy.hint_of g.P.Policy.with_entry g.P.Policy.without_entry c.args.self.now c.drive.new.stage run.0 run.3
 
 pub returns-clause-ran : goal.returns-clause-ran
-returns-clause-ran g c = let run = c.drive.ensures.run in ran g.D.Disk.tells g.D.Disk.size g.D.Disk.contents g.D.Disk.faults g.P.Policy.hint_of g.P.Policy.with_entry g.P.Policy.without_entry _ _ c.args.self.now c.drive.new.stage (run.0, run.2, run.3) _ _ _ refl refl c.requires.unbegun refl
+returns-clause-ran g c = let run = c.drive.ensures.run in ran g.D.Disk.tells g.D.Disk.size g.D.Disk.contents g.D.Disk.faults g.P.Policy.hint_of g.P.Policy.with_entry g.P.Policy.without_entry _ _ _ _ c.args.self.now c.drive.new.stage refl refl (run.0, run.2, run.3) _ _ _ refl refl c.requires.unbegun refl

@@ -1,0 +1,4 @@
+pub mod Fronts
+pub mod Slots
+pub mod Samples
+pub mod Thresholds
