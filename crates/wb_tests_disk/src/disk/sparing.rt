@@ -2,7 +2,7 @@
 
 ghost use Rattle.std.specs.Prelude.{[], ◌≡◌};
 
-use super::{Step, are_done};
+use super::{Step, are_done, put};
 use std::cell::Cell;
 use std::sync::{Mutex, Wait};
 use std::test::Fail;
@@ -145,7 +145,7 @@ fn ask<D: Disk, R: SyncRecord<D>>(file: &Counted, disk: &mut SparingDisk<D, R>, 
         .set(matches!(asked, SyncMeanwhile));
     file.fails.set(matches!(asked, SyncFailing));
     let _ = match asked {
-        Write => disk.write(1, &[7; 512]),
+        Write => put(disk, 1, 7),
         _ => disk.sync(),
     };
 }
