@@ -11,7 +11,7 @@ ghost use Rattle.wb_port.specs.Moves.{copied_to};
 ghost use Rattle.wb_port.specs.declared.moving.TheConstants.{LONGEST as LongestStep};
 ghost use Rattle.wb_target.specs.Works.{AskedSharing, PerformedWith, IsOrdered, MayMigrate};
 ghost use Rattle.wb_target.specs.Carried.{client_state, looked_at_fail, HasBegun, Runs, WasDone, WasDoneWith, WereDone, share_of, migration_of, serving, flush_of, jobs_of, BlocksAreThere, AreSynced};
-ghost use Rattle.wb_target.specs.Told.{HadTick, WasNext, WasGivenUp};
+ghost use Rattle.wb_target.specs.Told.{HadTick, WasNext, WasGivenUp, WereSettled};
 ghost use Rattle.wb_target.specs.Workers.{WasRefused, DidNotBegin, GaveUpAmong, OrderRefused, FlushRefused, TickRefused};
 
 use crate::client::Client;
@@ -28,7 +28,7 @@ use wb_policy::{Order, Policy};
 use wb_port::{LONGEST, Port};
 use wb_stage::Share;
 use wb_tasks::{Answer, BlockTask, Migration, Task};
-use wb_types::{OBlock, Refusal, SECTOR_BYTES};
+use wb_types::{Dev, OBlock, Refusal, SECTOR_BYTES};
 
 /// How a flush was answered done.
 #[derive(Drop)]
@@ -123,11 +123,30 @@ fn migrate<R: Wait, D: Disk + Drop, P: Policy, G: Gate>(
                     thread::yield_now();
                     continue;
                 }
+                pass_over(rt, target, migration, block, refusal);
                 return Err(refusal);
             }
         }
     }
     unreachable!()
+}
+
+/// Counts a block that cannot be read from the cache as accessed, so that the policy orders other blocks to be cleaned or replaced before it.
+fn pass_over<R: Wait, P: Policy>(
+    rt: &R,
+    target: &Target<P>,
+    migration: Migration,
+    block: OBlock,
+    refusal: Refusal,
+)
+    ensures { copied_to migration ≡ None → refusal ≡ Refusal.Io Dev.Cache → WereSettled P.ordered P.settled (block ∷ []) }
+{
+    match (migration, refusal) {
+        (Migration::Demote | Migration::Clean, Refusal::Io(Dev::Cache)) => {
+            target.settle(rt, &[block]);
+        }
+        _ => {}
+    }
 }
 
 /// Makes all that was finished durable, by a commit that begins after it has come: its own, or that of another client which waits, too. The order of a
