@@ -31,8 +31,6 @@ KEPT = "wbmeta: the mapping is kept: before the origin is used alone, detach the
 HELD = "wbmeta: a server holds the cache: this is the state last committed\n"
 # How many changes of a block are tried: fewer with a slow program.
 CHANGES = int(os.environ.get("CHANGES", 1000))
-# Where a library stands that kills, and fails reads of a sector.
-STOPS = []
 # Three blocks in the cache: the last write of each is there alone.
 DIRTY = "".join(f"r {s} 1\nr {s} 1\nwork\nw {s} 1 {fill}\n" for s, fill in ((0, 21), (64, 22), (128, 23)))
 SHOWN = PREPARED | {0: "21", 64: "22", 128: "23"}
@@ -230,7 +228,7 @@ def comparing_fails():
     dirty(is_clean=True)
     meta("writeback", TABLE)
     for name, device in (("c.img", "cache"), ("o.img", "origin")):
-        env = {"LD_PRELOAD": STOPS[0], "STOPS_BAD": name, "STOPS_FROM": BLOCK, "STOPS_TO": BLOCK + 512}
+        env = {"LD_PRELOAD": PROGRAMS.stops, "STOPS_BAD": name, "STOPS_FROM": BLOCK, "STOPS_TO": BLOCK + 512}
         status, told, said = meta("verify", TABLE, env=env)
         same(f"verify where {name} fails", (status, told, "cache block 1 and origin block 1" in said), (3, f"refused 5 Io {device}\n", True))
 
@@ -268,7 +266,7 @@ def bad_sectors():
         for is_clean in (False, True):
             for word in ("writeback", "detach"):
                 dirty(table, is_clean)
-                env = {"LD_PRELOAD": STOPS[0], "STOPS_BAD": "c.img", "STOPS_FROM": 512, "STOPS_TO": 1024}
+                env = {"LD_PRELOAD": PROGRAMS.stops, "STOPS_BAD": "c.img", "STOPS_FROM": 512, "STOPS_TO": 1024}
                 status, told, said = meta(word, table, env=env)
                 same(f"{word} past a bad sector", (status, told), (3, "refused 5 Io cache\n"))
                 same("it is named", said.count("cache block 0, of origin block 0, was not written home"), 1)
@@ -327,7 +325,7 @@ def kills(word, table, is_clean):
     kept = files()
     for step in range(1, 1000):
         put(kept)
-        status, told, _ = meta(word, table, env={"LD_PRELOAD": STOPS[0], "STOPS_AT": step})
+        status, told, _ = meta(word, table, env={"LD_PRELOAD": PROGRAMS.stops, "STOPS_AT": step})
         if status != -signal.SIGKILL:
             same("a call that no kill met", (status, told), (0, "ok 3\n"))
             return print(f"tried: {step - 1} kills of {word}")
@@ -366,7 +364,7 @@ def rounds_last():
     same("what is dirty", counts(), ["unclean", str(blocks), str(blocks)])
     left, calls = blocks, 0
     for calls in range(1, 8):
-        status, told, said = meta("writeback", TABLE, env={"LD_PRELOAD": STOPS[0], "STOPS_AT": 9500}, timeout=300)
+        status, told, said = meta("writeback", TABLE, env={"LD_PRELOAD": PROGRAMS.stops, "STOPS_AT": 9500}, timeout=300)
         if status != -signal.SIGKILL:
             break
         state, mapped, now = counts()
@@ -403,19 +401,6 @@ def try_theme(number):
             print(f"{theme.__name__} {words}: {time.monotonic() - begun:.1f} s", file=sys.stderr, flush=True)
 
 
-def build_stops(folder):
-    """Builds what kills, by the compiler that builds the weather."""
-    made, source = os.path.join(folder, "stops.so"), os.path.join(TOP, "stops.c")
-    words = ["-O2", "-nostdinc", "-shared", "-fPIC", "-o", made, source]
-    kit = os.path.join(os.path.dirname(os.path.dirname(os.path.realpath(shutil.which("rt") or "rt"))), "toolchain")
-    if os.path.exists(f"{kit}/bin/clang"):
-        subprocess.run([f"{kit}/bin/clang", "-nostdlib", f"--ld-path={kit}/bin/ld.lld", *words, f"{kit}/lib/libc.so.6"], check=True)
-    else:
-        compiler = next(it for it in ("clang", "gcc", "cc") if shutil.which(it))
-        subprocess.run([compiler, *words], check=True)
-    STOPS.append(made)
-
-
 def main():
     PROGRAMS.meta, PROGRAMS.cache = (os.path.abspath(word) for word in sys.argv[1:3])
     folder = tempfile.mkdtemp(dir="/dev/shm" if os.path.isdir("/dev/shm") else None)
@@ -427,7 +412,7 @@ def main():
             print("not tried: there is no C compiler, by which devices fail")
             print("0 passed, 0 failed")
             return
-        build_stops(folder)
+        PROGRAMS.stops = base.build(folder, "stops")
         wanted = [n for n, theme in enumerate(THEMES) if not sys.argv[3:] or any(word in theme[0].__name__ for word in sys.argv[3:])]
         with multiprocessing.Pool(min(4, os.cpu_count() or 1)) as pool:
             results = pool.map(try_theme, wanted, chunksize=1)

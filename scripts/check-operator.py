@@ -378,7 +378,7 @@ def a_read_leaves_no_mark():
         _, _, said = call(PROGRAMS.cache, "run", TABLE, script="r 256 1\nw 320 1 31\nflush\n", env=failing("o.img", number))
         is_read = "a read failed" in said
         tried += is_read
-        same(f"a mark behind step {number}: {said}", os.path.exists(MARK), "failed: " in said and not is_read)
+        same(f"a mark behind step {number}: {said}", os.path.exists(MARK), " failed" in said and not is_read)
     need(tried > 0, "no read failed")
 
 
@@ -412,6 +412,43 @@ def a_lost_flush():
                 same(f"{kind}, call {number}: written", (status, is_written), (4 if kind == "inside a message" else 0, True))
                 break
         need(tried > 0, f"no flush failed {kind}")
+
+
+def a_block_that_cannot_be_read():
+    """A dirty block that is next to be replaced cannot be read: its order is refused, it is named, and others are replaced."""
+    formatted()
+    lines = "".join(f"w {block * 64} 1 1{block}\nr {block * 64} 1\nwork\nw {block * 64} 1 2{block}\n" for block in range(4))
+    status, told, _ = call(PROGRAMS.cache, "run", TABLE, script=lines + "flush\n")
+    same("a first life", (status, told.count("promoted")), (0, 4))
+    hot = "".join(f"r {block * 64} 1\n" * 5 + "work\n" for block in (4, 5, 6, 4, 5, 6))
+    env = {"LD_PRELOAD": PROGRAMS.stops, "STOPS_BAD": "c.img", "STOPS_FROM": 0, "STOPS_TO": 512}
+    status, told, said = call(PROGRAMS.cache, "run", TABLE, script=hot, env=env)
+    orders = [line for line in told.splitlines() if line.split()[0] in ("replaced", "refused", "idle")]
+    same("one order is refused", orders.count("refused 5 Io cache"), 1)
+    need(sum(line.startswith("replaced ") for line in orders) >= 3, f"others are replaced: {orders}")
+    has("it is named", said, "cache file: a read failed at sector 0: ")
+    same("the script's status", status, 3)
+
+
+def a_long_read():
+    """Lines come as sectors are read, and memory is held for some of them alone; a refusal stands behind the lines before it."""
+    files(sectors=400)
+    os.truncate("o.img", 20_000 * BLOCK)
+    same("formatting", call(PROGRAMS.cache, "format", TABLE)[0], 0)
+    with open("said", "w") as said:
+        process = subprocess.Popen([PROGRAMS.cache, "run", TABLE], stdin=subprocess.PIPE, stdout=subprocess.PIPE, stderr=said, text=True)
+    process.stdin.write("r 0 1280000\n")
+    process.stdin.close()
+    lines = sum(line == f"{sector} 00\n" for sector, line in enumerate(process.stdout))
+    _, status, used = os.wait4(process.pid, 0)
+    process.returncode = os.waitstatus_to_exitcode(status)
+    same("the lines of a long read", (lines, process.returncode), (1_280_000, 0))
+    need(used.ru_maxrss < 60_000, f"a long read holds {used.ru_maxrss} kB")
+    status, told, _ = call(PROGRAMS.cache, "run", TABLE, script="r 0 1280000\n", env=failing("o.img", 1000))
+    lines = told.splitlines()
+    same("a refusal in a long read", (status, lines[-1]), (3, "refused 5 Io origin"))
+    need(0 < len(lines) - 1 < 64_000, f"lines before it: {len(lines) - 1}")
+    same("which are its first", lines[:-1], [f"{sector} 00" for sector in range(len(lines) - 1)])
 
 
 def few_descriptors():
@@ -515,7 +552,7 @@ def main():
     PROGRAMS.cache, PROGRAMS.server, PROGRAMS.meta = (os.path.abspath(it) for it in sys.argv[1:4])
     words, passed, failed = sys.argv[4:], 0, 0
     with tempfile.TemporaryDirectory() as folder:
-        PROGRAMS.weather = base.build(folder)
+        PROGRAMS.weather, PROGRAMS.stops = base.build(folder), base.build(folder, "stops")
         for one in CHECKS:
             if words and not any(word in one.__name__ for word in words):
                 continue

@@ -11,7 +11,7 @@ TOP = os.path.dirname(os.path.abspath(__file__))
 DEVICES = {"m.img": "metadata", "c.img": "cache", "o.img": "origin"}
 MODES = ("writeback", "writethrough", "passthrough")
 # The programs, and the library that makes the weather.
-PROGRAMS = types.SimpleNamespace(cache=None, server=None, weather=None)
+PROGRAMS = types.SimpleNamespace(cache=None, server=None, weather=None, stops=None)
 
 
 class Wrong(Exception):
@@ -114,9 +114,9 @@ def look_again(book):
         book.survives(sector, line.split()[1])
 
 
-def build(folder):
-    """Builds what makes the weather, by the kit's clang or else a compiler of the system: None where there is none."""
-    made, source = os.path.join(folder, "weather.so"), os.path.join(TOP, "weather.c")
+def build(folder, name="weather"):
+    """Builds weather.c or stops.c for programs to load, by the kit's clang or else a compiler of the system: None where there is none."""
+    made, source = os.path.join(folder, f"{name}.so"), os.path.join(TOP, f"{name}.c")
     words = ["-O2", "-nostdinc", "-shared", "-fPIC", "-o", made, source]
     kit = os.path.join(os.path.dirname(os.path.dirname(os.path.realpath(shutil.which("rt") or "rt"))), "toolchain")
     if os.path.exists(f"{kit}/bin/clang"):

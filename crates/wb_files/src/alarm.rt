@@ -80,8 +80,8 @@ impl<'a, E: Eprint + Marker> Alarm<'a, E> {
             return;
         };
         let is_harmless = match step {
-            Step::Read => true,
-            Step::Write => is_want_of_room(reason.kind()),
+            Step::Read(_) => true,
+            Step::Write(_) => is_want_of_room(reason.kind()),
             Step::Sync => false,
         };
         if is_harmless {
@@ -103,7 +103,7 @@ impl<'a, E: Eprint + Marker> Watch for Alarm<'a, E> {
         };
         if self.device(device).swap(state, Ordering::SeqCst) == NONE {
             let program = self.program;
-            let _ = eprintln!(self.log; "{program}: {device} file: {step} failed: {reason}");
+            let _ = eprintln!(self.log; "{program}: {device} file: {step}: {reason}");
         }
         self.mark(device, step, reason);
     }

@@ -67,7 +67,7 @@ impl MarkPlace {
         options.write(true).create(true).truncate(true);
         let mut file = options.open(rt, self.path.as_str())?;
         let boot = self.boot.as_str();
-        writeln!(file, "{device} {boot} {step} failed: {reason}")?;
+        writeln!(file, "{device} {boot} {step}: {reason}")?;
         file.sync_all()
     }
 

@@ -153,11 +153,14 @@ impl<'w, N: Watch> FileExt for ReadFile<'w, N> {
         match &read {
             Ok(0) if wanted > 0 => {
                 let reason = io::Error::from(ErrorKind::UnexpectedEof);
-                self.watch.failed(self.device, Step::Read, &reason);
+                self.watch
+                    .failed(self.device, Step::read_at(offset), &reason);
             }
             Ok(_) => {}
             Err(reason) if reason.kind() == ErrorKind::Interrupted => {}
-            Err(reason) => self.watch.failed(self.device, Step::Read, reason),
+            Err(reason) => self
+                .watch
+                .failed(self.device, Step::read_at(offset), reason),
         }
         read
     }

@@ -7,14 +7,26 @@ use std::fs::{File, Metadata, OpenFile};
 use std::io::{ErrorKind, Seek, SeekFrom};
 use std::os::unix::fs::FileExt;
 use std::{fmt, io};
-use wb_types::Dev;
+use wb_types::{Dev, SECTOR_BYTES};
 
-/// A step on a file.
+/// A step on a file: a read or a write with the sector at which it began, the first of the file 0.
 #[derive(Clone, Copy)]
 pub enum Step {
-    Read,
-    Write,
+    Read(u64),
+    Write(u64),
     Sync,
+}
+
+impl Step {
+    /// A read that began at this byte of the file.
+    pub(crate) fn read_at(offset: u64) -> Step {
+        Step::Read(offset / SECTOR_BYTES as u64)
+    }
+
+    /// A write that began at this byte of the file.
+    fn write_at(offset: u64) -> Step {
+        Step::Write(offset / SECTOR_BYTES as u64)
+    }
 }
 
 /// Who is told of each step on a device that failed, before whoever asked for it is.
@@ -65,10 +77,13 @@ impl<'f, N: Watch> FileExt for Watched<'f, N> {
         let read = self.file.read_at(buf, offset);
         match &read {
             Ok(0) if wanted > 0 => {
-                self.tell(Step::Read, &io::Error::from(ErrorKind::UnexpectedEof));
+                self.tell(
+                    Step::read_at(offset),
+                    &io::Error::from(ErrorKind::UnexpectedEof),
+                );
             }
             Ok(_) => {}
-            Err(reason) => self.tell(Step::Read, reason),
+            Err(reason) => self.tell(Step::read_at(offset), reason),
         }
         read
     }
@@ -77,10 +92,13 @@ impl<'f, N: Watch> FileExt for Watched<'f, N> {
         let written = self.file.write_at(buf, offset);
         match &written {
             Ok(0) if buf.len() > 0 => {
-                self.tell(Step::Write, &io::Error::from(ErrorKind::WriteZero));
+                self.tell(
+                    Step::write_at(offset),
+                    &io::Error::from(ErrorKind::WriteZero),
+                );
             }
             Ok(_) => {}
-            Err(reason) => self.tell(Step::Write, reason),
+            Err(reason) => self.tell(Step::write_at(offset), reason),
         }
         written
     }
@@ -120,12 +138,13 @@ impl<'f, N> Seek for Watched<'f, N> {
     }
 }
 
+/// That it failed, and where.
 impl Display for Step {
     fn fmt<W: fmt::Write>(&self, f: &mut Formatter<W>) -> fmt::Result {
-        f.write_str(match self {
-            Step::Read => "a read",
-            Step::Write => "a write",
-            Step::Sync => "a sync",
-        })
+        match self {
+            Step::Read(sector) => write!(f, "a read failed at sector {sector}"),
+            Step::Write(sector) => write!(f, "a write failed at sector {sector}"),
+            Step::Sync => f.write_str("a sync failed"),
+        }
     }
 }

@@ -1,7 +1,8 @@
 //! Scripts: a line in, its answer out.
 
-ghost use Rattle.std.specs.Prelude.{◌≡◌, ◌<◌, ◌++◌, ℕ, List, OnOk, IfErr, string_bytes};
+ghost use Rattle.std.specs.Prelude.{◌≡◌, ◌<◌, ◌≤◌, ◌*◌, ◌++◌, ℕ, List, OnOk, IfErr, string_bytes};
 ghost use Rattle.std.specs.Io.KnownBytes.{Appends};
+ghost use Rattle.wb_opened.specs.Inside.{IsInside};
 ghost use Rattle.wb_play.specs.Played.{WasPlayed};
 ghost use Rattle.wb_play.specs.Stopped.{PlayWasRefused};
 
@@ -12,14 +13,17 @@ use std::io::{BufRead, ErrorKind, Read, Write};
 use std::sync::Wait;
 use std::time::Clock;
 use wb_dialogue::{
-    Ahead, Asked, Call, Line, Progress, Room, Said, Status, StreamFailed, Tally, Told, print,
-    print_all, print_bad_line, print_refusal, read_line, see_out, without_break,
+    Ahead, Asked, Call, Line, Paced, Progress, Room, Said, Status, StreamFailed, Tally, Told,
+    Unseen, print, print_all, print_bad_line, print_refusal, read_line, see_out, without_break,
 };
 use wb_opened::{LANES, Next, Play, Served, Shown};
-use wb_types::Refusal;
+use wb_types::{Extent, Geometry, Refusal, Sector};
 
 /// Room for an answer of one line, made before the first line is read.
 const ONE_LINE: usize = 64;
+
+/// So many sectors of a read are answered at once, or those of one block: 8 MiB.
+const AT_ONCE: u64 = 16_384;
 
 /// So many bytes without a line break are no line of a script: 1 MiB.
 const MOST_OF_A_LINE: u64 = 1_048_576;
@@ -199,6 +203,7 @@ fn play<R: Wait, C: Served, I: Ahead, W: Write, E: Clock + Eprint>(
                     return Ok(Next::Begin(lane));
                 }
             }
+            Line::Asks(Call::Read { at, count }) => read(rt, client, script, at, count)?,
             _ => {
                 let answered = answer_line(rt, client, script, line);
                 tell(script, answered)?;
@@ -206,6 +211,67 @@ fn play<R: Wait, C: Served, I: Ahead, W: Write, E: Clock + Eprint>(
         }
     }
     Ok(script.join_before(Behind::End))
+}
+
+/// Reads sectors and prints their lines, some blocks at a time: behind a block that is refused nothing is read, and lines before it may have
+/// been printed.
+fn read<R: Wait, C: Served, I: Ahead, W: Write, E: Clock + Eprint>(
+    rt: &R,
+    client: &mut C,
+    script: &mut Script<'_, I, W, E>,
+    at: Sector,
+    count: u64,
+) -> Result<(), StreamFailed> {
+    let geometry = client.geometry();
+    let Sector(first) = at;
+    let mut rest = Extent { first, count };
+    script.progress.begin();
+    for _ in 0..u64::MAX {
+        let piece = first_piece(&geometry, rest);
+        let call = Call::Read {
+            at: Sector(piece.first),
+            count: piece.count,
+        };
+        let answered = answer(
+            rt,
+            client,
+            call,
+            &mut script.room,
+            &mut script.text,
+            &mut Unseen,
+        );
+        script.room.trim();
+        let is_last = answered.is_err() || piece.count >= rest.count;
+        tell(script, answered)?;
+        if is_last {
+            break;
+        }
+        script.text.clear();
+        rest.first = rest.first.saturating_add(piece.count);
+        rest.count -= piece.count;
+        script
+            .progress
+            .reach(count.saturating_sub(rest.count), count);
+    }
+    Ok(())
+}
+
+/// The sectors of a read that are answered first: they end where a block does. A read outside the origin is refused as a whole.
+fn first_piece(geometry: &Geometry, rest: Extent) -> Extent
+    ensures first { result.first ≡ rest.first }
+    ensures within { result.count ≤ rest.count }
+    ensures whole { ¬ IsInside rest.first rest.count (geometry.now.block * geometry.now.origin_blocks) → result.count ≡ rest.count }
+{
+    if !rest.is_some_within(geometry.origin_sectors()) {
+        return rest;
+    }
+    let size = u64::from(geometry.block);
+    let to_end = size - rest.first % size;
+    let others = (AT_ONCE / size).saturating_sub(1) * size;
+    Extent {
+        first: rest.first,
+        count: rest.count.min(to_end + others),
+    }
 }
 
 /// Does what a line asks the first client or the target for, and adds what is answered to the text.
