@@ -81,7 +81,7 @@ def devices():
     p.text(362, 80, "reads, writes, flushes", "dim", 13, "start")
     p.box(20, 94, 660, 196, "page", [""])
     p.text(34, 114, "wbnbd, or wbcache run", "text", 14, "start", "bold")
-    p.box(40, 126, 190, 66, "plain", ["client threads", "up to 64; no lock", "on the way of a request"])
+    p.box(40, 126, 190, 66, "plain", ["client threads", "up to 64; sectors move", "without a mutex"])
     p.box(255, 126, 190, 66, "plain", ["lock words, in memory", "3 for each block:", "lock, seal, number"])
     p.box(470, 126, 190, 66, "plain", ["worker", "carries out orders,", "ticks"])
     p.box(255, 218, 190, 58, "plain", ["desk, under one lock", "mapping, orders, policy"])
@@ -127,6 +127,28 @@ def cache_block():
     p.text(358, 158, "the same, where a", "dim", 13, "start")
     p.text(358, 175, "replacement waits", "dim", 13, "start")
     p.text(350, 28, "One cache block, from free to mapped and back", "text", 15, weight="bold")
+    return p
+
+
+def request():
+    """The steps of a write."""
+    p = Picture(312, "The steps of a write to a cached block, in write-back")
+    p.text(350, 26, "The steps of a write to a cached block, in write-back", "text", 15, weight="bold")
+    rows = [
+        [("look", ["fail word:", "is it 0?"], "plain"), ("look", ["lock word:", "is it free?"], "plain"), ("exchange", ["lock word:", "own the block"], "meta"), ("look", ["seal: where,", "is it dirty?"], "plain"), ("look", ["number of", "writes"], "plain")],
+        [("store", ["seal: dirty,", "if it was clean"], "meta"), ("write", ["the sectors", "in the cache"], "fast"), ("add", ["number: one", "write more"], "meta"), ("add", ["statistics:", "a write hit"], "meta"), ("release", ["lock word;", "answer"], "meta")],
+    ]
+    for row, steps in enumerate(rows):
+        y = 46 + row * 108
+        for number, (name, lines, kind) in enumerate(steps):
+            x = 18 + number * 136
+            p.box(x, y, 118, 76, kind, [name, *lines])
+            if number < 4:
+                p.arrow([(x + 118, y + 38), (x + 135, y + 38)])
+    p.arrow([(621, 122), (621, 138), (77, 138), (77, 152)])
+    for x, kind, words in ((40, "plain", "a look at a word"), (250, "meta", "a change of a word"), (470, "fast", "a step on a device")):
+        p.box(x, 270, 18, 18, kind, [""])
+        p.text(x + 26, 284, words, "text", 13, "start")
     return p
 
 
@@ -254,7 +276,7 @@ def proof():
     return p
 
 
-PICTURES = {"devices": devices, "cache-block": cache_block, "layout": layout, "commit": commit, "flushes": flushes, "opening": opening, "proof": proof}
+PICTURES = {"devices": devices, "request": request, "cache-block": cache_block, "layout": layout, "commit": commit, "flushes": flushes, "opening": opening, "proof": proof}
 
 
 def main():
