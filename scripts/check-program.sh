@@ -52,7 +52,6 @@ if command -v python3 >/dev/null; then
   call "$top/scripts/check-operator.py" "$cache" "$server" "$meta"
   call "$top/scripts/check-meta.py" "$meta" "$cache"
   call "$top/scripts/power.py" "$cache" "$server" "$meta"
-  call "$top/scripts/check-meta.py" "$meta" "$cache"
   call "$top/scripts/manual.py" "$cache" "$server" "$meta"
   call "$top/scripts/commands.py" "$cache" "$server" "$meta"
 else
