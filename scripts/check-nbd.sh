@@ -198,9 +198,12 @@ check 'a wait that is over in time' "$(status) $(grep -c opened told.txt)" '0 1'
 
 # --- A device that fails: a shell ignores the signal of the limit of the file size.
 fresh
-(trap '' XFSZ; ulimit -f 100; { hello; write_of 1 199680 512; write_of 2 0 512; flush_of 3; goodbye; } | serve "$table")
+# The flush is sent once the failure was told: before that it may succeed, since no write was answered.
+told() { until grep -q 'file:' told.txt; do sleep 0.1; done; sleep 0.5; }
+rm -f told.txt
+(trap '' XFSZ; ulimit -f 100; { hello; write_of 1 199680 512; write_of 2 0 512; told 2>/dev/null; flush_of 3; goodbye; } | serve "$table")
 check 'a device that fails ends it with 3' "$(status)" 3
-check 'and which is told, with the reason, once' "$(grep 'file:' told.txt)" 'wbnbd: origin file: a write failed: File too large (os error 27)'
+check 'and which is told, with the reason, once' "$(grep 'file:' told.txt)" 'wbnbd: origin file: a write failed at sector 390: File too large (os error 27)'
 has 'and what it came to' "$(cat told.txt)" 'wbnbd: the last flush was refused'
 check 'no reply without an error for a step that failed' "$(replies | tr ' ' '\n' | grep -c '^00:0[13]')" 0
 has 'a file that may not grow has no room' "$(replies)" '1c:01'
@@ -221,7 +224,7 @@ mkdir mnt
 case $(id -u) in 0) alone='unshare -m' ;; *) alone='unshare -rm' ;; esac
 if $alone sh -c 'mount -t tmpfs none mnt' 2>/dev/null; then
   $alone sh full.sh "$cache" "$server" "$table"
-  check 'a full file system' "$? $(replies) $(grep 'file:' told.txt)" '3 1c:01  wbnbd: origin file: a write failed: No space left on device (os error 28)'
+  check 'a full file system' "$? $(replies) $(grep 'file:' told.txt)" '3 1c:01  wbnbd: origin file: a write failed at sector 0: No space left on device (os error 28)'
 else
   echo 'not tried: a full file system, since nothing can be mounted here'
 fi
@@ -235,7 +238,7 @@ exec 3>sends 4<tells
 { hello; read_of 1 32768 512; read_of 2 32768 512; } >&3
 read -r _ <&4
 read -r told <&4
-check 'what the worker beside met is told at once' "$told" 'wbnbd: cache file: a write failed: File too large (os error 27)'
+check 'what the worker beside met is told at once' "$told" 'wbnbd: cache file: a write failed at sector 8: File too large (os error 27)'
 goodbye >&3
 exec 3>&-
 cat <&4 >told.txt

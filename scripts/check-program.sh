@@ -545,7 +545,7 @@ ok
 70 11
 refused 5 Io origin'
 check 'reads that failed' "$(cat told)" "$opened
-wbcache: origin file: a read failed: unexpected end of file
+wbcache: origin file: a read failed at sector 70: unexpected end of file
 wbcache: 3 lines were refused, the first at line 2: 5 Io origin
 3"
 
@@ -560,12 +560,12 @@ refused 6 Failed
 refused 1 Range
 Fail'
 check 'and is told' "$(cat reason.txt)" "$opened
-wbcache: origin file: a write failed: File too large (os error 27)
+wbcache: origin file: a write failed at sector 390: File too large (os error 27)
 wbcache: 4 lines were refused, the first at line 2: 5 Io origin"
 
 fresh
 said=$( (trap '' XFSZ; ulimit -f 0; "$cache" format "$table") 2>&1)
-check 'a device that fails while it is formatted' "$? $said" '3 wbcache: metadata file: a write failed: File too large (os error 27)
+check 'a device that fails while it is formatted' "$? $said" '3 wbcache: metadata file: a write failed at sector 0: File too large (os error 27)
 refused 5 Io metadata'
 
 # Help, version and what is not read.

@@ -14,7 +14,7 @@ import tempfile
 TOP = os.path.dirname(os.path.dirname(os.path.abspath(__file__)))
 TABLE = "cache m.img c.img o.img 64 0 tinylfu 0"
 # The subcommands of each program, whose own usage is shown as well.
-SUBCOMMANDS = {"wbcache": ["format", "run", "replay"], "wbnbd": [], "wbmeta": ["check", "dump", "verify", "writeback", "detach"]}
+SUBCOMMANDS = {"wbcache": ["format", "run", "replay"], "wbnbd": [], "wbmeta": ["check", "dump", "verify", "writeback", "detach", "cleared"]}
 # What stands for a placeholder of the help in a line that is tried.
 EXAMPLES = {"S": "0", "N": "1", "hh": "11", "M": "promote_min 3", "@K": "@1", "LINE": "r 0 1", "..": "a comment"}
 

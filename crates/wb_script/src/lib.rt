@@ -13,5 +13,6 @@ pub use format::format_files;
 pub use given_up::{
     Consent, Course, GivenUp, Notice, Overwriting, Overwritten, Wishes, choose_course,
 };
+pub use reason::Reason;
 pub use script::run;
 pub use sparse::SparseFile;

@@ -17,8 +17,8 @@ use wb_dialogue::Progress;
 use wb_files::{Alarm, Awaited, ErrorLog, MarkPlace, Marker, Patient, hold_streams};
 use wb_opened::{Inspection, Rigor, Unserved};
 use wb_script::{
-    Consent, Course, Ended, Notice, Overwriting, Overwritten, Wishes, choose_course, format_files,
-    refused, run,
+    Consent, Course, Ended, Notice, Overwriting, Overwritten, Reason, Wishes, choose_course,
+    format_files, refused, run,
 };
 use wb_types::Refusal;
 
@@ -105,7 +105,7 @@ fn format<T: Wait + Clock, E: Eprint + Marker>(
         &mut terminal,
         &mut io::writer(rt),
     );
-    tell(log, &ended)
+    tell(log, &alarm, &ended)
 }
 
 /// Runs a script over the files of a table, and gives the exit status. What an inspection finds is said, and refuses nothing but files that
@@ -135,19 +135,20 @@ fn play<T: Threads + Wait + Clock + Sync, E: Clock + Eprint + Marker + Sync>(
         refuses_older: false,
         verifies,
     };
+    let alarm = Alarm::new(log, PROGRAM, Some(&mark));
     let ended = run(
         rt,
         waits,
         alloc,
         table,
         patience,
-        &Alarm::new(log, PROGRAM, Some(&mark)),
+        &alarm,
         &mut Inspection::new(rt, log, PROGRAM, &mark, rigor),
         &mut reader,
         &mut writer,
         Progress::new(log, verbose),
     );
-    tell(log, &ended)
+    tell(log, &alarm, &ended)
 }
 
 /// Who formats, with these wishes, on a terminal or not.
@@ -216,10 +217,14 @@ fn awaited<S>(rt: &HostRuntime, stream: S) -> Awaited<'_, HostRuntime, S> {
     Awaited { clock: rt, stream }
 }
 
-/// Says why a run ended as it did, and gives the exit status.
-fn tell<E: Eprint>(log: &E, ended: &Ended<'_>) -> u8 {
-    if let Some(reason) = &ended.reason {
-        let _ = eprintln!(log; "wbcache: {reason}");
+/// Says why a run ended as it did, and gives the exit status. The failure of a device that was told when it came is not told again.
+fn tell<E: Eprint>(log: &E, alarm: &Alarm<'_, E>, ended: &Ended<'_>) -> u8 {
+    match &ended.reason {
+        Some(Reason::Unserved(Unserved::Refused(Refusal::Io(device)))) => alarm.note(*device),
+        Some(reason) => {
+            let _ = eprintln!(log; "wbcache: {reason}");
+        }
+        None => {}
     }
     ended.code
 }
