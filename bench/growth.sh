@@ -1,11 +1,9 @@
 #!/bin/sh
-# Draws docs/growth.svg: what a request, an access that is settled, an opening and a tick take over caches of 2^10, 2^15 and 2^20 - 1 blocks, all mapped,
-# medians of TURNS (7) turns in one run; and prints the numbers. It needs cc and python3 alone, and builds the programs where none are said. Files are made
-# in WORK (/dev/shm): some 200 MiB. PART=0.01 is a trial of the script. See bench/README.md.
+# Measures what a request, an access that is settled, an opening and a tick take over caches of 2^10, 2^15 and 2^20 - 1 blocks, all mapped, medians of
+# TURNS (7) turns in one run: it prints bench/results/growth.csv, which bench/pictures.py draws. It needs cc and python3 alone, and builds the programs
+# where none are said. Files are made in WORK (/dev/shm): some 200 MiB. PART=0.01 is a trial of the script. See bench/README.md.
 #
-#     sh bench/growth.sh [WBCACHE WB_BENCH [OUT]]
-#
-# OUT is the folder of the picture, docs/ where none is said.
+#     sh bench/growth.sh [WBCACHE WB_BENCH]
 set -eu
 top=$(cd "$(dirname "$0")/.." && pwd)
 if test $# -ge 2; then
@@ -22,4 +20,4 @@ trap 'rm -rf "$built"' EXIT
 trap 'exit 1' HUP INT TERM
 cc -O2 -pthread -o "$built/clients" "$top/bench/clients.c"
 cc -O2 -o "$built/policy" "$top/bench/policy.c"
-PYTHONDONTWRITEBYTECODE=1 python3 "$top/bench/growth.py" "$cache" "$bench" "$built/clients" "$built/policy" "${3:-$top/docs}"
+PYTHONDONTWRITEBYTECODE=1 python3 "$top/bench/growth.py" "$cache" "$bench" "$built/clients" "$built/policy"

@@ -1,10 +1,10 @@
 #!/usr/bin/env python3
-"""The manual pages, made from what the programs say by --help, and whether what is said there is so.
+"""The manual pages in docs/man beside what the programs say by --help, and whether what is said there is so.
 
-    python3 scripts/manual.py WBCACHE WBNBD WBMETA            compares docs/man with that help, and tries each line of a script that it lists
-    python3 scripts/manual.py WBCACHE WBNBD WBMETA --write    writes docs/man
+    python3 scripts/manual.py WBCACHE WBNBD WBMETA
 
-It prints what failed, and at the end 'N passed, M failed'; its status is 0 where nothing failed."""
+Each page has its sections, and just the commands, options and lines of a script that the help has. Each line of a script that the help lists is tried. It
+prints what failed, and at the end 'N passed, M failed'; its status is 0 where nothing failed."""
 import os
 import re
 import subprocess
@@ -15,6 +15,7 @@ TOP = os.path.dirname(os.path.dirname(os.path.abspath(__file__)))
 TABLE = "cache m.img c.img o.img 64 0 tinylfu 0"
 # The subcommands of each program, whose own usage is shown as well.
 SUBCOMMANDS = {"wbcache": ["format", "run", "replay"], "wbnbd": [], "wbmeta": ["check", "dump", "verify", "writeback", "detach", "cleared"]}
+SECTIONS = ["NAME", "SYNOPSIS", "DESCRIPTION", "OPTIONS", "EXIT STATUS", "EXAMPLES", "FILES", "SEE ALSO"]
 # What stands for a placeholder of the help in a line that is tried.
 EXAMPLES = {"S": "0", "N": "1", "hh": "11", "M": "promote_min 3", "@K": "@1", "LINE": "r 0 1", "..": "a comment"}
 
@@ -24,31 +25,41 @@ def said(program, *words):
     return subprocess.run([program, *words], capture_output=True, text=True, timeout=60).stdout
 
 
-def usage(help_text):
-    """The synopsis in a program's help."""
-    return re.search(r"^Usage: (.*)$", help_text, re.M).group(1)
+def plain(line):
+    """A line of a page without its roff."""
+    for mark, text in (("\\fB", ""), ("\\fI", ""), ("\\fR", ""), ("\\-", "-"), ("\\(aq", "'"), ("\\&", "")):
+        line = line.replace(mark, text)
+    return line
 
 
-def escaped(line):
-    """A line as roff prints it letter by letter."""
-    line = line.replace("\\", "\\e").replace("-", "\\-").replace("'", "\\(aq").replace("`", "\\(ga").replace("^", "\\(ha").replace("~", "\\(ti")
-    return "\\&" + line if line[:1] in (".", "'") or line.startswith("\\(aq") else line
+def sections(path):
+    """The sections of a page, by name, each as lines."""
+    found = {}
+    with open(path, encoding="utf-8") as file:
+        for line in file.read().splitlines():
+            if line.startswith(".SH "):
+                found[line[4:]] = []
+            elif found:
+                found[list(found)[-1]].append(plain(line))
+    return found
 
 
-def page(program):
-    """The manual page of a program: its help, part by part."""
-    name = os.path.basename(program)
-    help_text = said(program, "--help")
-    about = help_text.split("\n", 1)[0]
-    version = said(program, "--version").split(",")[0].split()[-1]
-    synopsis = [usage(said(program, word, "--help")) for word in SUBCOMMANDS[name]] or [usage(help_text)]
-    rest = help_text.split("\n\n", 2)[2].rstrip("\n").split("\n")
-    lines = [f'.TH {name.upper()} 1 "" "{name} {version}" "Raistobe"', ".SH NAME", f"{name} \\- {escaped(about.rstrip('.'))}", ".SH SYNOPSIS", ".nf"]
-    lines += [escaped(line) for line in synopsis] + [".fi", ".SH DESCRIPTION", ".nf"]
-    for line in rest:
-        lines.append(escaped(line) if line else ".sp")
-    others = [f"\\fB{other}\\fR(1)" for other in SUBCOMMANDS if other != name]
-    return "\n".join(lines + [".fi", ".SH SEE ALSO", ", ".join(others)]) + "\n"
+def options_of(program):
+    """The long options of a program and of its commands, by its helps."""
+    texts = [said(program, *words, "--help") for words in [[], *([word] for word in SUBCOMMANDS[os.path.basename(program)])]]
+    return {option for text in texts for option in re.findall(r"^ +(?:-\w, )?(--[a-z-]+)", text, re.M)}
+
+
+def options_in(lines):
+    """The long options that a section has as the head of an entry."""
+    heads = [line for before, line in zip(lines, lines[1:]) if before == ".TP"]
+    return {option for head in heads for option in re.findall(r"--[a-z-]+", head)}
+
+
+def script_words(lines):
+    """The first words of the lines of a script that a page lists."""
+    heads = [line for before, line in zip(lines, lines[1:]) if before == ".TP"]
+    return {part.split()[0] for head in heads for part in head.split(", ")} - {"@K"}
 
 
 def listed(help_text):
@@ -84,16 +95,17 @@ def main():
             print(f"failed: {what}: {found!r}, wanted {wanted!r}")
 
     for program in programs:
-        path = os.path.join(TOP, "docs/man", os.path.basename(program) + ".1")
-        made = page(program)
-        if "--write" in sys.argv:
-            os.makedirs(os.path.dirname(path), exist_ok=True)
-            with open(path, "w", encoding="utf-8") as file:
-                file.write(made)
-        stands = open(path, encoding="utf-8").read() if os.path.exists(path) else ""
-        check(f"{path} is what --help says (python3 scripts/manual.py .. --write)", stands == made, True)
+        name = os.path.basename(program)
+        page = sections(os.path.join(TOP, "docs/man", f"{name}.1"))
+        check(f"the sections of {name}.1", [word for word in page if word in SECTIONS], SECTIONS)
+        check(f"the options of {name}.1", options_in(page["OPTIONS"]), options_of(program))
+        synopsis = [line.split()[1] for line in page["SYNOPSIS"] if line.startswith(f"{name} ")]
+        check(f"the commands of {name}.1", [word for word in synopsis if not word.startswith("[")], SUBCOMMANDS[name])
+        for option in set(re.findall(r"--[a-z-]+", " ".join(page["SYNOPSIS"]))):
+            check(f"{option} of the synopsis of {name}.1", option in options_of(program), True)
     help_text = said(programs[0], "run", "--help")
     lines = list(listed(help_text))
+    check("the lines of a script in wbcache.1", script_words(sections(os.path.join(TOP, "docs/man/wbcache.1"))["SCRIPT"]), words_read())
     check("the words that the help lists are those that a script may have", {line.split()[0] for line in lines} - {"#", "@1"}, words_read())
     with tempfile.TemporaryDirectory() as work:
         for name, size in (("m.img", 2048), ("c.img", 131072), ("o.img", 327680)):
