@@ -47,8 +47,8 @@ show() { # commands: each as it is typed, and what it and its server print, with
 say "# Clients
 
 What \`sh scripts/clients.sh\` printed ($which), command by command:"
-say 'real clients of `wbnbd`, which serves one client on its standard input and output. docs/WALK.md is a file
-system over it that is killed and drained.
+say 'real clients of `wbnbd`, which serves one client on its standard input and output. docs/GUIDE.md is for
+operators, and has a file system over it.
 
 ## Versions'
 show <<'W'

@@ -60,7 +60,7 @@ def is_printed(wanted, found):
 
 def play(commands, folder, path):
     """What each command prints, by one shell; fewer where that hangs or ends."""
-    script = "trap 'umount -l mnt disk 2>/dev/null' EXIT\n"
+    script = ""
     for number, (command, _) in enumerate(commands):
         script += f"echo '=== {number}'\n{{\n{command}\n}} </dev/null\n"
     with open(os.path.join(folder, "said"), "w+", encoding="utf-8") as said:
@@ -74,6 +74,8 @@ def play(commands, folder, path):
             os.killpg(shell.pid, signal.SIGKILL)
         except ProcessLookupError:
             pass
+        for place in ("mnt", "disk"):
+            subprocess.run(["umount", "-l", place], cwd=where["cwd"], env=where["env"], capture_output=True)
         said.seek(0)
         return [part.splitlines() for part in re.split(r"^=== \d+\n", said.read(), flags=re.M)[1:]]
 

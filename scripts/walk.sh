@@ -1,8 +1,9 @@
 #!/bin/sh
-# A walk from empty files to a mounted, cached, killed, reopened and drained file system, as it was seen: docs/WALK.md is what this prints.
+# A walk from empty files to a mounted, cached, killed, reopened and drained file system: it prints each command and what that prints. By hand, for a look
+# at a whole life on this machine; docs/GUIDE.md says what operators do, and scripts/guide.py tries that.
 # As root, on Linux with /dev/fuse and loop devices, e2fsprogs and python3; nbdfuse does what scripts/fuse_nbd.py does here, where it is there.
 #
-#     sh scripts/walk.sh [WBCACHE WBNBD WBMETA] >docs/WALK.md
+#     sh scripts/walk.sh [WBCACHE WBNBD WBMETA]
 #
 # The programs are those that scripts/build.sh leaves, where none are said.
 set -u
@@ -44,7 +45,7 @@ serve() { python3 "$top/scripts/fuse_nbd.py" disk wbnbd "$table" >server.txt 2>t
 
 say '# A walk
 
-From empty files to a file system that is mounted, cached, killed, opened again and drained: what `sh scripts/walk.sh` printed, command by command.
+From empty files to a file system that is mounted, cached, killed, opened again and drained, command by command.
 `serve` starts `scripts/fuse_nbd.py disk wbnbd "$table"`, which shows what `wbnbd` serves as the file `disk/nbd`, as `nbdfuse disk/nbd --command wbnbd "$table"` does.
 
 ## Three files: 64 MiB of origin, a cache of 16 MiB, 64 KiB of metadata'
