@@ -69,7 +69,7 @@ def play(commands, folder, path):
         try:
             shell.wait(SECONDS)
         except subprocess.TimeoutExpired:
-            print(f"failed: the commands take longer than {SECONDS} seconds")
+            print(f"failed: the commands take longer than {SECONDS} seconds: no output is known behind the next line that failed")
         try:
             os.killpg(shell.pid, signal.SIGKILL)
         except ProcessLookupError:
@@ -98,7 +98,10 @@ def main():
         found = play(commands, folder, path)
     failed = 0
     for number, (command, wanted) in enumerate(commands):
-        said = found[number] if number < len(found) else ["(nothing: the commands before it did not end)"]
+        if number >= len(found):
+            failed += 1
+            continue
+        said = found[number]
         if not is_printed(wanted, said):
             failed += 1
             print("\n".join([f"failed: {command}", *(f"  wanted: {line}" for line in wanted), *(f"  found:  {line}" for line in said)]))
