@@ -68,7 +68,7 @@ umount mnt; umount disk; wait
 cat told.txt
 W
 say '
-The second line is the status line of docs/FORMATS.md: how many blocks are cached, hits and misses of reads and of writes, demotions, promotions and dirty blocks.
+The second line is the status line, of which docs/GUIDE.md lists the fields.
 The server ended in order, so the cache is clean, though not all of it is home:'
 show <<'W'
 wbmeta check "$table"
