@@ -16,7 +16,7 @@ import sys
 import tempfile
 
 TOP = os.path.dirname(os.path.dirname(os.path.abspath(__file__)))
-SECONDS = 120
+SECONDS = 300
 # What a block that wants root wants, too.
 DEVICES = ("/dev/fuse", "/dev/loop-control")
 BLOCK = re.compile(r"^```console *(.*?)\n(.*?)^```$", re.M | re.S)
