@@ -206,7 +206,14 @@ def a_root_that_is_lost():
     same("served", (is_open, status), (False, 1))
     has("why", said, f"slot {newest} holds no valid root")
     has("what to do", said, "--accept-older")
+    for word in ("writeback", "detach"):
+        status, told, said = call(PROGRAMS.meta, word, TABLE)
+        same(word, (status, told), (1, f"refused 11 Damaged {newest}\n"))
+        has("what to do", said, "--accept-older")
     same("the files", content() == before, True)
+    same("drained", call(PROGRAMS.meta, "writeback", "--no-verify", "--accept-older", TABLE)[0], 0)
+    for name, data in before.items():
+        change(name, 0, data)
     has("a script says it", call(PROGRAMS.cache, "run", TABLE)[2], "holds no valid root")
     for name, data in before.items():
         change(name, 0, data)

@@ -35,9 +35,10 @@ blocks or 1 GiB. A block that cannot be read is passed over and named on
 standard error: it stays dirty, and the status is 3.
 Before they write anything they compare up to 64 blocks of a clean cache with
 the origin, and refuse where one differs: see verify. They are refused also
-while METADATA.failed tells of a write or a sync that failed: the system may
-show data that the disk does not have. Drop it first, with 'dd if=FILE
-iflag=nocache count=0' for each of the three files, and then call cleared.
+where the newest root may be lost, and while METADATA.failed tells of a write
+or a sync that failed: the system may show data that the disk does not have.
+Drop it first, with 'dd if=FILE iflag=nocache count=0' for each of the three
+files, and then call cleared.
 These two lock the three files; what another program holds is waited for.
 Status: 0 it was done, 1 it was refused, or blocks differ, 2 the arguments, 3 a
 device failed, a file is held or a block stayed dirty, 4 the output failed.";
@@ -75,6 +76,8 @@ pub struct Asked<'a> {
     pub wait: u32,
     /// Whether blocks of a clean cache are compared with the origin first.
     pub verifies: bool,
+    /// Whether an older state is opened where the newest root cannot be read.
+    pub accepts_older: bool,
 }
 
 impl<'a> FromWords<'a> for Asked<'a> {
@@ -98,6 +101,7 @@ impl<'a> FromWords<'a> for Asked<'a> {
             table: given.get_str("TABLE")?,
             wait,
             verifies: !given.get_flag("no-verify"),
+            accepts_older: given.get_flag("accept-older"),
         })
     }
 }
@@ -114,6 +118,14 @@ const NO_VERIFY: Named = Named {
     name: "no-verify",
     short: None,
     help: "Compare no blocks of a clean cache with the origin first",
+    takes_value: false,
+    is_global: false,
+};
+
+const ACCEPT_OLDER: Named = Named {
+    name: "accept-older",
+    short: None,
+    help: "Open the older state where the newest root cannot be read",
     takes_value: false,
     is_global: false,
 };
@@ -155,7 +167,7 @@ const WRITEBACK: Subcommand = Subcommand {
     about: "Write all dirty blocks to the origin, and leave the cache clean",
     texts: None,
     takes_table: true,
-    options: &[&NO_VERIFY],
+    options: &[&NO_VERIFY, &ACCEPT_OLDER],
 };
 
 const DETACH: Subcommand = Subcommand {
@@ -163,7 +175,7 @@ const DETACH: Subcommand = Subcommand {
     about: "Write all dirty blocks to the origin, and leave the cache empty",
     texts: None,
     takes_table: true,
-    options: &[&NO_VERIFY],
+    options: &[&NO_VERIFY, &ACCEPT_OLDER],
 };
 
 const PROGRAM: Program = Program {

@@ -176,7 +176,7 @@ fn write_home<'a, T: Threads + Wait + Clock + Sync, E: Eprint + Marker + Sync>(
                 let rigor = Rigor {
                     refuses_failed: true,
                     refuses_stale: true,
-                    refuses_older: false,
+                    refuses_older: !asked.accepts_older,
                     verifies: asked.verifies,
                 };
                 let mut inspection = Inspection::new(rt, log, PROGRAM, &mark, rigor);
