@@ -41,6 +41,7 @@ call "$top/scripts/check-nbd.sh" "$cache" "$server"
 call "$top/scripts/check-replays.sh" "$cache"
 call "$top/scripts/check-clients.sh" "$cache"
 if command -v python3 >/dev/null; then
+  call "$top/scripts/memory.py"
   call "$top/scripts/every_step.py" "$cache"
   call "$top/scripts/every_opening.py" "$cache"
   call "$top/scripts/lives.py" "$cache"
