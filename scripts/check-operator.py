@@ -519,6 +519,35 @@ def a_lock_that_is_held_for_a_moment():
             same(f"{words}, held", call(program, *words, "--wait", "0", TABLE)[:2], (3, "refused 5 Io origin\n"))
 
 
+def files_that_cannot_be_locked():
+    """A system without locks: nothing is served, since nobody could be kept out."""
+    cached()
+    env = {"LD_PRELOAD": PROGRAMS.stops, "STOPS_LOCKS": 1}
+    before = content()
+    for program, *words in ((PROGRAMS.cache, "run"), (PROGRAMS.cache, "format", "--force"), (PROGRAMS.meta, "writeback"), (PROGRAMS.meta, "detach")):
+        status, told, said = call(program, *words, TABLE, env=env)
+        same(f"{words[0]} without a lock", (status, told), (3, "refused 5 Io metadata\n"))
+        has("why", said, "m.img")
+    status, _, said = call(PROGRAMS.server, TABLE, env=env)
+    same(f"served without a lock: {said}", status, 3)
+    same("the files", content() == before, True)
+
+
+def a_busy_server_writes_back():
+    """Ticks come under load too: blocks that are dirty get clean while requests come all the time."""
+    cached("w 0 1 21\nw 64 1 22\nw 128 1 23\n", last="flush\n")
+    status, _, _ = call(PROGRAMS.cache, "run", TABLE, script="w 0 1 31\nw 64 1 32\nw 128 1 33\nflush\n")
+    same("dirty blocks", (status, call(PROGRAMS.meta, "check", TABLE)[1].split()[3:]), (0, ["3", "3"]))
+    client = Client(TABLE)
+    client.handshake()
+    for _ in range(5 * 4096):
+        same("a read", client.ask(0, 64 * 512, 512)[0], 0)
+    client.ours.shutdown(socket.SHUT_WR)
+    status, said = client.ended()
+    dirty = int(said.splitlines()[-1].split()[11])
+    need(dirty < 3, f"after 20,480 reads {dirty} of 3 blocks are dirty: {said}")
+
+
 def standard_error_that_nobody_reads():
     """A full pipe behind standard error delays neither replies nor the end."""
     cached()

@@ -4,7 +4,7 @@
     syncs.py WBCACHE
 
 A row is a mode, the lines before, the line that is looked at (the opening, where there is none), and what it does to the files: `w` or `s` and the
-first letter of a file's name, in order; writes of one file in a row count as one. It prints what failed, and at the end 'N passed, N failed'.
+first letter of a file's name, in order; writes of one file in a row count as one. Where there is no mode, it is formatting that is looked at. It prints what failed, and at the end 'N passed, N failed'.
 """
 import os
 import sys
@@ -35,17 +35,21 @@ ROWS = [
     ("and none since", "writethrough", ["w 0 1 22", "flush"], "flush", ROOT),
     ("a write in passthrough", "passthrough", ["w 192 1 22"], "flush", f"so {ROOT}"),
     ("one by which a block leaves the cache", "passthrough", ["w 0 1 22"], "flush", f"so wm sm {ROOT}"),
+    ("formatting: no old root is left before the new one is written", None, [], None, f"wm sm {ROOT}"),
 ]
 
 
 def noted(mode, lines):
     """The writes and syncs of a run of these lines, in order."""
     base.restore()
+    return steps_of(["run", base.table(mode)], "".join(f"{line}\n" for line in lines))
+
+
+def steps_of(words, script=""):
+    """The writes and syncs of a call, in order."""
     if os.path.exists("journal"):
         os.remove("journal")
-    status, told, said, _ = base.run(
-        PROGRAMS.cache, ["run", base.table(mode)], "".join(f"{line}\n" for line in lines), {"WEATHER_JOURNAL": os.path.abspath("journal")}
-    )
+    status, told, said, _ = base.run(PROGRAMS.cache, words, script, {"WEATHER_JOURNAL": os.path.abspath("journal")})
     need(status == 0, f"status {status}: {told} {said}")
     steps, at = [], 0
     with open("journal", "rb") as file:
@@ -60,7 +64,10 @@ def noted(mode, lines):
 
 
 def check(name, mode, before, line, wanted):
-    start, whole = ([], noted(mode, [])) if line is None else (noted(mode, before), noted(mode, before + [line]))
+    if mode is None:
+        start, whole = [], steps_of(["format", base.table("writeback")])
+    else:
+        start, whole = ([], noted(mode, [])) if line is None else (noted(mode, before), noted(mode, before + [line]))
     need(whole[: len(start)] == start, f"{name}: it begins otherwise")
     steps = whole[len(start) :]
     seen = " ".join(step for i, step in enumerate(steps) if step[0] == "s" or i == 0 or steps[i - 1] != step)
