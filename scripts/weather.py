@@ -315,6 +315,23 @@ def each_request_refused_to_lanes():
     raise Wrong("it makes no end of requests")
 
 
+def each_request_refused_to_an_order():
+    """An order that is refused for want of memory waits on, and is carried out by the next line that asks for one."""
+    tried = met = 0
+    for request in range(1, 5000):
+        restore()
+        status, told, _, came = run(PROGRAMS.cache, ["run", table("writeback")], "r 192 1\nr 192 1\nwork\nwork\n", {"WEATHER_ALLOC": request})
+        if not came:
+            need(met > 0, f"no order was refused by {tried} requests")
+            return tried
+        tried += 1
+        told = told.splitlines()
+        if len(told) == 4 and told[2] == "refused 7 Memory":
+            met += 1
+            need(told[3].startswith("promoted 3 to "), f"request {request}: {told}")
+    raise Wrong("it makes no end of requests")
+
+
 TASKS = ("w 0 1 11", "promote 0 0", "flush", "w 0 2 22", "suspend")
 REPLAY = ["setup writeback 64 4 10 4", *(f"start 0 {task}\nend 0" for task in TASKS), "stop old", "open writeback", "view 0 2"]
 
@@ -405,6 +422,7 @@ def kinds(is_long):
     yield "each call fails while it is formatted", each_format_fails
     yield "each request for memory refused to a formatting", each_request_refused_to_a_formatting
     yield "each request for memory refused to clients", each_request_refused_to_lanes
+    yield "each request for memory refused to an order", each_request_refused_to_an_order
     yield "each request for memory refused to a replay", each_request_refused_to_a_replay
     yield "each request for memory refused to a server", server.each_request_refused_server
     yield "a server's transfers in parts", lambda: server.in_parts_server(50 if is_long else 3)
