@@ -50,6 +50,7 @@ if command -v python3 >/dev/null; then
   call "$top/scripts/twin.py" "$cache"
   call "$top/scripts/weather.py" "$cache" "$server"
   call "$top/scripts/syncs.py" "$cache"
+  call "$top/scripts/large.py" "$cache" "$meta" "$bench"
   call "$top/scripts/check-operator.py" "$cache" "$server" "$meta"
   call "$top/scripts/check-meta.py" "$meta" "$cache"
   call "$top/scripts/power.py" "$cache" "$server" "$meta"
