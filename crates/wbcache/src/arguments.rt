@@ -2,7 +2,7 @@
 
 use crate::help::{ABOUT, REPLAYS};
 use clap::ArgMatches;
-use wb_arguments::{FromWords, Named, NoTask, Program, Subcommand};
+use wb_arguments::{FromWords, NO_VERIFY, Named, NoTask, Program, Subcommand};
 use wb_script::Wishes;
 
 /// What is asked of who calls the program otherwise.
@@ -75,14 +75,6 @@ const WAITS: Named = Named {
     help: "Seconds to wait for files that another program holds [default: 1]",
     takes_value: true,
     is_global: true,
-};
-
-const NO_VERIFY: Named = Named {
-    name: "no-verify",
-    short: None,
-    help: "Compare no blocks of a clean cache with the origin first",
-    takes_value: false,
-    is_global: false,
 };
 
 const YES: Named = Named {

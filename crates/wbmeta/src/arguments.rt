@@ -1,7 +1,7 @@
 //! The arguments of the program.
 
 use clap::ArgMatches;
-use wb_arguments::{FromWords, Named, NoTask, Program, Subcommand};
+use wb_arguments::{ACCEPT_OLDER, FromWords, NO_VERIFY, Named, NoTask, Program, Subcommand};
 
 const ABOUT: &str =
     "Tells what lies on the metadata of a write-back cache over three files, or has what is dirty written home.";
@@ -112,22 +112,6 @@ const WAITS: Named = Named {
     help: "Seconds to wait for files that another program holds [default: 1]",
     takes_value: true,
     is_global: true,
-};
-
-const NO_VERIFY: Named = Named {
-    name: "no-verify",
-    short: None,
-    help: "Compare no blocks of a clean cache with the origin first",
-    takes_value: false,
-    is_global: false,
-};
-
-const ACCEPT_OLDER: Named = Named {
-    name: "accept-older",
-    short: None,
-    help: "Open the older state where the newest root cannot be read",
-    takes_value: false,
-    is_global: false,
 };
 
 const CLEARED: Subcommand = Subcommand {

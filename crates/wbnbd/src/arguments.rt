@@ -1,7 +1,7 @@
 //! The arguments of the program.
 
 use clap::ArgMatches;
-use wb_arguments::{FromWords, Named, NoTask, Program};
+use wb_arguments::{ACCEPT_OLDER, FromWords, NO_VERIFY, Named, NoTask, Program};
 
 /// What is asked of who calls the program otherwise.
 pub const USAGE: &str =
@@ -96,22 +96,6 @@ const CONTROL: Named = Named {
     short: None,
     help: "Answer the lines that are added to this file, as below",
     takes_value: true,
-    is_global: false,
-};
-
-const NO_VERIFY: Named = Named {
-    name: "no-verify",
-    short: None,
-    help: "Compare no blocks of a clean cache with the origin first",
-    takes_value: false,
-    is_global: false,
-};
-
-const ACCEPT_OLDER: Named = Named {
-    name: "accept-older",
-    short: None,
-    help: "Open the older state where the newest root cannot be read",
-    takes_value: false,
     is_global: false,
 };
 
