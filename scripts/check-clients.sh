@@ -18,7 +18,7 @@ fresh() { # files of zeros, formatted
   truncate -s 2048 m.img
   truncate -s 131072 c.img
   truncate -s 327680 o.img
-  "$cache" format "$table" >/dev/null
+  "$cache" format "$table" >/dev/null 2>&1
 }
 play() { # the script stands in script.txt: told.txt has its answers, status.txt its exit status
   timeout 60 "$@" "$cache" run "$table" <script.txt >told.txt 2>reason.txt

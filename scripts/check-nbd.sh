@@ -21,7 +21,7 @@ fresh() { # files of zeros, formatted
   truncate -s 2048 m.img
   truncate -s 131072 c.img
   truncate -s 327680 o.img
-  "$cache" format "$table" >/dev/null
+  "$cache" format "$table" >/dev/null 2>&1
 }
 bytes() { # a number, how many bytes it has: these, the highest first
   number=$1 width=$2 spelled=''
