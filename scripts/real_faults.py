@@ -1,0 +1,706 @@
+#!/usr/bin/env python3
+"""The cache over ext4 on a device whose writes fail for a moment, as the kernel behaves then: it marks the pages clean, keeps them, and tells once.
+
+    python3 scripts/real_faults.py WBCACHE WBNBD WBMETA [ROUNDS [SEED]]      200 rounds by default; the gate plays 10
+
+As root, on Linux with /dev/fuse and loop devices, nbdkit with its filter 'error', nbdfuse (libnbd-bin), mkfs.ext4 (e2fsprogs) and dd. Where one of
+them is missing it says what is not tried. nbdkit serves the image of a disk, nbdfuse makes a file of it, and a loop device over that file carries ext4:
+disk 'bad', whose writes fail while the file 'fail' is there, and disk 'good'. Each of the three files of the cache lies on one of them.
+
+The power is lost when nbdkit is killed: what the image holds then is mounted as a copy, its journal replayed, and a fresh opening over the copies shows
+each sector as of the last flush that was answered 'ok', or as a later write left it. After the checks come rounds of writes, failures and lives that the
+dice choose. It prints what failed with the steps that lead there, the seed, and 'N passed, N failed'.
+"""
+import ctypes
+import mmap
+import os
+import random
+import select
+import shutil
+import signal
+import socket
+import subprocess
+import sys
+import tempfile
+import time
+
+from weather_base import PROGRAMS, Wrong, need
+
+BLOCK, DISK = 64 * 512, 16 << 20
+NAMES = ("m.img", "c.img", "o.img")
+DEVICES = {"m": "metadata", "c": "cache", "o": "origin"}
+WATCHED = (0, 1, 64, 70, 128, 192, 200, 256, 320, 385, 448, 512, 639)
+LIBC = ctypes.CDLL(None, use_errno=True)
+TOOLS = ("nbdkit", "nbdfuse", "losetup", "mount", "umount", "mkfs.ext4", "dd")
+
+
+def quiet(*words):
+    return subprocess.run(words, stdin=subprocess.DEVNULL, capture_output=True, text=True, timeout=60)
+
+
+def done(*words):
+    ran = quiet(*words)
+    need(ran.returncode == 0, f"{' '.join(words)}: status {ran.returncode}: {ran.stderr.strip()}")
+    return ran.stdout.strip()
+
+
+def until(holds, what):
+    end = time.monotonic() + 10
+    while not holds():
+        need(time.monotonic() < end, what)
+        time.sleep(0.005)
+
+
+class Disk:
+    """A disk of its own: image, nbdkit, nbdfuse, loop device and mount, in a folder of that name."""
+
+    def __init__(self, name, image, rate=100):
+        self.name, self.kit, self.fuse, self.loop = name, None, None, None
+        self.image, self.trigger, self.mounted = f"{name}/image", f"{name}/fail", f"{name}/mnt"
+        os.mkdir(name)
+        os.mkdir(self.mounted)
+        done("cp", "--sparse=always", image, self.image)
+        open(f"{name}/disk", "w").close()
+        try:
+            errors = [f"error-{call}-{word}" for call in ("pwrite", "zero", "trim") for word in (f"rate={rate}%", f"file={os.path.abspath(self.trigger)}")]
+            self.kit = subprocess.Popen(["nbdkit", "--exit-with-parent", "-f", "-U", f"{name}/socket", "--filter=error", "file", self.image, "error=EIO", *errors],
+                                        stdin=subprocess.DEVNULL, stdout=subprocess.DEVNULL, stderr=subprocess.DEVNULL)
+            until(lambda: os.path.exists(f"{name}/socket"), "nbdkit serves nothing")
+            self.fuse = subprocess.Popen(["nbdfuse", f"{name}/disk", "--unix", f"{name}/socket"], stdin=subprocess.DEVNULL, stdout=subprocess.DEVNULL, stderr=subprocess.DEVNULL)
+            until(lambda: os.path.getsize(f"{name}/disk") == DISK, "nbdfuse shows no disk")
+            self.loop = done("losetup", "--find", "--show", f"{name}/disk")
+            self.mount()
+        except BaseException:
+            self.end()
+            raise
+
+    def mount(self):
+        done("mount", "-t", "ext4", self.loop, self.mounted)
+
+    def fails(self, is_failing):
+        if is_failing:
+            open(self.trigger, "w").close()
+        elif os.path.exists(self.trigger):
+            os.remove(self.trigger)
+
+    def is_sound(self):
+        """Whether the file system can still be written: where its journal met a failure, it cannot."""
+        try:
+            with open(f"{self.mounted}/probe", "w") as file:
+                file.write("x")
+                file.flush()
+                os.fsync(file.fileno())
+            return True
+        except OSError:
+            return False
+
+    def mend(self):
+        """The disk is well again."""
+        self.fails(False)
+        if not self.is_sound():
+            done("umount", self.mounted)
+            self.mount()
+
+    def power(self):
+        """The power is lost: nothing more comes to the image."""
+        self.kit.kill()
+        self.kit.wait()
+
+    def end(self):
+        self.fails(False)
+        if os.path.ismount(self.mounted) and quiet("umount", self.mounted).returncode:
+            quiet("umount", "-l", self.mounted)
+        if self.loop:
+            quiet("losetup", "-d", self.loop)
+        if self.fuse:
+            # The loop device lets go of the file in its own time.
+            end = time.monotonic() + 5
+            while quiet("umount", f"{self.name}/disk").returncode and self.fuse.poll() is None and time.monotonic() < end:
+                time.sleep(0.01)
+            quiet("umount", "-l", f"{self.name}/disk")
+            try:
+                self.fuse.wait(timeout=5)
+            except subprocess.TimeoutExpired:
+                self.fuse.kill()
+                self.fuse.wait()
+        if self.kit:
+            self.kit.kill()
+            self.kit.wait()
+
+
+class Book:
+    """What each sector may show: its writes from the last answered flush on, by their numbers."""
+
+    def __init__(self):
+        self.writes = {sector: ["00"] for sector in WATCHED}
+        self.flushed = dict.fromkeys(WATCHED, 0)
+        self.answered = dict.fromkeys(WATCHED, 0)
+
+    def write(self, sector, content, is_answered):
+        self.writes[sector].append(content)
+        if is_answered:
+            self.answered[sector] = len(self.writes[sector]) - 1
+
+    def flush(self, answered):
+        for sector, number in answered.items():
+            self.flushed[sector] = max(self.flushed[sector], number)
+
+    def reads(self, sector, content):
+        may = self.writes[sector][self.answered[sector]:]
+        need(content in may, f"sector {sector} reads {content}, where {may} was written")
+
+    def survives(self, sector, content):
+        may = self.writes[sector][self.flushed[sector]:]
+        need(content in may, f"sector {sector} shows {content} afterwards, where {may[0]} was flushed and {may[1:]} written since")
+
+    def opened(self, sector, content):
+        """A later life reads this: from here on that is what the sector holds."""
+        self.survives(sector, content)
+        if content != self.writes[sector][-1]:
+            self.writes[sector].append(content)
+        self.answered[sector] = len(self.writes[sector]) - 1
+
+
+class Run:
+    """A script to which lines are given one at a time."""
+
+    def __init__(self, table):
+        self.said, self.told, self.read = tempfile.TemporaryFile(), [], b""
+        self.process = subprocess.Popen([PROGRAMS.cache, "run", table], stdin=subprocess.PIPE, stdout=subprocess.PIPE, stderr=self.said)
+
+    def hear(self):
+        while b"\n" not in self.read:
+            need(select.select([self.process.stdout], [], [], 20)[0], "no answer in 20 seconds")
+            more = os.read(self.process.stdout.fileno(), 65536)
+            if not more:
+                raise Wrong(f"the run ended: {self.ended()}")
+            self.read += more
+        line, _, self.read = self.read.partition(b"\n")
+        return line.decode()
+
+    def ask(self, *lines, answers=None):
+        """Gives lines, and reads an answer for each, or as many as are wanted."""
+        self.process.stdin.write("".join(f"{line}\n" for line in lines).encode())
+        self.process.stdin.flush()
+        told = [self.hear() for _ in range(len(lines) if answers is None else answers)]
+        return told[0] if len(told) == 1 else told
+
+    def ended(self):
+        """The end of the script: its status, and what standard error says."""
+        if not self.process.stdin.closed:
+            self.process.stdin.close()
+        self.process.wait(timeout=60)
+        return self.gone()
+
+    def killed(self):
+        self.process.kill()
+        self.process.wait()
+        return self.gone()
+
+    def gone(self):
+        if not self.said.closed:
+            self.said.seek(0)
+            self.text = self.said.read().decode(errors="replace")
+            self.said.close()
+            self.process.stdout.close()
+            if not self.process.stdin.closed:
+                try:
+                    self.process.stdin.close()
+                except OSError:
+                    pass
+        return self.process.returncode, self.text
+
+
+class World:
+    """Two disks and the cache over them: the devices that lie on the bad disk are named by their letters."""
+
+    def __init__(self, image, on_bad, rate=100):
+        self.files = {name: f"{'bad' if name[0] in on_bad else 'good'}/mnt/{name}" for name in NAMES}
+        self.table = "cache " + " ".join(self.files[name] for name in NAMES) + " 64 0 tinylfu 0"
+        self.mark = self.files["m.img"] + ".failed"
+        self.book, self.disks, self.runs, self.steps = Book(), [], [], []
+        self.on_bad, self.is_sure = on_bad, True
+        try:
+            self.bad = Disk("bad", image, rate)
+            self.disks.append(self.bad)
+            self.disks.append(Disk("good", image))
+        except BaseException:
+            self.end()
+            raise
+
+    def run(self):
+        run = Run(self.table)
+        self.runs.append(run)
+        return run
+
+    def fails(self, is_failing):
+        self.bad.fails(is_failing)
+
+    def written_out(self):
+        """The kernel writes back what is dirty, as it does by itself after a while: nobody is told yet what failed."""
+        for name in NAMES:
+            if name[0] in self.on_bad:
+                with open(self.files[name], "rb") as file:
+                    LIBC.sync_file_range(file.fileno(), ctypes.c_longlong(0), ctypes.c_longlong(0), 2)
+        time.sleep(0.03)
+
+    def synced_by_another(self, whole=False):
+        """Another program syncs the files of the bad disk, or all of it: whether it was told of a failure."""
+        told = False
+        for name in NAMES:
+            if name[0] in self.on_bad:
+                with open(self.files[name], "rb") as file:
+                    try:
+                        if whole:
+                            told |= LIBC.syncfs(file.fileno()) != 0
+                        else:
+                            os.fsync(file.fileno())
+                    except OSError:
+                        told = True
+        return told
+
+    def dropped(self):
+        """What is to be done once the disk is well again: the pages of each file are dropped."""
+        for name in NAMES:
+            done("dd", f"if={self.files[name]}", "iflag=nocache", "count=0", "status=none")
+
+    def differ(self):
+        """The files of the bad disk of which the system keeps other bytes than the disk has: read past the pages, and from them."""
+        names = []
+        for name in NAMES:
+            if name[0] in self.on_bad:
+                size = -(-os.path.getsize(self.files[name]) // 4096) * 4096
+                with mmap.mmap(-1, size) as disk:
+                    file = os.open(self.files[name], os.O_RDONLY | os.O_DIRECT)
+                    try:
+                        count = os.preadv(file, [disk], 0)
+                    finally:
+                        os.close(file)
+                    with open(self.files[name], "rb") as kept:
+                        names += [name] * (kept.read() != disk[:count])
+        return names
+
+    def meta(self, word):
+        ran = quiet(PROGRAMS.meta, word, self.table)
+        return ran.returncode, ran.stdout, ran.stderr
+
+    def opens(self):
+        """Whether the server opens, its status, and what it says."""
+        ours, theirs = socket.socketpair()
+        process = subprocess.Popen([PROGRAMS.server, self.table], stdin=theirs, stdout=theirs, stderr=subprocess.PIPE, text=True)
+        theirs.close()
+        ours.settimeout(20)
+        is_open = ours.recv(8) == b"NBDMAGIC"
+        ours.close()
+        said = process.communicate(timeout=60)[1]
+        return is_open, process.returncode, said
+
+    def is_kept_off(self):
+        """A mark is left: what it says, and that it is obeyed. Then the disk is mended, the pages are dropped, and the cache opens."""
+        with open(self.mark) as file:
+            text = file.read()
+        with open("/proc/sys/kernel/random/boot_id") as file:
+            need(file.read().strip() in text, f"the mark: {text}")
+        need(text.split()[0] in [DEVICES[it] for it in self.on_bad], f"the mark: {text}")
+        is_open, status, said = self.opens()
+        need(not is_open and status == 3 and "wbmeta cleared" in said, f"served over a mark: {is_open}, {status}, {said}")
+        status, told, said = self.meta("writeback")
+        need(status == 3 and told.startswith("refused 5 Io") and "wbmeta cleared" in said, f"written back over a mark: {status}, {told}, {said}")
+        run = self.run()
+        status, said = run.ended()
+        need("wbmeta cleared" in said, f"a script over a mark says nothing of it: {status}, {said}")
+
+    def is_cleared(self):
+        self.dropped()
+        status, told, said = self.meta("cleared")
+        need((status, told) == (0, "ok\n") and not os.path.exists(self.mark), f"clearing: {status}, {told}, {said}")
+
+    def is_read(self, run):
+        """All sectors, in a life behind another one."""
+        for sector in WATCHED:
+            told = run.ask(f"r {sector} 1")
+            need(told.split()[0] == str(sector), f"r {sector} 1: {told}")
+            self.book.opened(sector, told.split()[1])
+
+    def power_is_lost(self):
+        """What a fresh opening over the copies of both disks shows."""
+        for disk in self.disks:
+            disk.power()
+        for run in self.runs:
+            run.killed()
+        os.mkdir("lost")
+        os.mkdir("lost/mnt")
+        for disk in self.disks:
+            done("cp", "--sparse=always", disk.image, f"lost/{disk.name}")
+            done("mount", "-t", "ext4", "-o", "loop", f"lost/{disk.name}", "lost/mnt")
+            try:
+                for name, path in self.files.items():
+                    if path.startswith(disk.name):
+                        shutil.copy(f"lost/mnt/{name}", f"lost/{name}")
+            finally:
+                done("umount", "lost/mnt")
+        ran = subprocess.run([PROGRAMS.cache, "run", "cache lost/m.img lost/c.img lost/o.img 64 0 tinylfu 0"], capture_output=True, text=True, timeout=60,
+                             input="".join(f"r {sector} 1\n" for sector in WATCHED))
+        need(ran.returncode == 0, f"the opening after the power: {ran.returncode}, {ran.stdout}, {ran.stderr}")
+        shown = dict(line.split() for line in ran.stdout.splitlines())
+        for sector in WATCHED:
+            self.book.survives(sector, shown[str(sector)])
+        return shown
+
+    def end(self):
+        for run in self.runs:
+            run.killed()
+        for disk in self.disks:
+            disk.end()
+
+    def __enter__(self):
+        return self
+
+    def __exit__(self, *_):
+        self.end()
+
+    # --- A life that the book follows.
+    def asked(self, run, line):
+        """One line of the first client, by the book: its answer."""
+        self.steps.append(line)
+        told = run.ask(line)
+        self.steps[-1] += f" -> {told}"
+        self.noted(line, told, dict(self.book.answered))
+        return told
+
+    def noted(self, line, told, before):
+        word, *rest = line.split()
+        is_ok = told == "ok"
+        if word in ("w", "wf"):
+            self.book.write(int(rest[0]), rest[2], is_ok)
+            before[int(rest[0])] = self.book.answered[int(rest[0])]
+        if word == "r" and not told.startswith("refused") and self.is_sure:
+            self.book.reads(int(rest[0]), told.split()[1])
+        if word in ("wf", "flush", "tick", "suspend") and is_ok:
+            self.book.flush(before)
+
+    def joined(self, run, lines):
+        """Lines of several clients beside one another, each client over sectors of its own."""
+        self.steps.append("; ".join(lines))
+        told = run.ask(*lines, "join", answers=len(lines))
+        told = [told] if len(lines) == 1 else told
+        self.steps[-1] += f"; join -> {'; '.join(told)}"
+        answers = {}
+        for answer in told:
+            client, _, rest = answer.partition(" ")
+            answers.setdefault(client, []).append(rest)
+        before = dict(self.book.answered)
+        befores = {client: dict(before) for client in answers}
+        for line in lines:
+            client, _, rest = line.partition(" ")
+            self.noted(rest, answers[client].pop(0), befores[client])
+
+
+
+def image_of(folder, block):
+    """The image of a disk with the files of an empty cache, each byte of them written."""
+    image, mounted = os.path.join(folder, f"image{block}"), os.path.join(folder, f"made{block}")
+    with open(image, "wb") as file:
+        file.truncate(DISK)
+    done("mkfs.ext4", "-q", "-F", "-b", str(block), "-J", "size=4", "-E", "lazy_itable_init=0,lazy_journal_init=0,nodiscard", image)
+    os.mkdir(mounted)
+    done("mount", "-t", "ext4", "-o", "loop", image, mounted)
+    try:
+        for name, size in (("m.img", 4 * 512), ("c.img", 4 * BLOCK), ("o.img", 10 * BLOCK)):
+            with open(f"{mounted}/{name}", "wb") as file:
+                file.write(bytes(size))
+        done(PROGRAMS.cache, "format", f"cache {mounted}/m.img {mounted}/c.img {mounted}/o.img 64 0 tinylfu 0")
+    finally:
+        done("umount", mounted)
+    return image
+
+
+# --- What is tried in order.
+BEGIN = ("w 0 1 11", "r 0 1", "work", "w 64 1 12", "flush")
+AGAIN = ("w 0 1 21", "w 64 1 22", "w 128 1 23")
+
+
+def begun(world):
+    """A run with a block in the cache, a flush that was answered, and writes behind it to the cache and to the origin."""
+    run = world.run()
+    need([world.asked(run, line) for line in BEGIN] == ["ok", "0 11", "promoted 0 to 0", "ok", "ok"], "a first life")
+    for line in AGAIN:
+        need(world.asked(run, line) == "ok", line)
+    return run
+
+
+def a_refused_flush(world):
+    """The flush is refused, the run ends with 3, a mark is obeyed, and behind 'cleared' the cache shows what the disk has."""
+    run = begun(world)
+    world.fails(True)
+    told = world.asked(run, "flush")
+    need(told.startswith("refused 5 Io ") and told.split()[3] in [DEVICES[it] for it in world.on_bad], f"a flush over a disk that fails: {told}")
+    need(world.asked(run, "flush") == "refused 6 Failed", "a flush behind it")
+    status, said = run.ended()
+    need(status == 3 and "failed: Input/output error" in said, f"the end: {status}, {said}")
+    world.fails(False)
+    need(world.differ(), "the system keeps nothing that the disk does not have: the pages are not what is tried")
+    world.is_kept_off()
+    world.bad.mend()
+    world.is_cleared()
+    need(not world.differ(), "the pages are not dropped")
+    is_open, status, said = world.opens()
+    need(is_open and status in (0, 4), f"served then: {is_open}, {status}, {said}")
+    run = world.run()
+    world.is_read(run)
+    need([world.asked(run, line) for line in ("w 1 1 31", "w 192 1 32", "flush")] == ["ok"] * 3, "a life behind it")
+    world.power_is_lost()
+
+
+def writes_home(world):
+    """A drain behind 'cleared': then the origin alone has all."""
+    run = begun(world)
+    world.fails(True)
+    world.asked(run, "flush")
+    run.ended()
+    world.bad.mend()
+    world.is_cleared()
+    status, told, said = world.meta("writeback")
+    need(status == 0 and told.startswith("ok "), f"writing home: {status}, {told}, {said}")
+    with open(world.files["o.img"], "rb") as file:
+        origin = file.read()
+    for sector in WATCHED:
+        world.book.opened(sector, f"{origin[sector * 512]:02x}")
+        world.book.flush({sector: world.book.answered[sector]})
+    world.power_is_lost()
+
+
+def true_or_refused(world, told):
+    """An answer 'ok' has to be true, and the book knows it: the power is lost."""
+    world.power_is_lost()
+    return told
+
+
+def another_syncs(world, whole=False):
+    """Another program syncs and is told of the failure: the flush of ours is refused all the same."""
+    run = begun(world)
+    world.fails(True)
+    world.written_out()
+    need(world.synced_by_another(whole), "another program is told of nothing")
+    world.fails(False)
+    told = world.asked(run, "flush")
+    need(told != "ok" or not world.differ(), "a flush is answered 'ok', and the disk does not have it")
+    world.power_is_lost()
+
+
+def another_syncs_all(world):
+    another_syncs(world, whole=True)
+
+
+def a_younger_client(world, first=(), lines=("@2 w 256 1 31", "@2 flush")):
+    """A younger client's flush takes the failure: the older client's flush is not answered 'ok' for a write that was dropped."""
+    run = begun(world)
+    world.joined(run, ["@1 w 320 1 24", "@1 w 1 1 25"])
+    world.fails(True)
+    world.written_out()
+    if "another" in first:
+        need(world.synced_by_another(), "another program is told of nothing")
+    world.fails(False)
+    world.joined(run, lines)
+    world.joined(run, ["@1 flush"])
+    world.asked(run, "flush")
+    need("-> ok" not in world.steps[-1] or not world.differ(), "a flush is answered 'ok', and the disk does not have it")
+    world.power_is_lost()
+
+
+def a_younger_durable_write(world):
+    a_younger_client(world, lines=("@2 wf 256 1 31",))
+
+
+def a_younger_client_and_another(world):
+    a_younger_client(world, ("another",))
+
+
+def the_next_life_is_told(world):
+    """What fails behind the end of a run, and nobody was told of: the next opening is refused, and leaves the mark."""
+    begun(world).ended()
+    world.fails(True)
+    world.written_out()
+    world.fails(False)
+    run = world.run()
+    status, said = run.ended()
+    need(status == 3 and "a sync failed" in said and os.path.exists(world.mark), f"the next life: {status}, {said}")
+    world.is_kept_off()
+    world.is_cleared()
+    world.is_read(world.run())
+    world.power_is_lost()
+
+
+def only_another_is_told(world):
+    """What fails behind the end of a run, and only another program is told of: whether the next life answers 'ok' for what it reads."""
+    begun(world).ended()
+    world.fails(True)
+    world.written_out()
+    world.synced_by_another()
+    world.fails(False)
+    run = world.run()
+    world.is_read(run)
+    world.asked(run, "flush")
+    world.power_is_lost()
+
+
+CHECKS = [(a_refused_flush, it) for it in ("o", "c", "m", "oc", "mco")] + [(writes_home, it) for it in ("o", "c", "m")] + [
+    (one, it) for one in (another_syncs, another_syncs_all, a_younger_client, a_younger_durable_write, a_younger_client_and_another, the_next_life_is_told)
+    for it in ("o", "c", "oc")]
+
+
+# --- Rounds.
+def played(world, dice, tally):
+    """Lives by the dice, each with a moment in which the bad disk fails; then the power is lost."""
+    number, is_left, was_told = 0, dice.randint(1, 3), False
+    while is_left:
+        is_left -= 1
+        run = world.run()
+        world.steps.append("a run")
+        world.is_sure = True
+        try:
+            if len(world.runs) > 1:
+                world.is_read(run)
+            begins, lasts = dice.randrange(30), dice.randrange(1, 8)
+            for step in range(dice.randrange(5, 35)):
+                if step in (begins, begins + lasts):
+                    world.fails(step == begins)
+                    world.steps.append("it fails" if step == begins else "it is well")
+                number = number % 250 + 1
+                sector, fill = dice.choice(WATCHED), f"{number:02x}"
+                word = dice.choice(("w", "w", "w", "r", "r", "work", "flush", "flush", "wf", "tick", "clients", "kernel", "another", "all", "drop"))
+                if word in ("w", "wf", "r"):
+                    told = world.asked(run, f"{word} {sector} 1{'' if word == 'r' else ' ' + fill}")
+                elif word == "clients":
+                    lines = []
+                    for client in (1, 2, 3):
+                        mine = WATCHED[client::3]
+                        for _ in range(dice.randrange(3)):
+                            number = number % 250 + 1
+                            at = dice.choice(mine)
+                            lines.append(f"@{client} " + dice.choice((f"w {at} 1 {number:02x}", f"wf {at} 1 {number:02x}", "flush", f"r {at} 1")))
+                    if lines:
+                        world.joined(run, dice.sample(lines, len(lines)) if dice.random() < 0.5 else lines)
+                    told = ""
+                elif word in ("kernel", "another", "all", "drop"):
+                    world.steps.append(word)
+                    if word == "kernel":
+                        world.written_out()
+                    elif word == "drop":
+                        world.written_out()
+                        world.dropped()
+                        world.is_sure = False
+                    else:
+                        is_told = world.synced_by_another(word == "all")
+                        was_told |= is_told
+                        tally["another told"] += is_told
+                    told = ""
+                else:
+                    told = world.asked(run, word)
+                if word in ("flush", "wf", "tick"):
+                    tally["acknowledged" if told == "ok" else "refused"] += 1
+                if told.startswith("refused 6") and dice.random() < 0.5:
+                    break
+            if not is_left:
+                break
+            if dice.random() < 0.3:
+                run.killed()
+                world.steps.append("killed")
+            else:
+                if dice.random() < 0.3:
+                    world.asked(run, "suspend")
+                status, said = run.ended()
+                world.steps.append(f"ended {status}")
+                need(os.path.exists(world.mark) or not any(f"a {it} failed" in said for it in ("write", "sync")), f"no mark: {said}")
+        except Wrong:
+            if run.process.poll() != 3:
+                raise
+            # The opening was told of what failed before.
+            world.steps.append("an opening refused")
+            status, said = run.ended()
+            need(os.path.exists(world.mark), f"an opening is refused, and leaves no mark: {said}")
+            is_left += 1
+        if dice.random() < 0.5:
+            world.written_out()
+            world.steps.append("kernel")
+        if dice.random() < 0.3:
+            was_told |= world.synced_by_another()
+            world.steps.append("another")
+        if os.path.exists(world.mark):
+            tally["marks"] += 1
+            if dice.random() < 0.5:
+                world.fails(False)
+                world.is_kept_off()
+                world.steps.append("kept off")
+            world.bad.mend()
+            world.is_cleared()
+            world.steps.append("cleared")
+        else:
+            world.bad.mend()
+            if was_told:
+                # No program is told of this any more: see only_another_is_told.
+                tally["dropped unmarked"] += 1
+                world.dropped()
+                world.steps.append("dropped")
+        was_told = False
+    world.power_is_lost()
+
+
+def main():
+    PROGRAMS.cache, PROGRAMS.server, PROGRAMS.meta = (os.path.abspath(it) for it in sys.argv[1:4])
+    rounds = int(sys.argv[4]) if len(sys.argv) > 4 else 200
+    seed = int(sys.argv[5]) if len(sys.argv) > 5 else random.randrange(1 << 30)
+    missing = [it for it in TOOLS if not shutil.which(it)] + [it for it in ("/dev/fuse", "/dev/loop-control") if not os.path.exists(it)]
+    missing += ["root"] * (os.geteuid() != 0)
+    if missing:
+        print(f"not tried: ext4 over a device that fails for a moment wants {', '.join(missing)}")
+        print("0 passed, 0 failed")
+        return 0
+    signal.signal(signal.SIGTERM, lambda *_: sys.exit(1))
+    tally = dict.fromkeys(("acknowledged", "refused", "another told", "marks", "dropped unmarked"), 0)
+    passed = failed = 0
+    folder = tempfile.mkdtemp()
+
+    def tried(name, on_bad, play, image, rate=100):
+        nonlocal passed, failed
+        place = os.path.join(folder, "place")
+        os.mkdir(place)
+        os.chdir(place)
+        steps = []
+        try:
+            with World(image, on_bad, rate) as world:
+                steps = world.steps
+                play(world)
+            passed += 1
+            return True
+        except (Wrong, subprocess.TimeoutExpired, OSError) as wrong:
+            failed += 1
+            print(f"failed: {name}, {on_bad} on the bad disk: {wrong}\n  behind: {' | '.join(steps)}", flush=True)
+            return False
+        finally:
+            os.chdir(folder)
+            shutil.rmtree(place)
+
+    try:
+        try:
+            images = [image_of(folder, block) for block in (1024, 4096)]
+        except Wrong as wrong:
+            print(f"not tried: ext4 over a device that fails for a moment: {wrong}")
+            print("0 passed, 0 failed")
+            return 0
+        for one, on_bad in CHECKS:
+            tried(one.__name__, on_bad, one, images[1])
+        for number in range(rounds):
+            dice = random.Random(f"{seed} {number}")
+            on_bad, image, rate = dice.choice(("o", "c", "m", "oc", "mc", "mco")), dice.choice(images), dice.choice((100, 100, 50))
+            tried(f"round {number} of seed {seed}", on_bad, lambda world: played(world, dice, tally), image, rate)
+        print(f"seed {seed}: {rounds} rounds, {', '.join(f'{count} {name}' for name, count in tally.items())}")
+    finally:
+        os.chdir("/")
+        shutil.rmtree(folder, ignore_errors=True)
+    print(f"{passed} passed, {failed} failed")
+    return failed > 0
+
+
+if __name__ == "__main__":
+    sys.exit(main())
