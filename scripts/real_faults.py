@@ -95,11 +95,13 @@ class Disk:
             return False
 
     def mend(self):
-        """The disk is well again."""
+        """The disk is well again: whether the file system had to be mounted anew."""
         self.fails(False)
-        if not self.is_sound():
-            done("umount", self.mounted)
-            self.mount()
+        if self.is_sound():
+            return False
+        done("umount", self.mounted)
+        self.mount()
+        return True
 
     def power(self):
         """The power is lost: nothing more comes to the image."""
@@ -180,15 +182,30 @@ class Run:
 
     def ask(self, *lines, answers=None):
         """Gives lines, and reads an answer for each, or as many as are wanted."""
-        self.process.stdin.write("".join(f"{line}\n" for line in lines).encode())
-        self.process.stdin.flush()
+        try:
+            self.process.stdin.write("".join(f"{line}\n" for line in lines).encode())
+            self.process.stdin.flush()
+        except OSError:
+            raise Wrong(f"the run ended: {self.ended()}") from None
         told = [self.hear() for _ in range(len(lines) if answers is None else answers)]
         return told[0] if len(told) == 1 else told
 
+    def is_open(self):
+        """Whether the opening went well, waited for."""
+        try:
+            return not self.ask("status").startswith("refused")
+        except Wrong:
+            return False
+
+    def close(self):
+        try:
+            self.process.stdin.close()
+        except OSError:
+            pass
+
     def ended(self):
         """The end of the script: its status, and what standard error says."""
-        if not self.process.stdin.closed:
-            self.process.stdin.close()
+        self.close()
         self.process.wait(timeout=60)
         return self.gone()
 
@@ -203,11 +220,7 @@ class Run:
             self.text = self.said.read().decode(errors="replace")
             self.said.close()
             self.process.stdout.close()
-            if not self.process.stdin.closed:
-                try:
-                    self.process.stdin.close()
-                except OSError:
-                    pass
+            self.close()
         return self.process.returncode, self.text
 
 
@@ -295,8 +308,12 @@ class World:
         said = process.communicate(timeout=60)[1]
         return is_open, process.returncode, said
 
+    def is_marked(self, said):
+        """A mark is left, or it is said that none can be: the file system can no longer be written, and drops its pages as it is mounted anew."""
+        return os.path.exists(self.mark) or "no mark can be left: Read-only file system" in said and not self.bad.is_sound()
+
     def is_kept_off(self):
-        """A mark is left: what it says, and that it is obeyed. Then the disk is mended, the pages are dropped, and the cache opens."""
+        """A mark is left: what it says, and that it is obeyed, though the disk is well again."""
         with open(self.mark) as file:
             text = file.read()
         with open("/proc/sys/kernel/random/boot_id") as file:
@@ -317,8 +334,7 @@ class World:
 
     def is_read(self, run):
         """All sectors, in a life behind another one."""
-        for sector in WATCHED:
-            told = run.ask(f"r {sector} 1")
+        for sector, told in zip(WATCHED, run.ask(*(f"r {sector} 1" for sector in WATCHED))):
             need(told.split()[0] == str(sector), f"r {sector} 1: {told}")
             self.book.opened(sector, told.split()[1])
 
@@ -440,8 +456,8 @@ def a_refused_flush(world):
     need(status == 3 and "failed: Input/output error" in said, f"the end: {status}, {said}")
     world.fails(False)
     need(world.differ(), "the system keeps nothing that the disk does not have: the pages are not what is tried")
-    world.is_kept_off()
     world.bad.mend()
+    world.is_kept_off()
     world.is_cleared()
     need(not world.differ(), "the pages are not dropped")
     is_open, status, said = world.opens()
@@ -468,12 +484,6 @@ def writes_home(world):
         world.book.opened(sector, f"{origin[sector * 512]:02x}")
         world.book.flush({sector: world.book.answered[sector]})
     world.power_is_lost()
-
-
-def true_or_refused(world, told):
-    """An answer 'ok' has to be true, and the book knows it: the power is lost."""
-    world.power_is_lost()
-    return told
 
 
 def another_syncs(world, whole=False):
@@ -544,64 +554,24 @@ def only_another_is_told(world):
     world.power_is_lost()
 
 
-CHECKS = [(a_refused_flush, it) for it in ("o", "c", "m", "oc", "mco")] + [(writes_home, it) for it in ("o", "c", "m")] + [
-    (one, it) for one in (another_syncs, another_syncs_all, a_younger_client, a_younger_durable_write, a_younger_client_and_another, the_next_life_is_told)
-    for it in ("o", "c", "oc")]
+CHECKS = [(a_refused_flush, it) for it in ("o", "c", "m", "mco")] + [
+    (one, it) for one in (another_syncs, another_syncs_all, a_younger_client, a_younger_durable_write, a_younger_client_and_another, the_next_life_is_told, writes_home)
+    for it in ("o", "c")]
 
 
 # --- Rounds.
 def played(world, dice, tally):
     """Lives by the dice, each with a moment in which the bad disk fails; then the power is lost."""
-    number, is_left, was_told = 0, dice.randint(1, 3), False
-    while is_left:
-        is_left -= 1
+    left, world.number = dice.randint(1, 3), 0
+    while left:
+        begins, lasts = dice.randrange(-4, 30), dice.randrange(1, 8)
+        world.fails(begins < 0)
         run = world.run()
-        world.steps.append("a run")
-        world.is_sure = True
-        try:
-            if len(world.runs) > 1:
-                world.is_read(run)
-            begins, lasts = dice.randrange(30), dice.randrange(1, 8)
-            for step in range(dice.randrange(5, 35)):
-                if step in (begins, begins + lasts):
-                    world.fails(step == begins)
-                    world.steps.append("it fails" if step == begins else "it is well")
-                number = number % 250 + 1
-                sector, fill = dice.choice(WATCHED), f"{number:02x}"
-                word = dice.choice(("w", "w", "w", "r", "r", "work", "flush", "flush", "wf", "tick", "clients", "kernel", "another", "all", "drop"))
-                if word in ("w", "wf", "r"):
-                    told = world.asked(run, f"{word} {sector} 1{'' if word == 'r' else ' ' + fill}")
-                elif word == "clients":
-                    lines = []
-                    for client in (1, 2, 3):
-                        mine = WATCHED[client::3]
-                        for _ in range(dice.randrange(3)):
-                            number = number % 250 + 1
-                            at = dice.choice(mine)
-                            lines.append(f"@{client} " + dice.choice((f"w {at} 1 {number:02x}", f"wf {at} 1 {number:02x}", "flush", f"r {at} 1")))
-                    if lines:
-                        world.joined(run, dice.sample(lines, len(lines)) if dice.random() < 0.5 else lines)
-                    told = ""
-                elif word in ("kernel", "another", "all", "drop"):
-                    world.steps.append(word)
-                    if word == "kernel":
-                        world.written_out()
-                    elif word == "drop":
-                        world.written_out()
-                        world.dropped()
-                        world.is_sure = False
-                    else:
-                        is_told = world.synced_by_another(word == "all")
-                        was_told |= is_told
-                        tally["another told"] += is_told
-                    told = ""
-                else:
-                    told = world.asked(run, word)
-                if word in ("flush", "wf", "tick"):
-                    tally["acknowledged" if told == "ok" else "refused"] += 1
-                if told.startswith("refused 6") and dice.random() < 0.5:
-                    break
-            if not is_left:
+        if run.is_open():
+            world.steps.append("a run over a disk that fails" if begins < 0 else "a run")
+            left -= 1
+            was_told = lived(world, run, dice, tally, begins, begins + lasts)
+            if not left:
                 break
             if dice.random() < 0.3:
                 run.killed()
@@ -609,41 +579,81 @@ def played(world, dice, tally):
             else:
                 if dice.random() < 0.3:
                     world.asked(run, "suspend")
-                status, said = run.ended()
-                world.steps.append(f"ended {status}")
-                need(os.path.exists(world.mark) or not any(f"a {it} failed" in said for it in ("write", "sync")), f"no mark: {said}")
-        except Wrong:
-            if run.process.poll() != 3:
-                raise
-            # The opening was told of what failed before.
-            world.steps.append("an opening refused")
-            status, said = run.ended()
-            need(os.path.exists(world.mark), f"an opening is refused, and leaves no mark: {said}")
-            is_left += 1
+        else:
+            was_told = False
+            world.steps.append("an opening is refused")
+            tally["openings refused"] += 1
+        status, said = run.ended()
+        if any(f"a {it} failed" in said for it in ("write", "sync")):
+            need(status in (3, -signal.SIGKILL) and world.is_marked(said), f"status {status}, and no mark: {said}")
         if dice.random() < 0.5:
             world.written_out()
             world.steps.append("kernel")
         if dice.random() < 0.3:
             was_told |= world.synced_by_another()
             world.steps.append("another")
+        is_marked = os.path.exists(world.mark)
+        tally["marks"] += is_marked
+        if world.bad.mend():
+            # The file system was mounted anew, which drops its pages, and a mark that lay on it may be lost.
+            tally["mounted anew"] += 1
+            was_told = False
+        elif is_marked and dice.random() < 0.5:
+            world.is_kept_off()
+            world.steps.append("kept off")
         if os.path.exists(world.mark):
-            tally["marks"] += 1
-            if dice.random() < 0.5:
-                world.fails(False)
-                world.is_kept_off()
-                world.steps.append("kept off")
-            world.bad.mend()
             world.is_cleared()
             world.steps.append("cleared")
-        else:
-            world.bad.mend()
-            if was_told:
-                # No program is told of this any more: see only_another_is_told.
-                tally["dropped unmarked"] += 1
-                world.dropped()
-                world.steps.append("dropped")
-        was_told = False
+        elif was_told:
+            # No program is told of this any more: see only_another_is_told.
+            tally["dropped unmarked"] += 1
+            world.dropped()
+            world.steps.append("dropped")
     world.power_is_lost()
+
+
+def lived(world, run, dice, tally, begins, ends):
+    """A life: whether another program was told of a failure."""
+    def fill():
+        world.number = world.number % 250 + 1
+        return f"{world.number:02x}"
+
+    was_told, world.is_sure = False, True
+    if len(world.runs) > 1:
+        world.is_read(run)
+    for step in range(dice.randrange(5, 35)):
+        if step in (begins, ends):
+            world.fails(step == begins)
+            world.steps.append("it fails" if step == begins else "it is well")
+        word = dice.choice(("w", "w", "w", "r", "r", "work", "flush", "flush", "wf", "tick", "clients", "kernel", "another", "all", "drop"))
+        if word == "clients":
+            lines = []
+            for client in (1, 2, 3):
+                for _ in range(dice.randrange(3)):
+                    at = dice.choice(WATCHED[client::3])
+                    lines.append(f"@{client} " + dice.choice((f"w {at} 1 {fill()}", f"wf {at} 1 {fill()}", "flush", f"r {at} 1")))
+            if lines:
+                world.joined(run, lines)
+        elif word in ("kernel", "drop"):
+            world.steps.append(word)
+            world.written_out()
+            if word == "drop":
+                world.dropped()
+                world.is_sure = False
+        elif word in ("another", "all"):
+            is_told = world.synced_by_another(word == "all")
+            world.steps.append(f"{word} -> {'told' if is_told else 'well'}")
+            was_told |= is_told
+            tally["another told"] += is_told
+        else:
+            at = dice.choice(WATCHED)
+            line = {"w": f"w {at} 1 {fill()}", "wf": f"wf {at} 1 {fill()}", "r": f"r {at} 1"}.get(word, word)
+            told = world.asked(run, line)
+            if word in ("flush", "wf", "tick"):
+                tally["acknowledged" if told == "ok" else "refused"] += 1
+            if told.startswith("refused 6") and dice.random() < 0.5:
+                break
+    return was_told
 
 
 def main():
@@ -657,9 +667,9 @@ def main():
         print("0 passed, 0 failed")
         return 0
     signal.signal(signal.SIGTERM, lambda *_: sys.exit(1))
-    tally = dict.fromkeys(("acknowledged", "refused", "another told", "marks", "dropped unmarked"), 0)
+    tally = dict.fromkeys(("acknowledged", "refused", "another told", "openings refused", "marks", "mounted anew", "dropped unmarked"), 0)
     passed = failed = 0
-    folder = tempfile.mkdtemp()
+    folder = tempfile.mkdtemp(dir="/dev/shm" if os.access("/dev/shm", os.W_OK) else None)
 
     def tried(name, on_bad, play, image, rate=100):
         nonlocal passed, failed
