@@ -52,6 +52,7 @@ if command -v python3 >/dev/null; then
   call "$top/scripts/syncs.py" "$cache"
   call "$top/scripts/large.py" "$cache" "$meta" "$bench"
   call "$top/scripts/check-operator.py" "$cache" "$server" "$meta"
+  call "$top/scripts/real_faults.py" "$cache" "$server" "$meta" 10
   call "$top/scripts/check-meta.py" "$meta" "$cache"
   call "$top/scripts/power.py" "$cache" "$server" "$meta"
   call "$top/scripts/manual.py" "$cache" "$server" "$meta"
