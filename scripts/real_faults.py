@@ -7,6 +7,8 @@ As root, on Linux with /dev/fuse and loop devices, nbdkit with its filter 'error
 them is missing it says what is not tried. nbdkit serves the image of a disk, nbdfuse makes a file of it, and a loop device over that file carries ext4:
 disk 'bad', whose writes fail while the file 'fail' is there, and disk 'good'. Each of the three files of the cache lies on one of them.
 
+Where a gap is known, what it loses is printed and not counted.
+
 The power is lost when nbdkit is killed: what the image holds then is mounted as a copy, its journal replayed, and a fresh opening over the copies shows
 each sector as of the last flush that was answered 'ok', or as a later write left it. After the checks come rounds of writes, failures and lives that the
 dice choose. It prints what failed with the steps that lead there, the seed, and 'N passed, N failed'.
@@ -251,6 +253,21 @@ class World:
 
     def fails(self, is_failing):
         self.bad.fails(is_failing)
+
+    def hangs(self, run):
+        """The bad disk hangs in a flush, the run is killed, and then the disk fails: who was told of it can leave no mark any more."""
+        self.steps.append("it hangs; flush; killed; it fails; it is well")
+        self.bad.kit.send_signal(signal.SIGSTOP)
+        try:
+            run.process.stdin.write(b"flush\n")
+            run.process.stdin.flush()
+            time.sleep(0.1)
+            run.process.kill()
+            self.fails(True)
+        finally:
+            self.bad.kit.send_signal(signal.SIGCONT)
+        run.killed()
+        self.fails(False)
 
     def written_out(self):
         """The kernel writes back what is dirty, as it does by itself after a while: nobody is told yet what failed."""
@@ -547,6 +564,20 @@ def the_next_life_is_told(world):
     world.power_is_lost()
 
 
+def shows_the_disk(world, is_dropped):
+    """The next life; its flush is answered 'ok' for what it read."""
+    if os.path.exists(world.mark):
+        world.is_kept_off()
+        world.is_cleared()
+    elif is_dropped:
+        world.dropped()
+    run = world.run()
+    world.is_read(run)
+    world.steps.append("all is read")
+    world.asked(run, "flush")
+    world.power_is_lost()
+
+
 def only_another_is_told(world, is_dropped=True):
     """What fails behind the end of a run, and only another program is told of: once the pages are dropped, the next life shows what the disk has."""
     begun(world).ended()
@@ -554,22 +585,29 @@ def only_another_is_told(world, is_dropped=True):
     world.written_out()
     need(world.synced_by_another(), "another program is told of nothing")
     world.fails(False)
-    if is_dropped:
-        world.dropped()
-    run = world.run()
-    world.is_read(run)
-    world.asked(run, "flush")
-    world.power_is_lost()
+    world.steps.append("the end; it fails; another is told; it is well")
+    shows_the_disk(world, is_dropped)
 
 
-def only_another_is_told_and_nothing_is_dropped(world):
-    """A gap that is known: no mark is left, the next life reads what the disk does not have, and its flush is answered 'ok'."""
+def killed_while_it_hangs(world, is_dropped=True):
+    """A run that is killed in a flush that fails then: the same."""
+    world.hangs(begun(world))
+    shows_the_disk(world, is_dropped)
+
+
+def gap_only_another_is_told(world):
     only_another_is_told(world, is_dropped=False)
 
 
+def gap_killed_while_it_hangs(world):
+    killed_while_it_hangs(world, is_dropped=False)
+
+
 CHECKS = [(a_refused_flush, it) for it in ("o", "c", "m", "mco")] + [(one, "o") for one in (another_syncs_all, a_younger_durable_write, writes_home)] + [
-    (one, it) for one in (another_syncs, a_younger_client, a_younger_client_and_another, the_next_life_is_told, only_another_is_told) for it in ("o", "c")]
-KNOWN = [(only_another_is_told_and_nothing_is_dropped, it) for it in ("o", "c")]
+    (one, it) for one in (another_syncs, a_younger_client, a_younger_client_and_another, the_next_life_is_told, only_another_is_told,
+                                killed_while_it_hangs) for it in ("o", "c")]
+# Where no mark is left and nobody drops the pages, a life reads what the disk does not have, and its flush is answered 'ok'.
+KNOWN = [(one, it) for one in (gap_only_another_is_told, gap_killed_while_it_hangs) for it in ("o", "c")]
 
 
 # --- Rounds.
@@ -586,9 +624,13 @@ def played(world, dice, tally):
             was_told = lived(world, run, dice, tally, begins, begins + lasts)
             if not left:
                 break
-            if dice.random() < 0.3:
+            kind = dice.random()
+            if kind < 0.2:
                 run.killed()
                 world.steps.append("killed")
+            elif kind < 0.4 and run.process.poll() is None:
+                world.hangs(run)
+                was_told = True
             else:
                 if dice.random() < 0.3:
                     world.asked(run, "suspend")
@@ -618,7 +660,7 @@ def played(world, dice, tally):
             world.is_cleared()
             world.steps.append("cleared")
         elif was_told:
-            # No program is told of this any more: see only_another_is_told.
+            # No program is told of this any more: see KNOWN.
             tally["dropped unmarked"] += 1
             world.dropped()
             world.steps.append("dropped")
