@@ -76,7 +76,7 @@ class Disk:
             raise
 
     def served(self):
-        """Each write fails, or none: Linux 6.18 answers a sync well behind a loop device of which a file took a part of a write only."""
+        """Each write fails, or none: where one of ten does, Linux 6.18 answers fdatasync well over this at times, also without a cache, for what is lost."""
         open(f"{self.name}/disk", "w").close()
         errors = [f"error-{call}-{word}" for call in ("pwrite", "zero", "trim") for word in ("rate=100%", f"file={os.path.abspath(self.trigger)}")]
         self.kit = begin("nbdkit", "--exit-with-parent", "-f", "-U", f"{self.name}/socket", "--filter=error", "file", self.image, "error=EIO", *errors)
@@ -618,7 +618,7 @@ KNOWN = [(one, "o") for one in (gap_only_another_is_told, gap_killed_while_it_ha
 
 
 # --- Rounds.
-WORDS = "w w w w w w r r r r work work flush flush flush flush wf wf tick tick clients clients kernel kernel kernel another another another drop drop all".split()
+WORDS = ("w " * 6 + "r " * 4 + "work work flush flush flush flush wf wf tick tick clients clients kernel kernel kernel another another another drop drop all").split()
 
 
 def played(world, dice, tally):
