@@ -618,7 +618,7 @@ KNOWN = [(one, "o") for one in (gap_only_another_is_told, gap_killed_while_it_ha
 
 
 # --- Rounds.
-WORDS = ("w " * 6 + "r " * 4 + "work work flush flush flush flush wf wf tick tick clients clients kernel kernel kernel another another another drop drop all").split()
+WORDS = ("w " * 6 + "r " * 4 + "work " * 2 + "flush " * 4 + "wf wf tick tick clients clients " + "kernel " * 3 + "another " * 3 + "drop drop all").split()
 
 
 def played(world, dice, tally):
