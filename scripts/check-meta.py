@@ -146,7 +146,7 @@ def beside_a_holder():
 def beside_a_server():
     """Looks while a program commits: each is answered."""
     make()
-    lines = "".join(f"w {64 * (n % 10)} 1 {n % 256:02x}\nr {64 * (n % 10)} 1\nwork\nflush\n" for n in range(400))
+    lines = "".join(f"w {64 * (n % 10)} 1 {n % 256:02x}\nr {64 * (n % 10)} 1\nwork\nflush\n" for n in range(20_000))
     with subprocess.Popen([PROGRAMS.cache, "run", TABLE], stdin=subprocess.PIPE, stdout=subprocess.DEVNULL, stderr=subprocess.DEVNULL, text=True) as runs:
         writer = concurrent.futures.ThreadPoolExecutor(1)
         sent = writer.submit(lambda: (runs.stdin.write(lines), runs.stdin.close()))

@@ -316,19 +316,19 @@ def each_request_refused_to_lanes():
 
 
 def each_request_refused_to_an_order():
-    """An order that is refused for want of memory waits on, and is carried out by the next line that asks for one."""
+    """An order that is refused for want of memory is not lost: it waits on, or the next accesses bring it again."""
     tried = met = 0
     for request in range(1, 5000):
         restore()
-        status, told, _, came = run(PROGRAMS.cache, ["run", table("writeback")], "r 192 1\nr 192 1\nwork\nwork\n", {"WEATHER_ALLOC": request})
+        status, told, _, came = run(PROGRAMS.cache, ["run", table("writeback")], "r 192 1\nr 192 1\nwork\n" * 2, {"WEATHER_ALLOC": request})
         if not came:
             need(met > 0, f"no order was refused by {tried} requests")
             return tried
         tried += 1
         told = told.splitlines()
-        if len(told) == 4 and told[2] == "refused 7 Memory":
+        if len(told) == 6 and told[2] == "refused 7 Memory":
             met += 1
-            need(told[3].startswith("promoted 3 to "), f"request {request}: {told}")
+            need(told[5].startswith("promoted 3 to "), f"request {request}: {told}")
     raise Wrong("it makes no end of requests")
 
 
