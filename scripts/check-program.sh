@@ -59,6 +59,7 @@ if command -v python3 >/dev/null; then
   call "$top/scripts/commands.py" "$cache" "$server" "$meta"
   call "$top/scripts/guide.py" "$cache" "$server" "$meta"
   call "$top/scripts/errors.py"
+  call "$top/scripts/prose.py"
 else
   echo 'not tried: there is no python3, by which stops, faults, lives, images and bad weather are played'
 fi
