@@ -46,9 +46,9 @@ show() { # commands: each as it is typed, and what it and its server print, with
 
 say "# Clients
 
-What \`sh scripts/clients.sh\` printed ($which), command by command:"
-say 'real clients of `wbnbd`, which serves one client on its standard input and output. docs/GUIDE.md is for
-operators, and has a file system over it.
+Real clients of \`wbnbd\`, as \`sh scripts/clients.sh\` printed them
+($which)."
+say '[GUIDE.md](GUIDE.md) is for operators, and mounts a file system.
 
 ## Versions'
 show <<'W'
@@ -67,12 +67,14 @@ show <<'W'
 nbdsh -c 'h.connect_command(["wbnbd", "-q", "'"$table"'"])' -c 'print(h.get_size(), h.can_flush(), h.can_fua(), h.can_zero(), h.can_trim())' -c 'h.pwrite(b"x" * 512, 0); h.flush(); h.zero(512, 512); print(h.pread(1024, 0)[510:514]); h.shutdown()'
 W
 say '
-`[ command ]` of nbdinfo, nbdcopy and nbdsh is another thing: the command is given a listening socket as descriptor 3. wbnbd serves standard input and output, and takes no such socket:'
+With `[ command ]`, nbdinfo, nbdcopy and nbdsh give the command a listening socket as descriptor 3. `wbnbd` serves
+standard input and output, and takes no such socket:'
 show <<'W'
 timeout 20 nbdinfo -- [ wbnbd -q "$table" ] >out.txt 2>reason.txt; echo "status $?"; cat reason.txt
 W
 say '
-bench/inetd.py accepts on that socket, and calls it (`socat ACCEPT-FD:3 EXEC:./serve`, with a script that calls wbnbd, is the same where there is socat; it was not tried here):'
+`bench/inetd.py` accepts on that socket and starts `wbnbd`. `socat ACCEPT-FD:3 EXEC:./serve`, with a script that starts
+`wbnbd`, should do the same; it was not tried:'
 show <<'W'
 nbdinfo --size -- [ python3 inetd.py - wbnbd -q "$table" ]
 head -c 67108864 /dev/urandom >image
@@ -83,8 +85,9 @@ W
 say '
 ## Started by systemd, for each connection
 
-docs/systemd/wbnbd.socket and wbnbd@.service: `Accept=yes`, `StandardInput=socket`. No systemd ran here: `systemd-socket-activate --inetd -a` does the same with a socket, and `systemd-analyze` finds nothing
-wrong with the two files. (In docs/systemd/wbnbd@.service what asks the service to stop is no signal that ends it: it ends once its client does.)'
+`docs/systemd/wbnbd.socket` and `wbnbd@.service` have `Accept=yes` and `StandardInput=socket`. No systemd ran here:
+`systemd-socket-activate --inetd -a` does the same with a socket, and `systemd-analyze` finds nothing wrong with the two
+files. The signal that stops the service does not end `wbnbd`: it ends when its client does.'
 show <<'W'
 sed -i "s,/usr/bin/wbnbd,$(command -v wbnbd)," wbnbd@.service; systemd-analyze verify --man=no ./wbnbd.socket ./wbnbd@.service; echo "status $?"
 systemd-socket-activate --inetd -a -l "$PWD/disk.sock" wbnbd -q --wait 10 "$table" >told.txt 2>&1 & left=$!
@@ -106,7 +109,7 @@ Trim is not offered: a discard of QEMU then does nothing.
 
 ## fio
 
-Writes of 4 KiB at random, up to 16 at once, a flush behind each 32nd, and then each is read again and compared:'
+Random writes of 4 KiB, up to 16 at once, with a flush after each 32nd. Then each is read again and compared:'
 show <<'W'
 fio --name=load --ioengine=nbd --uri="$uri" --size=64M --io_size=16M --rw=randwrite --bs=4k --iodepth=16 --fsync=32 --verify=crc32c --output=fio.txt; echo "status $?"
 grep -c 'err= 0' fio.txt
@@ -114,7 +117,8 @@ W
 say '
 ## nbd-client
 
-It makes a block device of the kernel (/dev/nbd0), which this machine had none of. What goes before that is done: exports are listed (the one has no name), and the size is told.'
+It makes a block device of the kernel (`/dev/nbd0`), which this machine did not have. The steps before that work: it
+lists the one export, which has no name, and gets the size.'
 show <<'W'
 kill $left; wait $left 2>/dev/null; systemd-socket-activate --inetd -a -l 127.0.0.1:10809 wbnbd -q --wait 10 "$table" >told.txt 2>&1 & left=$!; sleep 1
 nbd-client -l 127.0.0.1; echo "status $?"
@@ -131,14 +135,19 @@ e2fsck -f -n disk/nbd >check.txt 2>&1; echo "status $?"
 fusermount3 -u disk; wait
 W
 say '
-nbdfuse does not wait for its server, which flushes once nbdfuse is gone and holds the files as long: `--wait 10` of the next one waits for that.'
+nbdfuse does not wait for `wbnbd`, which flushes after nbdfuse has ended and holds the files until then. The next
+`wbnbd` waits for them with `--wait 10`.'
 show <<'W'
 nbdcopy -- [ python3 inetd.py - wbnbd -q --wait 10 "$table" ] copy; e2fsck -f -n copy >check.txt 2>&1; echo "status $?"
 W
 say '
 ## Servers that are killed
 
-Up to 16 writes and flushes at once over 2 MiB until the server is killed; a new one has to show what was flushed, or a later write:'
+Up to 16 writes and flushes at once over 2 MiB, until the server is killed. The next server must show what was flushed,
+or a later write:'
 say
 say "    \$ python3 scripts/nbd_kill.py wbnbd \"\$table\" $kills"
 python3 "$top/scripts/nbd_kill.py" "$work/bin/wbnbd" "$table" "$kills" 2>/dev/null | sed 's/^/    /'
+say '
+**Warning.** A client must not reconnect by itself to the next server: see
+[Clients that reconnect](GUIDE.md#clients-that-reconnect).'
