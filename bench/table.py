@@ -132,7 +132,7 @@ def opened(programs, table):
 
 
 def opening(programs):
-    for name, far in (("neighbours", False), ("far apart", True)):
+    for name, far in (("neighbors", False), ("far apart", True)):
         with tempfile.TemporaryDirectory(dir=SHM) as work:
             table = table_of(work)
             make_full(programs.bench, work, 1048575, far)
