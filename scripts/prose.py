@@ -4,7 +4,7 @@
     python3 scripts/prose.py
 
 The bounds: 30,000 words in all; 20 words a sentence on average in each document, 45 in the longest; lines of 120 characters outside tables and
-code; every link to a file of the repository leads somewhere; no word that aspell does not know and scripts/words.txt does not list. Where
+code; every link to a file of the repository leads somewhere, also to a section of a document; no word that aspell does not know and scripts/words.txt does not list. Where
 aspell is missing that is said. It prints a line for each document, then what failed, and at the end 'N passed, M failed'.
 """
 import glob
@@ -35,10 +35,23 @@ def long_lines(text):
     return [number for number, line in enumerate(lines, 1) if len(line) > MOST_LINE and not line.startswith(("|", "    "))]
 
 
+def sections(path):
+    """What a link names a document's sections by."""
+    with open(path, encoding="utf-8") as file:
+        headings = re.findall(r"^#+ (.+)$", re.sub(r"```.*?```", "", file.read(), flags=re.S), re.M)
+    return {re.sub(r"[^\w -]", "", heading.lower()).replace(" ", "-") for heading in headings}
+
+
 def dead_links(path, text):
-    """The links that lead to no file."""
-    links = re.findall(r"\]\(([^)#:]+)(?:#[^)]*)?\)", text)
-    return [link for link in links if not os.path.exists(os.path.join(os.path.dirname(path), link))]
+    """The links that lead to no file, or to no section of a document."""
+    dead = []
+    for link, section in re.findall(r"\]\(([^)#:]*)(?:#([^)]*))?\)", text):
+        there = os.path.join(os.path.dirname(path), link) if link else path
+        if not os.path.exists(there):
+            dead.append(link)
+        elif section and section not in sections(there):
+            dead.append(f"{link}#{section}")
+    return dead
 
 
 def unknown_words(text):
