@@ -23,6 +23,8 @@ ELSEWHERE = {
     "sh scripts/first-script.sh": "scripts/check-build.sh",
     "sh scripts/build.sh": "scripts/check-build.sh",
     "sh scripts/build.sh wbnbd": "scripts/check-build.sh",
+    "sh scripts/build.sh wbmeta": "scripts/check-build.sh",
+    "sh scripts/package.sh": "scripts/check-program.sh",
     "bash .ci/run": "it calls this script",
 }
 IN_TEXT = re.compile(r"`((?:sh|bash|rt|bin/\w+|umount) [^`]*)`")
