@@ -82,7 +82,7 @@ def devices():
     p.box(20, 94, 660, 196, "page", [""])
     p.text(34, 114, "wbnbd, or wbcache run", "text", 14, "start", "bold")
     p.box(40, 126, 190, 66, "plain", ["client threads", "up to 64; sectors move", "without a mutex"])
-    p.box(255, 126, 190, 66, "plain", ["lock words, in memory", "3 for each block:", "lock, seal, number"])
+    p.box(255, 126, 190, 66, "plain", ["block words, in memory", "3 for each block:", "lock, seal, number"])
     p.box(470, 126, 190, 66, "plain", ["worker", "carries out orders,", "ticks"])
     p.box(255, 218, 190, 58, "plain", ["desk, under one lock", "mapping, orders, policy"])
     p.arrow([(230, 159), (253, 159)], both=True)
@@ -263,7 +263,7 @@ def proof():
     p.box(370, 40, 300, 52, "meta", ["promises 10, 12: programs", "wbnbd, wbmeta, wb_nbd, wb_opened"])
     p.box(370, 120, 300, 52, "meta", ["promises 4, 5, 7, 8: the target", "wb_target, wb_port, wb_stage, wb_devices"])
     p.box(370, 200, 300, 52, "meta", ["6, 9, 11: words, desk, policy", "wb_cells, wb_desk, wb_policy"])
-    p.box(30, 298, 640, 52, "new", ["both: step tables, meaning of the lock words, promise 3 (metadata), disk rules", "wb_tasks, wb_words, wb_meta, wb_tree, wb_disk: trait Disk"])
+    p.box(30, 298, 640, 52, "new", ["both: step tables, meaning of the block words, promise 3 (metadata), disk rules", "wb_tasks, wb_words, wb_meta, wb_tree, wb_disk: trait Disk"])
     p.box(30, 378, 640, 52, "bad", ["assumed, not proved", "files keep the disk rules; atomic_table, compiler, library"])
     for x in (180, 520):
         p.arrow([(x, 92), (x, 118)])
