@@ -62,10 +62,12 @@ def play(commands, folder, path):
     """What each command prints, by one shell; fewer where that hangs or ends."""
     script = ""
     for number, (command, _) in enumerate(commands):
-        script += f"echo '=== {number}'\n{{\n{command}\n}} </dev/null\n"
-    with open(os.path.join(folder, "said"), "w+", encoding="utf-8") as said:
+        script += f"echo '=== {number}'; echo '=== {number}' >&2\n{{\n{command}\n}} </dev/null\n"
+    # A file for each stream: in one a line of one stream could stand within a line of the other.
+    streams = [open(os.path.join(folder, name), "w+", encoding="utf-8") for name in ("said", "told")]
+    with streams[0] as said, streams[1] as told:
         where = {"cwd": os.path.join(folder, "play"), "env": {**os.environ, "PATH": path, "LC_ALL": "C"}}
-        shell = subprocess.Popen(["sh", "-c", script], stdin=subprocess.DEVNULL, stdout=said, stderr=said, start_new_session=True, **where)
+        shell = subprocess.Popen(["sh", "-c", script], stdin=subprocess.DEVNULL, stdout=said, stderr=told, start_new_session=True, **where)
         try:
             shell.wait(SECONDS)
         except subprocess.TimeoutExpired:
@@ -76,8 +78,11 @@ def play(commands, folder, path):
             pass
         for place in ("mnt", "disk"):
             subprocess.run(["umount", "-l", place], cwd=where["cwd"], env=where["env"], capture_output=True)
-        said.seek(0)
-        return [part.splitlines() for part in re.split(r"^=== \d+\n", said.read(), flags=re.M)[1:]]
+        parts = []
+        for stream in (said, told):
+            stream.seek(0)
+            parts.append([part.splitlines() for part in re.split(r"^=== \d+\n", stream.read(), flags=re.M)[1:]])
+        return [first + second for first, second in zip(*parts)]
 
 
 def main():
