@@ -55,7 +55,7 @@ impl MarkPlace {
         self.path.as_str()
     }
 
-    /// Leaves a mark in the place of any other, durably: a line `<device> <boot> <step> failed: <reason>`.
+    /// Leaves a mark in the place of any other, durably: a line `<device> <boot> <what failed>: <reason>`.
     pub(crate) fn leave<R: Files<File = File>>(
         &self,
         rt: &R,
