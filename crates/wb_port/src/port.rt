@@ -8,7 +8,7 @@ ghost use Rattle.wb_port.specs.declared.moving.TheConstants.{LONGEST as LongestS
 ghost use Rattle.wb_port.specs.Hands.{saw_fail_word};
 
 use crate::hand::Hand;
-use crate::seat::Seat;
+use crate::seat::{Claim, Seat};
 use std::alloc::Global;
 use std::sync::Arc;
 use wb_cells::{Cells, Word};
@@ -20,7 +20,7 @@ use wb_types::{Content, Geometry, Mode, OBlock};
 pub const UNSETTLED: usize = 32;
 
 /// A hand between two requests, the shared words that its pass is of, and the accesses that are to be settled, one block for
-/// each part that was counted, in order.
+/// each part that was counted, in order. It is not `Drop`: it is left, by which its seat is given back.
 pub struct Port<D> {
     pub geometry: Geometry,
     pub cells: Arc<Cells, Global>,
@@ -30,6 +30,7 @@ pub struct Port<D> {
     pub buffer: Vec<Content>,
     /// The commit that it runs, if any.
     pub commit: Option<RunningCommit>,
+    claim: Claim,
     ghost at: { hand.pass.table ≡ cells.value.table },
     ghost sized: { cells.value.blocks ≡ geometry.origin_blocks },
     ghost idle: { hand.pass.card.hold ≡ Nothing },
@@ -37,24 +38,6 @@ pub struct Port<D> {
     ghost few: { length accesses.items ≤ MostUnsettled },
     ghost room: { MostUnsettled ≤ vec_capacity accesses },
     ghost holds: { 0 < length buffer.items → LongestStep ≤ length buffer.items },
-}
-
-impl<D: Drop> Drop for Port<D> {
-    fn drop(self) {
-        let Port {
-            geometry: _,
-            cells,
-            hand,
-            accesses,
-            buffer,
-            commit,
-        } = self;
-        drop(cells);
-        drop(hand);
-        drop(accesses);
-        drop(buffer);
-        drop(commit);
-    }
 }
 
 impl<D: Disk + Drop> Port<D> {
@@ -74,7 +57,7 @@ impl<D: Disk + Drop> Port<D> {
         let Ok(accesses) = Vec::with_capacity(alloc, UNSETTLED) else {
             return Err((seat, devices));
         };
-        let (geometry, cells, pass) = seat.apart();
+        let (claim, geometry, cells, pass) = seat.apart();
         Ok(Port {
             geometry,
             cells,
@@ -82,6 +65,7 @@ impl<D: Disk + Drop> Port<D> {
             accesses,
             buffer: Vec::new(alloc),
             commit: None,
+            claim,
         })
     }
 
@@ -97,16 +81,10 @@ impl<D: Disk + Drop> Port<D> {
             accesses: _,
             buffer: _,
             commit: _,
+            claim,
         } = self;
         let (pass, devices) = hand.apart();
-        (
-            Seat {
-                geometry,
-                cells,
-                pass,
-            },
-            devices,
-        )
+        (Seat::claimed(claim, geometry, cells, pass), devices)
     }
 
     /// Whether the fail word is set: one look at it.

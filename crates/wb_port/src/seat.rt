@@ -14,26 +14,20 @@ use wb_cells::{Cells, Pass, Word};
 use wb_types::{Geometry, Refusal};
 use wb_words::{CellResult, CellStep};
 
-/// The shared words of a target of these sizes, and a pass of them that has no block.
+/// A token that each seat has, and each port made of one. It is not `Drop`, and only this file can take it apart.
+pub(crate) struct Claim {
+    mark: (),
+}
+
+/// The shared words of a target of these sizes, and a pass of them that has no block. It is not `Drop`: a seat is given back, or closed.
 pub struct Seat {
     pub geometry: Geometry,
     pub cells: Arc<Cells, Global>,
     pub pass: Pass,
+    claim: Claim,
     ghost at: { pass.table ≡ cells.value.table },
     ghost sized: { cells.value.blocks ≡ geometry.origin_blocks },
     ghost idle: { pass.card.hold ≡ Nothing },
-}
-
-impl Drop for Seat {
-    fn drop(self) {
-        let Seat {
-            geometry: _,
-            cells,
-            pass,
-        } = self;
-        drop(cells);
-        drop(pass);
-    }
 }
 
 impl Seat {
@@ -43,23 +37,57 @@ impl Seat {
         ensures card { IfOk result (λ seat. seat.pass.card ≡ blank_card) }
     {
         let (cells, pass) = Cells::new(alloc, geometry.origin_blocks)?;
-        Ok(Seat {
-            geometry,
-            cells: Arc::new(alloc, cells).map_err(|_| Refusal::Memory)?,
-            pass,
-        })
+        let cells = Arc::new(alloc, cells).map_err(|_| Refusal::Memory)?;
+        Ok(Seat::over(geometry, cells, pass))
     }
 
-    /// Its sizes, its words and its pass.
-    pub(crate) fn apart(self) -> (Geometry, Arc<Cells, Global>, Pass)
-        ensures { (result.0 ≡ self.geometry) × (result.1 ≡ self.cells) × (result.2 ≡ self.pass) }
+    /// A seat of these words, of a cache of these sizes.
+    pub fn over(geometry: Geometry, cells: Arc<Cells, Global>, pass: Pass) -> Seat
+        requires at { pass.table ≡ cells.value.table }
+        requires sized { cells.value.blocks ≡ geometry.origin_blocks }
+        requires idle { pass.card.hold ≡ Nothing }
+        ensures { (result.geometry ≡ geometry) × (result.cells ≡ cells) × (result.pass ≡ pass) }
+    {
+        Seat {
+            geometry,
+            cells,
+            pass,
+            claim: Claim { mark: () },
+        }
+    }
+
+    /// The seat of a claim, with its sizes, its words and its pass.
+    pub(crate) fn claimed(
+        claim: Claim,
+        geometry: Geometry,
+        cells: Arc<Cells, Global>,
+        pass: Pass,
+    ) -> Seat
+        requires at { pass.table ≡ cells.value.table }
+        requires sized { cells.value.blocks ≡ geometry.origin_blocks }
+        requires idle { pass.card.hold ≡ Nothing }
+        ensures { (result.geometry ≡ geometry) × (result.cells ≡ cells) × (result.pass ≡ pass) }
+    {
+        Seat {
+            geometry,
+            cells,
+            pass,
+            claim,
+        }
+    }
+
+    /// Its claim, its sizes, its words and its pass.
+    pub(crate) fn apart(self) -> (Claim, Geometry, Arc<Cells, Global>, Pass)
+        ensures parts { (result.1 ≡ self.geometry) × (result.2 ≡ self.cells) × (result.3 ≡ self.pass) }
+        ensures claim { result.0 ≡ self.claim }
     {
         let Seat {
             geometry,
             cells,
             pass,
+            claim,
         } = self;
-        (geometry, cells, pass)
+        (claim, geometry, cells, pass)
     }
 
     /// One look at a word.
@@ -84,31 +112,31 @@ impl Seat {
         self.cells.step(&mut self.pass, step)
     }
 
-    /// Two seats of one, the first of which keeps what it has done; `Memory` where the words have as many owners as can be counted, and then the seat is lost.
-    pub fn split(self) -> Result<(Seat, Seat), Refusal>
+    /// Two seats of one, the first of which keeps what it has done; where the words have as many owners as can be counted, `Memory`
+    /// beside the seat.
+    pub fn split(self) -> Result<(Seat, Seat), (Seat, Refusal)>
         ensures words { IfOk result (λ two. (two.0.cells.value.table ≡ self.cells.value.table) × (two.1.cells.value.table ≡ self.cells.value.table)) }
         ensures geometry { IfOk result (λ two. (two.0.geometry ≡ self.geometry) × (two.1.geometry ≡ self.geometry)) }
         ensures cards { IfOk result (λ two. (two.0.pass.card ≡ self.pass.card) × (two.1.pass.card ≡ blank_card)) }
-        ensures refused { IfErr result (λ refusal. refusal ≡ Refusal.Memory) }
+        ensures back { IfErr result (λ back. back.0 ≡ self) }
+        ensures refused { IfErr result (λ back. back.1 ≡ Refusal.Memory) }
     {
-        let Seat {
-            geometry,
-            cells,
-            pass,
-        } = self;
-        let theirs = Arc::try_clone(&cells).map_err(|_| Refusal::Memory)?;
+        let Ok(theirs) = Arc::try_clone(&self.cells) else {
+            return Err((self, Refusal::Memory));
+        };
+        let (claim, geometry, cells, pass) = self.apart();
         let (one, other) = cells.split(pass);
-        Ok((
-            Seat {
-                geometry,
-                cells,
-                pass: one,
-            },
-            Seat {
-                geometry,
-                cells: theirs,
-                pass: other,
-            },
-        ))
+        let other = Seat::over(geometry, theirs, other);
+        Ok((Seat::claimed(claim, geometry, cells, one), other))
+    }
+
+    /// Ends it: nobody sits here again. Only a whole target ends its seats, or one that was not made.
+    pub fn close(self) {
+        let Seat {
+            geometry: _,
+            cells: _,
+            pass: _,
+            claim: Claim { mark: _ },
+        } = self;
     }
 }

@@ -10,17 +10,10 @@ use wb_disk::Disk;
 use wb_policy::Policy;
 use wb_port::Port;
 
-/// A client: what it reads and writes by, and the target that it is of.
+/// A client: what it reads and writes by, and the target that it is of. It is not `Drop`: `Target::retire` takes it back.
 pub struct Client<'t, D, P: Policy> {
     pub(crate) target: &'t Target<P>,
     pub port: Port<D>,
-}
-
-impl<'t, D: Drop, P: Policy> Drop for Client<'t, D, P> {
-    fn drop(self) {
-        let Client { target: _, port } = self;
-        drop(port);
-    }
 }
 
 impl<'t, D: Disk + Drop, P: Policy> Client<'t, D, P> {

@@ -54,19 +54,21 @@ impl<P: Policy> Drop for Office<P> {
     fn drop(self) {
         let Office { desk, seats, watch } = self;
         drop(desk);
-        drop(seats);
-        drop(watch);
+        close_all(seats);
+        watch.close();
     }
 }
 
 impl<P: Policy> Office<P> {
-    /// A seat that a client gave back. There is room for each that was given out.
+    /// A seat that a client gave back. There is room for each that was given out; the lock cannot say so.
     pub(crate) fn give_back(&mut self, seat: Seat)
         ensures back { length self.old.seats < self.old.room → self.new.seats ≡ self.old.seats ++ seat ∷ [] }
         ensures desk { self.new.desk ≡ self.old.desk }
     {
         if self.seats.len() < self.seats.capacity() {
             self.seats.push_reserved(seat);
+        } else {
+            seat.close();
         }
     }
 
@@ -242,4 +244,13 @@ pub(crate) fn see_desk<P: Policy>(desk: &Desk<P>)
     ensures { DeskInvariant P.knows desk.now }
 {
     let _ = desk.counts();
+}
+
+/// Ends all seats of a target that ends, or that was not made.
+pub(crate) fn close_all(seats: Vec<Seat>) {
+    let mut seats = seats;
+    while let Some(seat) = seats.pop() {
+        seat.close();
+    }
+    seats.destroy_empty();
 }

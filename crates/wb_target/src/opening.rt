@@ -13,7 +13,7 @@ ghost use Rattle.wb_port.specs.declared.seat.Seat.{Seat as SeatTerm};
 ghost use Rattle.wb_target.specs.declared.target.TheConstants.{CLIENTS as MostClients};
 
 use crate::making::MakingStage;
-use crate::office::Office;
+use crate::office::{Office, close_all};
 use crate::target::{CLIENTS, Target};
 use std::alloc::Global;
 use std::sync::Arc;
@@ -98,8 +98,8 @@ pub(crate) fn office_over<P: Policy>(
     let geometry = state.root.geometry;
     let entries = opened_entries(alloc, &state, clean)?;
     let policy = P::new(alloc, &geometry, entries.as_slice())?;
-    let seat = sealed_seat(alloc, geometry, entries.as_slice())?;
     let desk = Desk::new(alloc, state, mode, policy, keys)?;
+    let seat = sealed_seat(alloc, geometry, entries.as_slice())?;
     let (seats, watch) = seats_of(alloc, seat)?;
     Ok(Office { desk, seats, watch })
 }
@@ -151,11 +151,7 @@ fn sealed_seat(
     let (cells, mut pass) = Cells::new(alloc, geometry.origin_blocks)?;
     seal_all(&cells, &mut pass, &geometry, entries);
     let cells = Arc::new(alloc, cells).map_err(|_| Refusal::Memory)?;
-    Ok(Seat {
-        geometry,
-        cells,
-        pass,
-    })
+    Ok(Seat::over(geometry, cells, pass))
 }
 
 /// Seals each mapped block, by a pass that has the whole of the words and has not failed: it is refused none.
@@ -189,13 +185,28 @@ fn seats_of(alloc: Global, seat: Seat) -> Result<(Vec<Seat>, Seat), Refusal>
     ensures card { IfOk result (λ seats. seats.1.pass.card ≡ seat.pass.card) }
     ensures refused { IfErr result (λ refusal. refusal ≡ Refusal.Memory) }
 {
-    let mut seats = Vec::with_capacity(alloc, CLIENTS)?;
+    let Ok(mut seats) = Vec::with_capacity(alloc, CLIENTS) else {
+        seat.close();
+        return Err(Refusal::Memory);
+    };
     let mut left = seat;
     for _ in 0..CLIENTS {
-        seats.reserve(1)?;
-        let (rest, one) = left.split()?;
-        seats.push_reserved(one);
-        left = rest;
+        if seats.reserve(1).is_err() {
+            close_all(seats);
+            left.close();
+            return Err(Refusal::Memory);
+        }
+        match left.split() {
+            Ok((rest, one)) => {
+                seats.push_reserved(one);
+                left = rest;
+            }
+            Err((left, refusal)) => {
+                close_all(seats);
+                left.close();
+                return Err(refusal);
+            }
+        }
     }
     Ok((seats, left))
 }

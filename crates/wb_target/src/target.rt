@@ -113,6 +113,7 @@ impl<P: Policy> Target<P> {
         if are_same_sizes(seat.geometry, self.sizes) {
             Some(seat)
         } else {
+            self.office.lock(rt).give_back(seat);
             None
         }
     }
