@@ -5,6 +5,7 @@ ghost use Rattle.wb_words.specs.declared.card.Hold.TheVariants.{Nothing};
 ghost use Rattle.wb_words.specs.SharedWords.{IsWord};
 ghost use Rattle.wb_words.specs.Cards.{blank_card, looked};
 ghost use Rattle.wb_words.specs.Ready.{IsReady};
+ghost use Rattle.wb_cells.specs.Fractions.{IsWhole};
 ghost use Rattle.wb_cells.specs.Passes.{StepsBy};
 ghost use Rattle.wb_port.specs.Kinds.{LeavesHolds};
 
@@ -19,7 +20,7 @@ pub(crate) struct Claim {
     mark: (),
 }
 
-/// The shared words of a target of these sizes, and a pass of them that has no block. It is not `Drop`: a seat is given back, or closed.
+/// The shared words of a target of these sizes, and a pass of them that has no block. It is not `Drop`: it ends in `Seats` alone.
 pub struct Seat {
     pub geometry: Geometry,
     pub cells: Arc<Cells, Global>,
@@ -35,6 +36,7 @@ impl Seat {
     pub fn new(alloc: Global, geometry: Geometry) -> Result<Seat, Refusal>
         ensures geometry { IfOk result (λ seat. seat.geometry ≡ geometry) }
         ensures card { IfOk result (λ seat. seat.pass.card ≡ blank_card) }
+        ensures whole { IfOk result (λ seat. IsWhole seat.pass.fraction) }
     {
         let (cells, pass) = Cells::new(alloc, geometry.origin_blocks)?;
         let cells = Arc::new(alloc, cells).map_err(|_| Refusal::Memory)?;
@@ -114,7 +116,7 @@ impl Seat {
 
     /// Two seats of one, the first of which keeps what it has done; where the words have as many owners as can be counted, `Memory`
     /// beside the seat.
-    pub fn split(self) -> Result<(Seat, Seat), (Seat, Refusal)>
+    pub(crate) fn split(self) -> Result<(Seat, Seat), (Seat, Refusal)>
         ensures words { IfOk result (λ two. (two.0.cells.value.table ≡ self.cells.value.table) × (two.1.cells.value.table ≡ self.cells.value.table)) }
         ensures geometry { IfOk result (λ two. (two.0.geometry ≡ self.geometry) × (two.1.geometry ≡ self.geometry)) }
         ensures cards { IfOk result (λ two. (two.0.pass.card ≡ self.pass.card) × (two.1.pass.card ≡ blank_card)) }
@@ -130,8 +132,8 @@ impl Seat {
         Ok((Seat::claimed(claim, geometry, cells, one), other))
     }
 
-    /// Ends it: nobody sits here again. Only a whole target ends its seats, or one that was not made.
-    pub fn close(self) {
+    /// Ends it, as all seats of a target end, or of one that was not made.
+    pub(crate) fn close(self) {
         let Seat {
             geometry: _,
             cells: _,

@@ -20,7 +20,7 @@ use Rattle.wb_orders.proofs.live_orders.LiveOrders.TheSendSync as orders
 use Rattle.wb_policy.specs.declared.policy.Policy.{Ghosts}
 use Rattle.wb_desk.specs.contracts.desk.Desk as Desk
 use Rattle.wb_desk.specs.contracts.desk.Desk.TheInside as DeskInside
-use Rattle.wb_port.proofs.seat.Seat.TheSendSync as seat
+use Rattle.wb_port.proofs.seats.Seats.TheSendSync as seats
 use Rattle.wb_target.specs.contracts.office.Office as Office
 use Rattle.wb_target.specs.contracts.office.Office.TheInside as OfficeInside
 use Rattle.wb_target.specs.contracts.target.Target as Target
@@ -89,7 +89,7 @@ desk_sent : (P : RattleType) (g : Ghosts P.Denot) → IsSend P → IsSend (Desk.
 desk_sent P g s = search (sendable, desk_fields_sent P g s) depth 20
 
 office_fields_sent : (P : RattleType) (g : Ghosts P.Denot) → IsSend P → IsSend (OfficeInside.the_row P g)
-office_fields_sent P g s = declared_send (OfficeInside.the_type P g) (desk_sent P g s, (Vec-send _ seat.the_send, (seat.the_send, tt)))
+office_fields_sent P g s = declared_send (OfficeInside.the_type P g) (desk_sent P g s, (seats.the_send, tt))
 
 office_sent : (P : RattleType) (g : Ghosts P.Denot) → IsSend P → IsSend (Office.the_row P g)
 office_sent P g s = search (sendable, office_fields_sent P g s) depth 20

@@ -1,6 +1,6 @@
 //! What lies under a target's lock.
 
-ghost use Rattle.std.specs.Prelude.{◌≡◌, ◌<◌, ◌+◌, ◌++◌, ◌∷◌, [], ℕ, List, IfOk, IfErr, IfSome, OnOk, OnErr, if◌then◌else◌, is_some, length, map};
+ghost use Rattle.std.specs.Prelude.{◌≡◌, ◌<◌, ◌+◌, ◌++◌, ◌∷◌, [], ℕ, List, IfOk, IfErr, IfSome, IfNone, OnOk, OnErr, if◌then◌else◌, is_some, length, map};
 ghost use Rattle.wb_types.specs.declared.number.CBlock.{CBlock as CBlockValue};
 ghost use Rattle.wb_types.specs.declared.number.OBlock.{OBlock as OBlockValue};
 ghost use Rattle.wb_desk.specs.Desks.{DeskInvariant, holdings};
@@ -25,18 +25,17 @@ use std::marker::Model;
 use wb_desk::Desk;
 use wb_devices::RunningCommit;
 use wb_policy::{Order, Policy};
-use wb_port::Seat;
+use wb_port::{Seat, Seats};
 use wb_stage::{Share, asking};
 use wb_table::Fields;
 use wb_tasks::{DeskStep, Got};
 use wb_types::{CBlock, Geometry, Key, Message, OBlock, Refusal, Version};
 use wb_words::{Kind, Word, is_dirty};
 
-/// The desk, the seats that no client has, and the one by which the office itself looks at the words, which are of the desk's origin.
+/// The desk, and the seats: those that no client has, and the one by which the office itself looks at the words, which are of the desk's origin.
 pub(crate) struct Office<P: Policy> {
     pub(crate) desk: Desk<P>,
-    pub(crate) seats: Vec<Seat>,
-    pub(crate) watch: Seat,
+    pub(crate) seats: Seats,
 }
 
 impl<P: Policy> Model for Office<P> {
@@ -45,36 +44,37 @@ impl<P: Policy> Model for Office<P> {
 
     ghost Value = { OfficeState P };
 
-    ghost view = { λ o. record { desk = o.desk; seats = o.seats.items; room = vec_capacity o.seats; watch = o.watch } };
+    ghost view = { λ o. record { desk = o.desk; seats = o.seats.spare.items; room = vec_capacity o.seats.spare; watch = o.seats.watch } };
 
-    ghost invariant = { λ o. AreOfOneOrigin o.desk o.watch };
+    ghost invariant = { λ o. AreOfOneOrigin o.desk o.seats.watch };
 }
 
 impl<P: Policy> Drop for Office<P> {
     fn drop(self) {
-        let Office { desk, seats, watch } = self;
+        let Office { desk, seats } = self;
         drop(desk);
-        close_all(seats);
-        watch.close();
+        drop(seats);
     }
 }
 
 impl<P: Policy> Office<P> {
-    /// A seat that a client gave back. There is room for each that was given out; the lock cannot say so.
+    /// A seat that a client gave back. There is room for each that was given out.
     pub(crate) fn give_back(&mut self, seat: Seat)
         ensures back { length self.old.seats < self.old.room → self.new.seats ≡ self.old.seats ++ seat ∷ [] }
         ensures desk { self.new.desk ≡ self.old.desk }
+        ensures watch { self.new.watch ≡ self.old.watch }
     {
-        if self.seats.len() < self.seats.capacity() {
-            self.seats.push_reserved(seat);
-        } else {
-            seat.close();
-        }
+        self.seats.give_back(seat);
     }
 
-    /// A place for one client more, if there is any.
-    pub(crate) fn take_seat(&mut self) -> Option<Seat> {
-        self.seats.pop()
+    /// A place for one client more, if there is any; the others stay.
+    pub(crate) fn take_seat(&mut self) -> Option<Seat>
+        ensures taken { IfSome result (λ seat. self.old.seats ≡ self.new.seats ++ seat ∷ []) }
+        ensures none { IfNone result (self.old.seats ≡ []) }
+        ensures desk { self.new.desk ≡ self.old.desk }
+        ensures watch { self.new.watch ≡ self.old.watch }
+    {
+        self.seats.take()
     }
 
     /// Performs a step on the desk, as `asking::ask`.
@@ -163,7 +163,7 @@ impl<P: Policy> Office<P> {
     fn has_failed(&mut self) -> bool
         ensures { (word : ℕ) × (self.new.watch.pass.card ≡ looked Word.Fail word self.old.watch.pass.card) × TellsFailed word result }
     {
-        self.watch.look(Word::Fail) % 2 != 0
+        self.seats.watch.look(Word::Fail) % 2 != 0
     }
 
     /// The policy's tick, over the mapped blocks whose seals are dirty now. `Memory` where there is none for the list of them,
@@ -191,7 +191,7 @@ impl<P: Policy> Office<P> {
         ensures desk { self.new.desk ≡ self.old.desk }
         ensures card { self.new.watch.pass.card ≡ looked (Word.Count kind) result self.old.watch.pass.card }
     {
-        self.watch.look(Word::Count(kind))
+        self.seats.watch.look(Word::Count(kind))
     }
 
     /// How many mapped blocks have a dirty seal.
@@ -231,7 +231,7 @@ impl<P: Policy> Office<P> {
         see_desk(&self.desk);
         let entry = self.desk.entry(place)?;
         let block = entry.origin;
-        if is_dirty(self.watch.look(Word::Seal(block))) {
+        if is_dirty(self.seats.watch.look(Word::Seal(block))) {
             Some(block)
         } else {
             None
@@ -244,13 +244,4 @@ pub(crate) fn see_desk<P: Policy>(desk: &Desk<P>)
     ensures { DeskInvariant P.knows desk.now }
 {
     let _ = desk.counts();
-}
-
-/// Ends all seats of a target that ends, or that was not made.
-pub(crate) fn close_all(seats: Vec<Seat>) {
-    let mut seats = seats;
-    while let Some(seat) = seats.pop() {
-        seat.close();
-    }
-    seats.destroy_empty();
 }

@@ -9,11 +9,9 @@ ghost use Rattle.wb_devices.specs.Clean.{entries_of};
 ghost use Rattle.wb_target.specs.Opening.{opened_mapping, opened_entry, seals_stored};
 ghost use Rattle.wb_target.specs.NotOpened.{IsOfSizes, AreNoSizes, IsNotOpened};
 ghost use Rattle.wb_cells.specs.Fractions.{IsWhole};
-ghost use Rattle.wb_port.specs.declared.seat.Seat.{Seat as SeatTerm};
-ghost use Rattle.wb_target.specs.declared.target.TheConstants.{CLIENTS as MostClients};
 
 use crate::making::MakingStage;
-use crate::office::{Office, close_all};
+use crate::office::Office;
 use crate::target::{CLIENTS, Target};
 use std::alloc::Global;
 use std::sync::Arc;
@@ -24,7 +22,7 @@ use wb_disk::Disk;
 use wb_flow::OpenTask;
 use wb_meta::State;
 use wb_policy::Policy;
-use wb_port::Seat;
+use wb_port::{Seat, Seats};
 use wb_tasks::Answer;
 use wb_types::{CBlock, Entry, Geometry, Key, Mode, Refusal};
 
@@ -100,8 +98,8 @@ pub(crate) fn office_over<P: Policy>(
     let policy = P::new(alloc, &geometry, entries.as_slice())?;
     let desk = Desk::new(alloc, state, mode, policy, keys)?;
     let seat = sealed_seat(alloc, geometry, entries.as_slice())?;
-    let (seats, watch) = seats_of(alloc, seat)?;
-    Ok(Office { desk, seats, watch })
+    let seats = Seats::new(alloc, seat, CLIENTS)?;
+    Ok(Office { desk, seats })
 }
 
 /// The entries of all cache blocks, each with the dirty bit that was read of it, as an opening goes by them.
@@ -146,6 +144,7 @@ fn sealed_seat(
     requires { IsMapping geometry.cache_blocks geometry.origin_blocks entries.now }
     ensures geometry { IfOk result (λ seat. seat.geometry ≡ geometry) }
     ensures sealed { IfOk result (λ seat. seat.pass.card.stored ≡ seals_stored 0 entries.now []) }
+    ensures whole { IfOk result (λ seat. IsWhole seat.pass.fraction) }
     ensures refused { IfErr result (λ refusal. refusal ≡ Refusal.Memory) }
 {
     let (cells, mut pass) = Cells::new(alloc, geometry.origin_blocks)?;
@@ -165,6 +164,7 @@ fn seal_all(cells: &Cells, pass: &mut Pass, geometry: &Geometry, entries: &[Opti
     ensures at { pass.new.table ≡ pass.old.table }
     ensures idle { pass.new.card.hold ≡ Nothing }
     ensures sealed { pass.new.card.stored ≡ seals_stored 0 entries.now pass.old.card.stored }
+    ensures whole { IsWhole pass.new.fraction }
 {
     for c in 0..geometry.cache_blocks {
         if let Some(entry) = entries[c as usize] {
@@ -175,38 +175,4 @@ fn seal_all(cells: &Cells, pass: &mut Pass, geometry: &Geometry, entries: &[Opti
             cells.disown(pass, own);
         }
     }
-}
-
-/// As many seats as there may be clients, which have done nothing yet, and what is left of one, which keeps what it has done.
-fn seats_of(alloc: Global, seat: Seat) -> Result<(Vec<Seat>, Seat), Refusal>
-    ensures many { IfOk result (λ seats. length seats.0.items ≡ MostClients) }
-    ensures words { IfOk result (λ seats. All (λ (one : SeatTerm). one.cells.value.table ≡ seat.cells.value.table) seats.0.items × (seats.1.cells.value.table ≡ seat.cells.value.table)) }
-    ensures geometry { IfOk result (λ seats. seats.1.geometry ≡ seat.geometry) }
-    ensures card { IfOk result (λ seats. seats.1.pass.card ≡ seat.pass.card) }
-    ensures refused { IfErr result (λ refusal. refusal ≡ Refusal.Memory) }
-{
-    let Ok(mut seats) = Vec::with_capacity(alloc, CLIENTS) else {
-        seat.close();
-        return Err(Refusal::Memory);
-    };
-    let mut left = seat;
-    for _ in 0..CLIENTS {
-        if seats.reserve(1).is_err() {
-            close_all(seats);
-            left.close();
-            return Err(Refusal::Memory);
-        }
-        match left.split() {
-            Ok((rest, one)) => {
-                seats.push_reserved(one);
-                left = rest;
-            }
-            Err((left, refusal)) => {
-                close_all(seats);
-                left.close();
-                return Err(refusal);
-            }
-        }
-    }
-    Ok((seats, left))
 }

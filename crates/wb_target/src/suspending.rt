@@ -183,7 +183,7 @@ impl<P: Policy> Office<P> {
         ensures clients { length self.old.seats < MostClients → (result.1 ≡ Err Refusal.Busy) × (result.0 ≡ devices) }
         ensures refused { IfErr result.1 (λ refusal. SuspendRefused self.old.watch.pass self.old.desk (length self.old.seats < MostClients) D.tells D.size D.contents D.faults P.hint_of P.with_entry P.without_entry devices refusal result.0) }
     {
-        if self.seats.len() < CLIENTS {
+        if self.seats.spare() < CLIENTS {
             return (devices, Err(Refusal::Busy));
         }
         see_desk(&self.desk);
@@ -200,7 +200,7 @@ impl<P: Policy> Office<P> {
         let answer = run_suspend(
             alloc,
             &mut self.desk,
-            &mut self.watch,
+            &mut self.seats.watch,
             &mut devices,
             &mut [],
             &mut commit,

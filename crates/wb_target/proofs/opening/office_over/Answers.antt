@@ -47,8 +47,8 @@ returns-clause-made g c =
       begins = subst (λ (entries : List (Option Entry)). g.P.Policy.begun c.args.state.root.geometry entries c.in_ok-policy.policy) (c.as_slice.ensures.value ∙ c.in_ok-entries.ensures.entries) c.in_ok-policy.ensures.begun;
       policy = c.in_ok-desk.ensures.policy;
       many = c.in_ok-seats.ensures.many;
-      words = All-weaker (λ (seat : Seat). seat.cells.value.table ≡ c.in_ok-seat.seat.cells.value.table) (λ (seat : Seat). seat.cells.value.table ≡ c.in_ok-seats.watch.cells.value.table)
-          (λ seat same. same ∙ sym words.1) c.in_ok-seats.seats.items words.0;
+      words = All-weaker (λ (seat : Seat). seat.cells.value.table ≡ c.in_ok-seat.seat.cells.value.table) (λ (seat : Seat). seat.cells.value.table ≡ c.in_ok-seats.seats.watch.cells.value.table)
+          (λ seat same. same ∙ sym words.1) c.in_ok-seats.seats.spare.items words.0;
       sealed = ap (λ (card : Card). card.stored) c.in_ok-seats.ensures.card ∙ c.in_ok-seat.ensures.sealed
           ∙ ap (λ (entries : List (Option Entry)). seals_stored 0 entries []) (c.as_slice-2.ensures.value ∙ c.in_ok-entries.ensures.entries);
     }

@@ -1,5 +1,5 @@
 use Rattle.std.proofs.Common.{length}
-use Rattle.wb_target.proofs.office.close_all.Given as goal
+use Rattle.wb_port.proofs.seats.close_all.Given as goal
 
 abbrev pub invariant-loop-seat : goal.invariant-loop-seat
 invariant-loop-seat l = Unit {0}
