@@ -4,8 +4,8 @@ ghost use Rattle.std.specs.Thread.{IsSend, IsSync};
 
 use std::alloc::{AllocError, Global};
 use std::sync::{Mutex, Wait};
-use std::thread;
 use std::thread::{Scope, Threads};
+use std::{mem, thread};
 use wb_devices::Devices;
 use wb_disk::Disk;
 use wb_files::{OpenFiles, SharedDisk, Watch};
@@ -53,7 +53,7 @@ impl<'t, 'f, 'a, T: Threads + Wait + Sync, P: Policy + Send, N: Watch + Sync, L:
     N,
     L,
 > {
-    /// Has a client play, and others in lanes beside it; where a suspend is to come, all are taken back and the target is suspended.
+    /// Has a client play, and others in lanes beside it; then all are taken back, and where a suspend is to come the target is suspended.
     pub(crate) fn play<V: Play>(
         &self,
         alloc: Global,
@@ -61,21 +61,23 @@ impl<'t, 'f, 'a, T: Threads + Wait + Sync, P: Policy + Send, N: Watch + Sync, L:
         play: &mut V,
     ) -> Result<(), Refusal> {
         let (waits, target) = (self.waits, self.target);
+        let slots = slots_of(waits, target, alloc).map_err(|_| Refusal::Memory)?;
         match target.client(waits, devices) {
             Ok(mut client) => {
-                let slots = slots_of(alloc).map_err(|_| Refusal::Memory)?;
-                if self.play_in_scope(&mut client, slots.as_slice(), play) {
-                    let devices = target.retire(waits, client);
-                    retire_all(waits, target, slots);
+                let is_suspend = self.play_in_scope(&mut client, slots.as_slice(), play);
+                let devices = target.retire(waits, client);
+                retire_all(waits, target, slots);
+                if is_suspend {
                     let (devices, suspended) = target.suspend(waits, devices);
                     play.go_on(waits, suspended, target);
                     drop(devices);
-                } else {
-                    let_go(slots);
                 }
                 Ok(())
             }
-            Err((_, refusal)) => Err(refusal),
+            Err((_, refusal)) => {
+                retire_all(waits, target, slots);
+                Err(refusal)
+            }
         }
     }
 
@@ -147,7 +149,8 @@ impl<'t, 'f, 'a, T: Threads + Wait + Sync, P: Policy + Send, N: Watch + Sync, L:
         let devices = self.lender.lend()?;
         match target.client(waits, devices) {
             Ok(client) => {
-                *slot.lock(waits) = Some(client);
+                let before = mem::replace(&mut *slot.lock(waits), Some(client));
+                retire_one(waits, target, before);
                 Ok(start(scope, waits, slot, self.lanes, lane))
             }
             Err((_, refusal)) => Err(refusal),
@@ -156,33 +159,52 @@ impl<'t, 'f, 'a, T: Threads + Wait + Sync, P: Policy + Send, N: Watch + Sync, L:
 }
 
 /// A slot for each lane, in which there is no client yet.
-fn slots_of<'t, D: Disk + Drop, P: Policy>(
+fn slots_of<'t, T: Wait, D: Disk + Drop, P: Policy>(
+    waits: &T,
+    target: &'t Target<P>,
     alloc: Global,
 ) -> Result<Vec<Slot<'t, D, P>>, AllocError> {
     let mut slots = Vec::new(alloc);
     for _ in 0..LANES {
-        slots.reserve(1)?;
-        slots.push_reserved(Mutex::new(None));
+        if add_slot(&mut slots).is_err() {
+            retire_all(waits, target, slots);
+            return Err(AllocError);
+        }
     }
     Ok(slots)
 }
 
-/// Takes the clients of all lanes back, in order.
+/// One slot more, in which there is no client yet.
+fn add_slot<'t, D: Disk + Drop, P: Policy>(
+    slots: &mut Vec<Slot<'t, D, P>>,
+) -> Result<(), AllocError> {
+    slots.reserve(1)?;
+    slots.push_reserved(Mutex::new(None));
+    Ok(())
+}
+
+/// Takes the clients of all lanes back, the last lane's first.
 fn retire_all<'t, T: Wait, D: Disk + Drop, P: Policy>(
     waits: &T,
     target: &'t Target<P>,
     slots: Vec<Slot<'t, D, P>>,
 ) {
-    for slot in slots {
-        if let Some(client) = slot.into_inner() {
-            drop(target.retire(waits, client));
-        }
+    let mut slots = slots;
+    while let Some(slot) = slots.pop() {
+        retire_one(waits, target, slot.into_inner());
     }
+    slots.destroy_empty();
 }
 
-/// Lets the clients of all lanes go, whose accesses are not settled then.
-fn let_go<'t, D: Disk + Drop, P: Policy>(slots: Vec<Slot<'t, D, P>>) {
-    drop(slots);
+/// Takes the client of a lane back, if there is one.
+fn retire_one<'t, T: Wait, D: Disk + Drop, P: Policy>(
+    waits: &T,
+    target: &'t Target<P>,
+    client: Option<Client<'t, D, P>>,
+) {
+    if let Some(client) = client {
+        drop(target.retire(waits, client));
+    }
 }
 
 /// Starts the thread of a lane: whether it could be made.

@@ -8,8 +8,8 @@ use crate::seat::Seat;
 use std::alloc::Global;
 use wb_types::Refusal;
 
-/// The seats of a target that no client has, and the one by which the target itself looks at the words. A seat ends only with all of them,
-/// and they are made only of a seat that has the whole of its words: of one that a client had none can be made.
+/// The seats of a target that no client has, and the one by which the target itself looks at the words. They end together. They are made
+/// only of a seat that is known to have the whole of its words, which of a client's seat is not known.
 pub struct Seats {
     spare: Vec<Seat>,
     pub watch: Seat,
@@ -75,7 +75,7 @@ impl Seats {
         self.spare.pop()
     }
 
-    /// A seat that a client gave back. There is room for each that was taken; a lock round the seats cannot say so.
+    /// Puts a seat back that was taken. One for which there is no room ends: there is room for each that was taken, but no lock can say so.
     pub fn give_back(&mut self, seat: Seat)
         ensures back { length self.old.spare.items < vec_capacity self.old.spare → self.new.spare.items ≡ self.old.spare.items ++ seat ∷ [] }
         ensures watch { self.new.watch ≡ self.old.watch }
