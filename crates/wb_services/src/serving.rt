@@ -84,7 +84,11 @@ fn serve_by<T: Wait, D: Disk + Drop, P: Policy, S: Service + Drop>(
     service: S,
 ) -> Result<S::Told, Refusal> {
     match target.client(waits, devices) {
-        Ok(mut client) => Ok(service.serve(waits, &mut client)),
+        Ok(mut client) => {
+            let told = service.serve(waits, &mut client);
+            drop(target.retire(waits, client));
+            Ok(told)
+        }
         Err((_, refusal)) => Err(refusal),
     }
 }
