@@ -31,7 +31,7 @@ use crate::asked::{Asked, Direction, Requests, read_asked};
 use crate::cached::{Took, time_cached};
 use crate::images::{Read, read_image};
 use crate::mapping::{read_mapping, write_mapping};
-use crate::requests::{drive_all, port_over};
+use crate::requests::{drive_all, end, port_over};
 use crate::settles::{settle_all, tick_all};
 use std::env;
 use std::process::ExitCode;
@@ -168,11 +168,13 @@ fn tell_images(rt: &HostRuntime, file: &mut FileDisk) -> ExitCode {
 
 /// Drives requests over their file, and prints how many were done.
 fn serve(rt: &HostRuntime, requests: &Requests<'_>) -> ExitCode {
-    let mut port = match port_over(rt, requests) {
-        Ok(port) => port,
+    let (seats, mut port) = match port_over(rt, requests) {
+        Ok(both) => both,
         Err(why) => return failed(rt, why),
     };
-    match drive_all(rt.alloc(), requests, &mut port) {
+    let driven = drive_all(rt.alloc(), requests, &mut port);
+    end(seats, port);
+    match driven {
         Some(done) => print(rt, done),
         None => failed(rt, "a request failed"),
     }

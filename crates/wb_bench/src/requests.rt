@@ -8,7 +8,7 @@ use std::fs::File;
 use std::rt::Files;
 use wb_devices::Devices;
 use wb_disk::{Disk, FileDisk};
-use wb_port::{Port, Seat, UNSETTLED};
+use wb_port::{Port, Seat, Seats, UNSETTLED};
 use wb_types::{Geometry, Mode, SECTOR_BYTES, Sector};
 
 /// A block has a multiple of so many sectors.
@@ -17,11 +17,11 @@ const BLOCK_UNIT: u64 = 64;
 /// The most blocks that a run goes over.
 const MOST_BLOCKS: u64 = 1_048_576;
 
-/// A port over the file, for blocks that hold a request each; the other two devices are the same file, and are left alone.
+/// A port over the file, and the seats that its own was taken from, for blocks that hold a request each; the other two devices are the same file, and are left alone.
 pub fn port_over<R: Files<File = File> + AllocGlobal>(
     rt: &R,
     asked: &Requests<'_>,
-) -> Result<Port<FileDisk>, &'static str>
+) -> Result<(Seats, Port<FileDisk>), &'static str>
     requires { asked.now.sectors ≤ 2048 }
 {
     let alloc = rt.alloc();
@@ -39,9 +39,18 @@ pub fn port_over<R: Files<File = File> + AllocGlobal>(
     let Ok(seat) = Seat::new(alloc, geometry) else {
         return Err("out of memory");
     };
+    let Ok(mut seats) = Seats::new(alloc, seat, 1) else {
+        return Err("out of memory");
+    };
+    let Some(seat) = seats.take() else {
+        return Err("no seat is left");
+    };
     match Port::new(alloc, seat, Mode::Writeback, devices) {
-        Ok(port) => Ok(port),
-        Err(_) => Err("out of memory"),
+        Ok(port) => Ok((seats, port)),
+        Err((seat, _)) => {
+            seats.give_back(seat);
+            Err("out of memory")
+        }
     }
 }
 
@@ -57,6 +66,13 @@ fn block_size(sectors: u64) -> u64
     ensures few { result ≤ 2048 }
 {
     sectors.max(1).div_ceil(BLOCK_UNIT) * BLOCK_UNIT
+}
+
+/// Ends a port, and all seats with its own.
+pub fn end(seats: Seats, port: Port<FileDisk>) {
+    let mut seats = seats;
+    let (seat, _) = port.leave();
+    seats.give_back(seat);
 }
 
 /// Drives all requests, one block after the other; None where one is not answered done.
