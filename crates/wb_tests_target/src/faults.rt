@@ -64,7 +64,11 @@ fn is_ordered_again(
 
 fn ordered_again_over(rt: &impl Wait, target: &Target<TinyLfu>, devices: Failing) -> Option<bool> {
     match target.client(rt, devices) {
-        Ok(mut client) => is_ordered_again(rt, &mut client),
+        Ok(mut client) => {
+            let again = is_ordered_again(rt, &mut client);
+            target.retire(rt, client);
+            again
+        }
         Err(_) => None,
     }
 }

@@ -84,7 +84,9 @@ fn all_shown(rt: &impl Wait, alloc: Global, devices: Memory) -> Result<bool, Ref
 
 fn shown_by(rt: &impl Wait, target: &Target<TinyLfu>, devices: Memory) -> Result<bool, Refusal> {
     let mut client = client(rt, target, devices)?;
-    shows_all(rt, &mut client)
+    let shown = shows_all(rt, &mut client);
+    target.retire(rt, client);
+    shown
 }
 
 fn shows_all(rt: &impl Wait, client: &mut Lent<'_>) -> Result<bool, Refusal> {

@@ -1,4 +1,4 @@
-//! What is asked of a target over formatted devices in memory, and of a client of it, which are then let go.
+//! What is asked of a target over formatted devices in memory, and of a client of it, which then goes.
 
 use crate::caching::{caches, caches_and_flushes};
 use crate::fixture::{Lent, Memory, client_of, formatted, open, worked};
@@ -53,8 +53,8 @@ pub fn answered_of(
     devices: Memory,
     question: Question,
 ) -> Result<bool, Refusal> {
-    let mut client = client_of(rt, target, devices)?;
-    Ok(answer(rt, target, &mut client, question))
+    let (_, answer) = done_by(rt, target, devices, question)?;
+    Ok(answer)
 }
 
 /// The same, and the devices once the client has gone.

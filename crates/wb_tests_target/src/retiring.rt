@@ -61,7 +61,10 @@ fn told(
     let (_, target) = open(alloc, formatted(alloc)?)?;
     let devices = zeros(alloc, metadata, cache, origin)?;
     let refused = match target.client(rt, devices) {
-        Ok(_) => None,
+        Ok(client) => {
+            target.retire(rt, client);
+            None
+        }
         Err((_, refusal)) => Some(refusal),
     };
     Ok(refused)

@@ -167,7 +167,9 @@ where
 /// Whether each sector is shown as it was written last.
 fn shows_last(rt: &impl Wait, target: &Target<TinyLfu>, images: Images) -> Result<bool, Refusal> {
     let mut client = client_over(rt, target, images)?;
-    Ok((0..FLUSHERS).all(|flusher| shows(rt, &mut client, own_sector(flusher), TURNS - 1)))
+    let shown = (0..FLUSHERS).all(|flusher| shows(rt, &mut client, own_sector(flusher), TURNS - 1));
+    target.retire(rt, client);
+    Ok(shown)
 }
 
 const SHARED: Names = ["shared_m.img", "shared_c.img", "shared_o.img"];

@@ -37,9 +37,10 @@ fn a_suspended_cache_is_opened_as_it_was(rt: HostRuntime) -> Result<(), Fail> {
 /// Whether a suspend is refused as busy while a client is out.
 fn waits_for_clients(rt: &impl Wait, alloc: Global) -> Result<bool, Refusal> {
     let (devices, target) = open(alloc, formatted(alloc)?)?;
+    let others = formatted(alloc)?;
     let client = client_of(rt, &target, devices)?;
-    let (_, answer) = target.suspend(rt, formatted(alloc)?);
-    drop(client);
+    let (_, answer) = target.suspend(rt, others);
+    target.retire(rt, client);
     Ok(answer == Err(Refusal::Busy))
 }
 

@@ -153,11 +153,11 @@ fn back_from<R: Threads + Wait + Sync>(
 /// Whether a client over them reads what was written.
 fn shows_both(rt: &impl Wait, target: &Target<TinyLfu>, images: Images) -> Result<bool, Refusal> {
     let mut client = client_over(rt, target, images)?;
-    Ok(
-        WRITES
-            .iter()
-            .all(|written| shows(rt, &mut client, written.0, written.1)),
-    )
+    let shown = WRITES
+        .iter()
+        .all(|written| shows(rt, &mut client, written.0, written.1));
+    target.retire(rt, client);
+    Ok(shown)
 }
 
 #[test]

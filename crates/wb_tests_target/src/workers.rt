@@ -214,7 +214,9 @@ fn both<'a>(
 /// Whether a client shows block 3 as it was written.
 fn shows_third(rt: &impl Wait, target: &Target<TinyLfu>, images: Images) -> Result<bool, Refusal> {
     let mut client = client_over(rt, target, images)?;
-    Ok(shows(rt, &mut client, 192, 0x44))
+    let shown = shows(rt, &mut client, 192, 0x44);
+    target.retire(rt, client);
+    Ok(shown)
 }
 
 /// The status line after that.
