@@ -21,12 +21,13 @@ fi
 work=$(mktemp -d)
 trap 'rm -rf "$work"' EXIT
 release=$work/raistobe
-mkdir -p "$release/bin" "$release/share/man/man1" "$release/share/doc/raistobe/systemd"
+mkdir -p "$release/bin" "$release/share/man/man1" "$release/share/doc/raistobe/docs/systemd"
 # shellcheck disable=SC2086 # several words
 install -m 755 $programs "$release/bin/"
 install -m 644 "$top"/docs/man/*.1 "$release/share/man/man1/"
-install -m 644 "$top/README.md" "$top"/docs/*.md "$release/share/doc/raistobe/"
-install -m 644 "$top"/docs/systemd/* "$release/share/doc/raistobe/systemd/"
+install -m 644 "$top/README.md" "$top/CHANGELOG.md" "$release/share/doc/raistobe/"
+install -m 644 "$top"/docs/*.md "$top"/docs/*.svg "$release/share/doc/raistobe/docs/"
+install -m 644 "$top"/docs/systemd/* "$release/share/doc/raistobe/docs/systemd/"
 cd "$release"
 find . -type f ! -name SHA256SUMS | sort | sed 's/^\.\///' | xargs sha256sum >SHA256SUMS
 # Whatever the machine and the day: the same files make the same tar.
