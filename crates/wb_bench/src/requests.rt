@@ -17,7 +17,8 @@ const BLOCK_UNIT: u64 = 64;
 /// The most blocks that a run goes over.
 const MOST_BLOCKS: u64 = 1_048_576;
 
-/// A port over the file, and the seats that its own was taken from, for blocks that hold a request each; the other two devices are the same file, and are left alone.
+/// A port over the file, for blocks that hold a request each, and the seats that its own was taken from. The other two devices are
+/// the same file, and are left alone.
 pub fn port_over<R: Files<File = File> + AllocGlobal>(
     rt: &R,
     asked: &Requests<'_>,
