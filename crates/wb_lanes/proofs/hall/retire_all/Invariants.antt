@@ -1,4 +1,4 @@
-use Rattle.std.proofs.Common.{ℕ, length}
+use Rattle.std.proofs.Common.{length}
 use Rattle.wb_lanes.proofs.hall.retire_all.Given as goal
 
 abbrev pub invariant-loop-slot : goal.invariant-loop-slot
