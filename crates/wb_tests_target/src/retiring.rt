@@ -60,14 +60,18 @@ fn told(
 ) -> Result<Option<Refusal>, Refusal> {
     let (_, target) = open(alloc, formatted(alloc)?)?;
     let devices = zeros(alloc, metadata, cache, origin)?;
-    let refused = match target.client(rt, devices) {
+    Ok(refused(rt, &target, devices))
+}
+
+/// Why a client with these devices is refused, if it is.
+fn refused(rt: &impl Wait, target: &Target<TinyLfu>, devices: Memory) -> Option<Refusal> {
+    match target.client(rt, devices) {
         Ok(client) => {
-            target.retire(rt, client);
+            drop(target.retire(rt, client));
             None
         }
         Err((_, refusal)) => Some(refusal),
-    };
-    Ok(refused)
+    }
 }
 
 #[test]
