@@ -4,8 +4,8 @@
     python3 bench/hits.py WBCACHE WBNBD TRACES [READS]      40,000 reads by default; prints the data file
 
 TRACES is a program that prints a trace: `TRACES zipf|scan_zipf|loop|shift BLOCKS READS SEED`, a block number a line. Each trace is read over 2,048 blocks of
-32 KiB in three ways: by a script of wbcache that carries out each order at once, which is the policy's own ratio; from wbnbd at full speed, one read
-at a time, while its worker carries out orders; and by plain LRU, counted here.
+32 KiB in three ways: by a script of wbcache that carries out each order at once, which is the policy's own ratio; from wbnbd, one read at a
+time as fast as this script asks, while its worker carries out orders; and by plain LRU, counted here.
 """
 import collections
 import os

@@ -97,7 +97,7 @@ def drawn(path, panels, legend, notes):
     for name, colour in zip(legend, COLOURS):
         parts.append(f'<rect x="{x}" y="{foot - 9}" width="14" height="10" fill="{colour}"/><text x="{x + 19}" y="{foot}">{name}</text>')
         x += 40 + 6.2 * len(name)
-    notes = [line for note in notes for line in textwrap.wrap(note, wide // 6)]
+    notes = [line for note in notes for line in textwrap.wrap(note, int(wide / 6.8))]
     for i, note in enumerate(notes):
         parts.append(f'<text x="{EDGE}" y="{foot + 22 + 14 * i}" fill="#555" font-size="10">{note}</text>')
     high = foot + 22 + 14 * len(notes)
@@ -116,7 +116,7 @@ def hits(out):
         for kind, colour in zip(("policy", "served", "lru"), COLOURS):
             panel.line([number(row[kind]) for row in mine], colour)
         panels.append(panel)
-    drawn(f"{out}/hits.svg", panels, ["TinyLFU, each order at once", "served at full speed", "LRU"], notes)
+    drawn(f"{out}/hits.svg", panels, ["TinyLFU, each order at once", "served by wbnbd, one read at a time", "LRU"], notes)
 
 
 def requests(out):
@@ -152,7 +152,7 @@ def far(out):
     """Requests a second of a far origin, alone and cached."""
     rows, notes = data("far")
     values = [number(row["reads_per_second"]) for row in rows]
-    most = 10.0 ** math.ceil(math.log10(max(values)))
+    most = 10.0 ** math.ceil(math.log10(max(values) * 1.3))
     panel = Panel(0, "an origin that takes 5 ms a call", [row["how"] for row in rows], most, "reads of 4 KiB, one at a time", "reads a second", 10.0, cells=True)
     panel.bars([values], COLOURS)
     drawn(f"{out}/far.svg", [panel], [], notes)
