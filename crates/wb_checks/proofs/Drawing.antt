@@ -1,5 +1,5 @@
 -- What holds of the blocks that are drawn.
-use Rattle.std.proofs.Common.{◌≡◌, ◌⊎◌, ◌∙◌, ap, inl, inr, sym, subst, true, List, [], ◌∷◌, ◌++◌, Bool, Option, Some, None, Result, Ok, Err, ℕ}
+use Rattle.std.proofs.Common.{◌≡◌, ◌⊎◌, ◌∙◌, ap, inl, inr, sym, subst, true, List, [], ◌∷◌, ◌++◌, Bool, Option, Some, None, Result, Ok, Err}
 use Rattle.std.specs.Prelude.{All, IfOk, IfSome, IsSomeAnd, slice_index_or, slice_set}
 use Rattle.std.proofs.lemmas.List.Elements.{All-nil, All-push, All-same, All-set, All-weaker}
 use Rattle.wb_types.specs.declared.entry.Entry.{Entry}

@@ -1,7 +1,7 @@
 -- What a migration threshold stops.
 use Rattle.std.specs.Prelude.{◌*◌, ℕ, Option, Some, None, nat_lt, if◌then◌else◌}
 use Rattle.wb_types.specs.declared.mode.Mode.{Mode}
-use Rattle.wb_types.specs.declared.mode.Mode.TheVariants.{Writeback, Writethrough, Passthrough}
+use Rattle.wb_types.specs.declared.mode.Mode.TheVariants.{Passthrough}
 use Rattle.wb_table.specs.declared.policy.PolicyName.{PolicyName}
 use Rattle.wb_table.specs.declared.policy.PolicyName.TheVariants.{TinyLfu, Cleaner}
 use Rattle.wb_checks.specs.declared.threshold.Stopped.{Stopped}

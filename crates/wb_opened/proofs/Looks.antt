@@ -1,5 +1,5 @@
 -- Looks at devices, one after the other.
-use Rattle.std.proofs.Common.{◌≡◌, ◌∙◌, ◌⊎◌, inl, inr, ℕ, List, Result, Ok, Err}
+use Rattle.std.proofs.Common.{◌∙◌, ◌⊎◌, inl, inr, ℕ, List, Result, Ok, Err}
 use Rattle.std.specs.Prelude.{IfErr, IfOk}
 use Rattle.wb_disk.specs.Device.{History}
 use Rattle.wb_devices.specs.declared.devices.Devices.{Devices}

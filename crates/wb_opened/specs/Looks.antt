@@ -1,5 +1,5 @@
 -- What a look at three devices leaves.
-use Rattle.std.specs.Prelude.{◌≡◌, ℕ, List}
+use Rattle.std.specs.Prelude.{ℕ, List}
 use Rattle.wb_disk.specs.Device.{History}
 use Rattle.wb_devices.specs.declared.devices.Devices.{Devices}
 use Rattle.wb_checks.specs.Samples.{AreAsBefore, HaveSizes}

@@ -1,5 +1,5 @@
 -- What a formatting may write over.
-use Rattle.std.specs.Prelude.{◌⊎◌, ◌&&◌, ◌||◌, Bool, true, false, not, nat_lt, List, if◌then◌else◌}
+use Rattle.std.specs.Prelude.{◌⊎◌, ◌&&◌, ◌||◌, Bool, true, false, nat_lt, List, if◌then◌else◌}
 use Rattle.wb_disk.specs.Device.{Content}
 use Rattle.wb_checks.specs.declared.front.Front.TheVariants.{Blank, Formatted, SomethingElse as NoCache}
 use Rattle.wb_checks.specs.Fronts.{IsFront}

@@ -1,5 +1,5 @@
 -- What the program lets a formatting write over.
-use Rattle.std.specs.Prelude.{◌≡◌, ◌≢◌, Bool}
+use Rattle.std.specs.Prelude.{◌≢◌, Bool}
 use Rattle.wb_script.specs.declared.given_up.Overwritten.{Overwritten}
 use Rattle.wb_script.specs.declared.given_up.Wishes.{Wishes}
 use Rattle.wb_script.specs.declared.given_up.Course.TheVariants.{Refuses}

@@ -1,9 +1,7 @@
 -- When a block of the cache is the same as its block of the origin.
 use Rattle.std.specs.Prelude.{◌≡◌, ◌<◌, ℕ, Bool, false, List, Option, Some, None, length, slice_index_or}
 use Rattle.wb_types.specs.declared.entry.Entry.{Entry}
-use Rattle.wb_types.specs.declared.number.CBlock.{CBlock}
 use Rattle.wb_disk.specs.Device.{History}
-use Rattle.wb_checks.specs.declared.drawn.CleanBlock.{CleanBlock}
 use Rattle.wb_checks.specs.Samples.{IsSameOnBoth}
 use Rattle.wbmeta.specs.Counted.{counts_as_dirty}
 

@@ -1,5 +1,5 @@
-use Rattle.std.proofs.Common.{◌≡◌, ◌∙◌, map, ap, arith, sym, subst, List, ℕ}
-use Rattle.std.specs.Prelude.{All, IfSome}
+use Rattle.std.proofs.Common.{◌∙◌, map, arith, subst, List, ℕ}
+use Rattle.std.specs.Prelude.{IfSome}
 use Rattle.wb_types.specs.Limits.{depth_of}
 use Rattle.wb_types.specs.declared.entry.Entry.{Entry}
 use Rattle.wb_disk.specs.Device.{newest, History}

@@ -1,4 +1,4 @@
-use Rattle.std.proofs.Common.{◌≡◌, ◌≤◌, arith}
+use Rattle.std.proofs.Common.{arith}
 use Rattle.wb_devices.specs.Clean.{entries_of}
 use Rattle.wb_checks.proofs.Drawing.{still_read}
 use Rattle.wb_checks.proofs.whole.draw_from_state.Goals as goal

@@ -1,4 +1,4 @@
-use Rattle.std.proofs.Common.{◌≡◌, ◌⊎◌, ℕ, List}
+use Rattle.std.proofs.Common.{ℕ, List}
 use Rattle.wb_types.specs.declared.message.Key.{Key}
 use Rattle.wb_types.specs.declared.refusal.Refusal.{Refusal}
 use Rattle.wb_devices.specs.declared.devices.Devices.{Devices}

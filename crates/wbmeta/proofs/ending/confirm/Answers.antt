@@ -1,4 +1,4 @@
-use Rattle.std.proofs.Common.{◌≡◌, map}
+use Rattle.std.proofs.Common.{map}
 use Rattle.wb_disk.specs.Device.{newest}
 use Rattle.wbmeta.proofs.Leaving.{left_as}
 use Rattle.wbmeta.proofs.ending.confirm.Goals as goal

@@ -1,4 +1,4 @@
-use Rattle.std.proofs.Common.{◌≡◌, List, map, refl, rules, subst, sym}
+use Rattle.std.proofs.Common.{List, map, refl, rules, subst, sym}
 use Rattle.wb_disk.specs.Device.{History, newest}
 use Rattle.wb_meta.specs.States.{RepresentsState}
 use Rattle.wb_meta.specs.Sizes.{AreSameSizes}

@@ -1,4 +1,4 @@
-use Rattle.std.proofs.Common.{◌≡◌, ◌<◌, ℕ, None, length, slice_index_or, vec_len}
+use Rattle.std.proofs.Common.{◌≡◌, ◌<◌, ℕ, None, slice_index_or, vec_len}
 use Rattle.wb_checks.specs.Samples.{AreAsBefore}
 use Rattle.wbmeta.specs.Comparing.{IsHome}
 use Rattle.wbmeta.proofs.verifying.verify.Given as goal
