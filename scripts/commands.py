@@ -62,10 +62,12 @@ def missing(*tools):
 
 
 def on_terminal(folder, program, call):
-    """What a command prints on a terminal, the words behind each return to the begin of a line on lines of their own."""
+    """What a command prints on a terminal, the words behind each return to the begin of a line on lines of their own, without what is said of the mapping,
+    which may come between."""
     words = ["python3", "-c", "import os, pty, sys; sys.exit(os.waitstatus_to_exitcode(pty.spawn(sys.argv[1:])))"]
     done = subprocess.run([*words, f"{folder}/bin/{program}", call, "--wait", "20", TABLE], cwd=f"{folder}/images", stdin=subprocess.DEVNULL, capture_output=True, text=True, timeout=60)
-    return [line for line in done.stdout.replace("\r", "\n").split("\n") if line]
+    text = re.sub(r"wbmeta: the mapping is kept: .* TABLE\r?\n", "", done.stdout)
+    return [line for line in text.replace("\r", "\n").split("\n") if line]
 
 
 def blocks(text):

@@ -159,7 +159,9 @@ def each_request_refused_server():
             return tried
         tried += 1
         need(set(errors) <= {12, "gone"} and errors[12] <= 1, f"request {number}: errors {dict(errors)}, {said}")
-        need(status in (0, 1, 4) and not (status == 0 and errors["gone"]), f"request {number}: status {status}, {said}")
+        # The flush at the end may be what is refused.
+        is_lost = status == 3 and "the last flush was refused" in said
+        need((status in (0, 1, 4) or is_lost) and not (status == 0 and errors["gone"]), f"request {number}: status {status}, {said}")
     raise Wrong("it makes no end of requests")
 
 
