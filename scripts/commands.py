@@ -129,7 +129,9 @@ def helps(folder, cache, server, meta):
     check("a listing", shell(f"wbmeta dump '{TABLE}'", folder), ("0 1 dirty 0\n", 0))
     check("a listing on a terminal", on_terminal(folder, "wbmeta", "dump"), ["0 1 dirty 0", "hint 0 1", "ok 5 unclean 1 1"])
     said = on_terminal(folder, "wbmeta", "writeback")
-    check("writing back on a terminal", ("[" + 40 * "#" + "] 1 of 1 blocks" in said, "ok 1" in said), (True, True))
+    # The bar goes to standard error, and its end may come behind the answer.
+    lacks = [part for part in ("[" + 40 * "#" + "] 1 of 1 blocks", "ok 1") if part not in "".join(said)]
+    check("writing back on a terminal", lacks and said, [])
     fuse, activate, copy = examples(server)
     lacks = missing("nbdfuse", "fusermount3", "nbdcopy", "systemd-socket-activate")
     if lacks:
