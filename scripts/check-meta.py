@@ -146,7 +146,8 @@ def beside_a_holder():
 def beside_a_server():
     """Looks while a program commits: each is answered."""
     make()
-    lines = "".join(f"w {64 * (n % 10)} 1 {n % 256:02x}\nr {64 * (n % 10)} 1\nwork\nflush\n" for n in range(20_000))
+    # A commit each millisecond or so: where they come as fast as the files take them, each look may be torn.
+    lines = "".join(f"w {64 * (n % 10)} 1 {n % 256:02x}\nr {64 * (n % 10)} 1\nwork\n" + ("flush\n" if n % 200 == 0 else "") for n in range(60_000))
     with subprocess.Popen([PROGRAMS.cache, "run", TABLE], stdin=subprocess.PIPE, stdout=subprocess.DEVNULL, stderr=subprocess.DEVNULL, text=True) as runs:
         writer = concurrent.futures.ThreadPoolExecutor(1)
         sent = writer.submit(lambda: (runs.stdin.write(lines), runs.stdin.close()))
